@@ -1,0 +1,32 @@
+-- Cases on the order of numbers, and strong induction. Assumes nothing.
+use mathlib.Core.Path.{_≡_}
+use mathlib.Core.Logic.{_⊎_, inl, inr, ⊎-elim}
+use Prim.Native.Nat.{ℕ, zero, suc, _≤_, _<_, zero-le, suc-le-suc}
+use native.Mathlib.Nat.{le-of-suc-le-suc, not-suc-le-zero, eq-or-lt-of-le}
+use native.Mathlib.Omega.{arith}
+
+-- a number below n + 1 is n or below n
+pub below-cases : {i n : ℕ} → i < suc n → (i ≡ n) ⊎ (i < n)
+below-cases h = eq-or-lt-of-le (le-of-suc-le-suc h)
+
+pub le-or-lt : (a b : ℕ) → (a ≤ b) ⊎ (b < a)
+le-or-lt zero b = inl zero-le
+le-or-lt (suc a) zero = inr (suc-le-suc zero-le)
+le-or-lt (suc a) (suc b) = ⊎-elim (λ p. inl (suc-le-suc p)) (λ q. inr (suc-le-suc q)) (le-or-lt a b)
+
+-- two numbers are in order, equal, or in the other order
+pub data Compared (a b : ℕ) : Type 0 where
+  less : a < b → Compared a b
+  same : a ≡ b → Compared a b
+  more : b < a → Compared a b
+
+pub compared : (a b : ℕ) → Compared a b
+compared a b = ⊎-elim (λ h. ⊎-elim (λ e. same e) (λ l. less l) (eq-or-lt-of-le h)) (λ l. more l) (le-or-lt a b)
+
+-- what holds of n whenever it holds of all smaller numbers holds of every n
+pub strong {ℓ} : (P : ℕ → Type ℓ) → ((n : ℕ) → ((m : ℕ) → m < n → P m) → P n) → (n : ℕ) → P n
+strong P step n = step n (below n)
+  where
+    below : (k m : ℕ) → m < k → P m
+    below zero m h = absurd (not-suc-le-zero h)
+    below (suc k) m h = step m (λ j l. below k j (omega arith))

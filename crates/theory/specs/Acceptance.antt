@@ -1,0 +1,35 @@
+-- Which lassos a rule accepts, and when it is strong. Document 01, "What a rule means". Assumes nothing.
+use Prim.Native.Nat.{ℕ}
+use mathlib.Core.Path.{_≡_}
+use mathlib.Core.Logic.{_↔_}
+use mathlib.Core.List.{List}
+use lib.Dec.{T}
+use Rattle.theory.specs.Words.{Over, Lasso, endless}
+use Rattle.theory.specs.Rules.{Morphism, Pairs, Rule, Value, element, value, marked}
+
+-- "A rule accepts it if the same endless word can also be written as p followed by w for ever, p and w non-empty, with
+-- (value of p, value of w) marked." A word whose value is an element is not empty.
+pub record Accepts (m : Morphism) (P : Pairs) (u v : List ℕ) : Type 0 where
+  pub start : List ℕ
+  pub cycle : List ℕ
+  pub start-over : Over (m .letters) start
+  pub cycle-over : Over (m .letters) cycle
+  pub same : (i : ℕ) → endless start cycle i ≡ endless u v i
+  pub start-element : ℕ
+  pub cycle-element : ℕ
+  pub start-value : value m start ≡ element start-element
+  pub cycle-value : value m cycle ≡ element cycle-element
+  pub is-marked : T (P start-element cycle-element)
+
+-- "The rule is strong if any two lassos whose starts have equal values and whose cycles have equal values are both
+-- accepted or both not." Lassos of every length count.
+pub record Strong (m : Morphism) (P : Pairs) : Type 0 where
+  pub both-or-neither : (u v u′ v′ : List ℕ) → Lasso (m .letters) u v → Lasso (m .letters) u′ v′
+    → value m u ≡ value m u′ → value m v ≡ value m v′ → Accepts m P u v ↔ Accepts m P u′ v′
+
+-- the lassos that a rule accepts are those of its marked pairs
+abbrev pub RuleAccepts : Rule → List ℕ → List ℕ → Type 0
+RuleAccepts r u v = Accepts (r .morphism) (marked (r .marks)) u v
+
+abbrev pub RuleStrong : Rule → Type 0
+RuleStrong r = Strong (r .morphism) (marked (r .marks))

@@ -1,0 +1,19 @@
+-- Two markings of one table compared. Document 01, "Inclusion". Assumes nothing.
+use Prim.Native.Nat.{ℕ, _+_, _*_, _-_, _≤_, _<_}
+use mathlib.Core.List.{List}
+use lib.ListN.{length}
+use Rattle.theory.specs.Words.{Lasso}
+use Rattle.theory.specs.Rules.{Morphism, Pairs}
+use Rattle.theory.specs.Acceptance.{Accepts}
+
+-- "each lasso accepted under the first marking is accepted under the second"
+pub record Included (m : Morphism) (P P′ : Pairs) : Type 0 where
+  pub accepted-too : (u v : List ℕ) → Lasso (m .letters) u v → Accepts m P u v → Accepts m P′ u v
+
+-- "u of at most n letters and v of at most (n+1)·(n+1) − 1 letters, accepted under the first and not under the second"
+pub record Witness (m : Morphism) (P P′ : Pairs) (u v : List ℕ) : Type 0 where
+  pub lasso : Lasso (m .letters) u v
+  pub start-short : length u ≤ m .size
+  pub cycle-short : length v ≤ (m .size + 1) * (m .size + 1) - 1
+  pub accepted-first : Accepts m P u v
+  pub refused-second : Accepts m P′ u v → ⊥

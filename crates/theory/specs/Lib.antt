@@ -1,0 +1,6 @@
+pub mod Words
+pub mod Rules
+pub mod Acceptance
+pub mod Pairs
+pub mod Smallest
+pub mod Inclusion

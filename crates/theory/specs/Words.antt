@@ -1,0 +1,24 @@
+-- Words over the letters 0, 1, .., and the endless words that lassos write. A word is a list of letters.
+-- Document 01, "What a rule means". Assumes nothing.
+use Prim.Native.Nat.{ℕ, _-_, _%_, _<_}
+use mathlib.Core.Bool.{cond}
+use mathlib.Core.List.{List, [], _∷_}
+use lib.ListN.{length, getD}
+use lib.Dec.{ltb}
+
+-- every letter of the word is one of the k letters ("a letter of k or more" is a foreign one)
+pub data Over (k : ℕ) : List ℕ → Type 0 where
+  over-nil : Over k []
+  over-cons : {a : ℕ} {w : List ℕ} → a < k → Over k w → Over k (a ∷ w)
+
+-- "A lasso is u followed by v for ever, neither empty", here over k letters and of any length
+pub record Lasso (k : ℕ) (u v : List ℕ) : Type 0 where
+  pub start-over : Over k u
+  pub cycle-over : Over k v
+  pub start-some : 0 < length u
+  pub cycle-some : 0 < length v
+
+-- "u followed by v for ever", position by position: u's letter inside u; past u the place in v is the position
+-- less the length of u, modulo the length of v
+unfoldable pub endless : List ℕ → List ℕ → ℕ → ℕ
+endless u v i = cond (ltb i (length u)) (getD u i 0) (getD v ((i - length u) % length v) 0)
