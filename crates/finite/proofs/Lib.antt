@@ -6,3 +6,6 @@ pub mod Pigeonhole
 pub mod Worklist
 pub mod Shortlex
 pub mod FirstWords
+pub mod Places
+pub mod Explore
+pub mod Explored

@@ -52,8 +52,9 @@ accepts-cut {m} {P} {u} {v} a = record {
     back j = sym (a .same j)
 
 -- and a cut is a writing
-pub cut-accepts : {m : Morphism} {P : Pairs} (u v : List ℕ) → ((j : ℕ) → endless u v j < m .letters) → CutAccepts m P (endless u v) → Accepts m P u v
-cut-accepts {m} u v below c = record {
+pub cut-accepts : {m : Morphism} {P : Pairs} (u v : List ℕ) → 0 < length v → ((j : ℕ) → endless u v j < m .letters) → CutAccepts m P (endless u v) → Accepts m P u v
+cut-accepts {m} u v some below c = record {
+  cycle-some = some;
   start = seg (endless u v) 0 (c .at);
   cycle = seg (endless u v) (c .at) (c .period);
   start-over = seg-over (endless u v) 0 (c .at) below;
@@ -103,11 +104,13 @@ module _ {m : Morphism} (law : Lawful m) where
       past : from < at
       past = omega (arith, le-mul-of-pos-right (suc from) (c .periodic .some))
 
-      pair : Linked m (c .start-element) (c .cycle-element)
-      pair = linked .linked (c .start-element) (c .cycle-element) (c .is-marked)
-
       over : (i n : ℕ) → Over (m .letters) (seg α i n)
       over i n = seg-over α i n below
+
+      pair : Linked m (c .start-element) (c .cycle-element)
+      pair =
+          linked .linked (c .start-element) (c .cycle-element) (inside-of law (over 0 (c .at)) (c .start-value))
+          (inside-of law (over (c .at) (c .period)) (c .cycle-value)) (c .is-marked)
 
       -- moved on by whole periods, the cut still has the value s before it
       start : value m (seg α 0 at) ≡ element (c .start-element)

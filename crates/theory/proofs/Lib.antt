@@ -6,3 +6,5 @@ pub mod Conjugacy
 pub mod Turns
 pub mod Cuts
 pub mod Membership
+pub mod Splits
+pub mod Strength

@@ -22,11 +22,15 @@ use Rattle.theory.proofs.Powers.{times, times-add, times-power, times-i
 use Rattle.theory.proofs.Conjugacy.{semigroup}
 use Rattle.theory.proofs.Cuts.{CutAccepts, TurnAccepts, accepts-cut, cut-accepts, cut-turn, turn-cut, value-then-repeat}
 
--- a pair (p·e·r^j, e) is in P, e the idempotent power of r
+-- the pair (p·e·r^j, e) is in P
+unfoldable pub turn-look : Morphism → Pairs → ℕ → ℕ → ℕ → ℕ → Bool
+turn-look m P p r e j = P (times (m .product) (m .product p e) r j) e
+
+-- one of these pairs is, e the idempotent power of r
 unfoldable pub turn-test : Morphism → Pairs → ℕ → ℕ → Bool
 turn-test m P p r =
     let e = idempotent-of (m .size) (m .product) r in
-    anyBelow (m .size) (λ j. P (times (m .product) (m .product p e) r j) e)
+    anyBelow (m .size) (turn-look m P p r e)
 
 -- the same for the values before a cut and of a turn after it
 unfoldable pub cut-test : Morphism → Pairs → Value → Value → Bool
@@ -34,10 +38,13 @@ cut-test m P none y = false
 cut-test m P (element p) none = false
 cut-test m P (element p) (element r) = turn-test m P p r
 
--- some cut of one turn passes: after u and the first j + 1 letters of v
+-- the cut after u and the first j + 1 letters of v passes
+unfoldable pub cut-look : Morphism → Pairs → List ℕ → List ℕ → ℕ → Bool
+cut-look m P u v j = cut-test m P (value m (u ++ take (suc j) v)) (value m (drop (suc j) v ++ take (suc j) v))
+
+-- some cut of one turn passes
 unfoldable pub accepts-test : Morphism → Pairs → List ℕ → List ℕ → Bool
-accepts-test m P u v =
-    anyBelow (length v) (λ j. cut-test m P (value m (u ++ take (suc j) v)) (value m (drop (suc j) v ++ take (suc j) v)))
+accepts-test m P u v = anyBelow (length v) (cut-look m P u v)
 
 module _ {m : Morphism} (law : Lawful m) where
   module _ {p r : ℕ} (hp : p < m .size) (hr : r < m .size) where
@@ -85,17 +92,17 @@ module _ {m : Morphism} (law : Lawful m) where
 
     -- a linked pair of P after any number of turns is found among the first n
     pub turn-test-intro : {P : Pairs} → LinkedOnly m P → (t : ℕ) → T (P (times (m .product) p r t) e) → T (turn-test m P p r)
-    unfolding turn-test
+    unfolding turn-test turn-look
     turn-test-intro {P} linked t h =
-        any-intro (m .size) (λ j. P (times (m .product) (m .product p e) r j) e) (t % π)
+        any-intro (m .size) (turn-look m P p r e) (t % π)
         (omega (arith, mod-lt t (let z : 0 < π = omega arith in z), settling-below (semigroup law) hr))
-        (subst (λ (x : ℕ). T (P x e)) (sym (linked .linked (times (m .product) p r t) e h .stays) ∙ past t ∙ past-mod t) h)
+        (subst (λ (x : ℕ). T (P x e)) (sym (linked .linked (times (m .product) p r t) e (times-inside (semigroup law) hp hr t) he h .stays) ∙ past t ∙ past-mod t) h)
 
     -- and what is found there stands after some number of turns
     pub turn-test-elim : (P : Pairs) → T (turn-test m P p r) → (t : ℕ) × T (P (times (m .product) p r t) e)
-    unfolding turn-test
+    unfolding turn-test turn-look
     turn-test-elim P h =
-        let f = any-elim (m .size) (λ j. P (times (m .product) (m .product p e) r j) e) h in
+        let f = any-elim (m .size) (turn-look m P p r e) h in
         (π + f .at,
           subst (λ (x : ℕ). T (P x e))
           (ap (λ (x : ℕ). times (m .product) x r (f .at)) p-e ∙ times-add (semigroup law) p r π (f .at))
@@ -118,19 +125,19 @@ module _ {m : Morphism} (law : Lawful m) where
     turn-later t = ap (value m) (seg-periodic-shift turns t q) ∙ turn
 
 -- a position past the start is one of a turn's cuts, some turns later
-pub record Turned (from q at : ℕ) : Type 0 where
+pub record TurnedPosition (from q at : ℕ) : Type 0 where
   pub cut : ℕ
   pub turns : ℕ
   pub short : cut < q
   pub meets : from + suc cut + turns * q ≡ at
 
-pub turned : (from q at : ℕ) → 0 < q → from < at → Turned from q at
-turned from q at h l =
+pub turned-position : (from q at : ℕ) → 0 < q → from < at → TurnedPosition from q at
+turned-position from q at h l =
     let d : (at - suc from) / q * q + (at - suc from) % q ≡ at - suc from = div-add-mod' (at - suc from) q in
     record { cut = (at - suc from) % q; turns = (at - suc from) / q; short = mod-lt (at - suc from) h; meets = omega arith }
 
 -- where both values are elements, the test of a cut is the test of the turn
-cut-test-is : (m : Morphism) (P : Pairs) {x y : Value} {p r : ℕ} → x ≡ element p → y ≡ element r → cut-test m P x y ≡ turn-test m P p r
+pub cut-test-is : (m : Morphism) (P : Pairs) {x y : Value} {p r : ℕ} → x ≡ element p → y ≡ element r → cut-test m P x y ≡ turn-test m P p r
 unfolding cut-test
 cut-test-is m P ex ey = rw (ex, ey)
 
@@ -201,19 +208,19 @@ module _ {m : Morphism} (law : Lawful m) {P : Pairs} (linked : LinkedOnly m P) {
 
   -- an accepted lasso passes the test
   pub accepts-test-intro : Accepts m P u v → T (accepts-test m P u v)
-  unfolding accepts-test
+  unfolding accepts-test cut-look
   accepts-test-intro a =
       let t = cut-turn law linked α-below α-turns (accepts-cut a) in
-      let k = turned (length u) (length v) (t .at) some (t .later) in
-      any-intro (length v) (λ j. cut-test m P (value m (u ++ take (suc j) v)) (value m (drop (suc j) v ++ take (suc j) v))) (k .cut) (k .short)
+      let k = turned-position (length u) (length v) (t .at) some (t .later) in
+      any-intro (length v) (cut-look m P u v) (k .cut) (k .short)
       (cut-found (k .cut) (k .short) t (k .turns) (k .meets))
 
   -- a lasso that passes is accepted
   pub accepts-test-elim : T (accepts-test m P u v) → Accepts m P u v
-  unfolding accepts-test
+  unfolding accepts-test cut-look
   accepts-test-elim h =
-      let f = any-elim (length v) (λ j. cut-test m P (value m (u ++ take (suc j) v)) (value m (drop (suc j) v ++ take (suc j) v))) h in
-      cut-accepts u v α-below (turn-cut law linked α-below α-turns (found-cut (f .at) (f .below) (f .holds)))
+      let f = any-elim (length v) (cut-look m P u v) h in
+      cut-accepts u v some α-below (turn-cut law linked α-below α-turns (found-cut (f .at) (f .below) (f .holds)))
 
   -- acceptance is decided
   pub accepts-dec : Dec (Accepts m P u v)

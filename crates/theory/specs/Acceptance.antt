@@ -1,15 +1,17 @@
 -- Which lassos a rule accepts, and when it is strong. Document 01, "What a rule means". Assumes nothing.
-use Prim.Native.Nat.{ℕ}
+use Prim.Native.Nat.{ℕ, _<_}
 use mathlib.Core.Path.{_≡_}
 use mathlib.Core.Logic.{_↔_}
 use mathlib.Core.List.{List}
+use lib.ListN.{length}
 use lib.Dec.{T}
 use Rattle.theory.specs.Words.{Over, Lasso, endless}
 use Rattle.theory.specs.Rules.{Morphism, Pairs, Rule, Value, element, value, marked}
 
 -- "A rule accepts it if the same endless word can also be written as p followed by w for ever, p and w non-empty, with
--- (value of p, value of w) marked." A word whose value is an element is not empty.
+-- (value of p, value of w) marked." A word whose value is an element is not empty. Nothing is accepted with no cycle.
 pub record Accepts (m : Morphism) (P : Pairs) (u v : List ℕ) : Type 0 where
+  pub cycle-some : 0 < length v
   pub start : List ℕ
   pub cycle : List ℕ
   pub start-over : Over (m .letters) start

@@ -15,9 +15,9 @@ pub record Linked (m : Morphism) (s e : ℕ) : Type 0 where
   pub idempotent : Idempotent m e
   pub stays : m .product s e ≡ s
 
--- every pair of the set is linked (refusal 7 is for "a marked pair [that] isn't linked")
+-- every pair of elements in the set is linked (refusal 7: "a marked pair isn't linked")
 pub record LinkedOnly (m : Morphism) (P : Pairs) : Type 0 where
-  pub linked : (s e : ℕ) → T (P s e) → Linked m s e
+  pub linked : (s e : ℕ) → s < m .size → e < m .size → T (P s e) → Linked m s e
 
 -- "Linked pairs (s, e) and (t, f) are conjugate if elements x, y exist with s·x = t, x·y = e, y·x = f."
 pub record Conjugate (m : Morphism) (s e t f : ℕ) : Type 0 where

@@ -1,5 +1,6 @@
 -- Rules of any finite size: a product table with an element for each letter (a morphism), and marked pairs (a marking).
--- Document 01, "What a rule means" and the paragraph on demand 3: no limit of the file format stands here. Assumes nothing.
+-- Document 01, "What a rule means" and the paragraph on demand 3: no limit of the file format stands here. The definitions
+-- of this crate take a table as it is; what they say is document 01's where the table is lawful. Assumes nothing.
 use Prim.Native.Nat.{ℕ, _<_}
 use mathlib.Core.Path.{_≡_}
 use mathlib.Core.Bool.{Bool}
@@ -7,22 +8,22 @@ use mathlib.Core.List.{List, [], _∷_}
 use lib.Dec.{leb}
 use Rattle.theory.specs.Words.{Over}
 
--- "a finite .. product table, an element for each of the same k letters": elements are the numbers below `size`, letters
--- those below `letters`; what the two functions give at other numbers means nothing
+-- a product table with "an element for each of the same k letters": elements are the numbers below `size`, letters those
+-- below `letters`; what the two functions give at other numbers means nothing
 pub record Morphism : Type 0 where
   pub size : ℕ
   pub letters : ℕ
   pub product : ℕ → ℕ → ℕ
   pub image : ℕ → ℕ
 
--- "a finite associative product table, an element for each .. letter": asked of elements and letters only
+-- "a finite associative product table, an element for each of the same k letters": asked of elements and letters only
 pub record Lawful (m : Morphism) : Type 0 where
   pub closed : (a b : ℕ) → a < m .size → b < m .size → m .product a b < m .size
   pub associative : (a b c : ℕ) → a < m .size → b < m .size → c < m .size
     → m .product (m .product a b) c ≡ m .product a (m .product b c)
   pub images : (a : ℕ) → a < m .letters → m .image a < m .size
 
--- "any marked pairs": a number for each pair, 0 where it is not marked
+-- "any marked pairs": a number for each pair of elements, 0 where it is not marked; at other numbers it means nothing
 abbrev pub Marking : Type 0
 Marking = ℕ → ℕ → ℕ
 
@@ -30,7 +31,7 @@ Marking = ℕ → ℕ → ℕ
 abbrev pub Pairs : Type 0
 Pairs = ℕ → ℕ → Bool
 
--- the pairs that a marking gives g or more
+-- the pairs that a marking gives g or more (document 02, Job 12, turns marks into grades)
 unfoldable pub level : ℕ → Marking → Pairs
 level g marks s e = leb g (marks s e)
 
@@ -39,8 +40,8 @@ unfoldable pub marked : Marking → Pairs
 unfolding level
 marked marks = level 1 marks
 
--- "every rule of any finite size: a finite associative product table, an element for each .. letter[..], and any marked
--- pairs"; rivals are values of this type
+-- "every rule of any finite size: a finite associative product table, an element for each of the same k letters, and any
+-- marked pairs"; rivals are values of this type
 pub record Rule : Type 0 where
   pub morphism : Morphism
   pub lawful : Lawful morphism

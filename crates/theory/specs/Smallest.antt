@@ -1,21 +1,38 @@
--- Demand 3: same lassos, and the smallest rule, measured against every rule of any finite size. Document 01, the paragraph
--- that begins "Demand 3 measures the reduction". Assumes nothing.
+-- Same lassos, the smallest rule, measured against every rule of any finite size (document 01, "Demand 3 measures the
+-- reduction .."), reduction and complement. Assumes nothing.
 use Prim.Native.Nat.{ℕ, _≤_, _<_}
 use mathlib.Core.Path.{_≡_}
 use mathlib.Core.Logic.{_↔_}
 use mathlib.Core.List.{List}
 use Rattle.theory.specs.Words.{Lasso}
-use Rattle.theory.specs.Rules.{Morphism, Rule}
-use Rattle.theory.specs.Acceptance.{RuleAccepts, RuleStrong}
+use lib.Dec.{T}
+use Rattle.theory.specs.Rules.{Morphism, Rule, Pairs, element, value, marked, WordOf}
+use Rattle.theory.specs.Acceptance.{Accepts, RuleAccepts, RuleStrong}
+use Rattle.theory.specs.Pairs.{Linked}
 
 -- "Two rules accept the same lassos if each lasso is accepted by both or by neither." They have the same letters.
 pub record SameLassos (r r′ : Rule) : Type 0 where
   pub same-letters : r .morphism .letters ≡ r′ .morphism .letters
   pub both-or-neither : (u v : List ℕ) → Lasso (r .morphism .letters) u v → RuleAccepts r u v ↔ RuleAccepts r′ u v
 
+-- a linked pair whose lassos, those with its values, are accepted; there is one
+pub record LinkedAccepted (m : Morphism) (P : Pairs) (s e : ℕ) : Type 0 where
+  pub linked : Linked m s e
+  pub start : WordOf m s
+  pub cycle : WordOf m e
+  pub accepted : (u v : List ℕ) → Lasso (m .letters) u v → value m u ≡ element s → value m v ≡ element e → Accepts m P u v
+
+-- a linked pair whose lassos are not accepted; there is one
+pub record LinkedRefused (m : Morphism) (P : Pairs) (s e : ℕ) : Type 0 where
+  pub linked : Linked m s e
+  pub start : WordOf m s
+  pub cycle : WordOf m e
+  pub refused : (u v : List ℕ) → Lasso (m .letters) u v → value m u ≡ element s → value m v ≡ element e → Accepts m P u v → ⊥
+
 -- "one map from the rival's elements, one-to-one and onto ours, takes the product of any two to the product of their
 -- images, and each letter's element to our element of that letter"
 pub record Renumbered (rival ours : Morphism) : Type 0 where
+  pub same-letters : rival .letters ≡ ours .letters
   pub to : ℕ → ℕ
   pub inside : (a : ℕ) → a < rival .size → to a < ours .size
   pub one-to-one : (a b : ℕ) → a < rival .size → b < rival .size → to a ≡ to b → a ≡ b
@@ -24,10 +41,26 @@ pub record Renumbered (rival ours : Morphism) : Type 0 where
     → to (rival .product a b) ≡ ours .product (to a) (to b)
   pub images : (a : ℕ) → a < ours .letters → to (rival .image a) ≡ ours .image a
 
--- "Every other strong rule over the same letters, of any finite size, that accepts exactly these lassos has at least as
--- many elements as ours. A rival with just as many has our table and letter images, elements renumbered."
+-- demand 3: the rule is strong; no strong rule of any finite size with the same lassos has fewer elements, and one with just
+-- as many "has our table and letter images, elements renumbered"
 pub record Smallest (r : Rule) : Type 0 where
+  pub strong : RuleStrong r
   pub at-least : (rival : Rule) → RuleStrong rival → SameLassos r rival
     → r .morphism .size ≤ rival .morphism .size
   pub copy : (rival : Rule) → RuleStrong rival → SameLassos r rival
     → rival .morphism .size ≡ r .morphism .size → Renumbered (rival .morphism) (r .morphism)
+
+-- "It marks every linked pair whose lassos are accepted", and no other pair of elements
+pub record MarksAccepted (m : Morphism) (P : Pairs) : Type 0 where
+  pub marks : (s e : ℕ) → s < m .size → e < m .size → T (P s e) ↔ LinkedAccepted m P s e
+
+-- "Reduction of a strong rule: the smallest one with the same lassos. It marks every linked pair whose lassos are accepted."
+pub record Reduction (r reduced : Rule) : Type 0 where
+  pub same : SameLassos r reduced
+  pub smallest : Smallest reduced
+  pub marks : MarksAccepted (reduced .morphism) (marked (reduced .marks))
+
+-- "Complement of a strong rule: same elements and numbering; it marks every linked pair whose lassos are not accepted", and
+-- no other pair of elements
+pub record Complement (m : Morphism) (P P′ : Pairs) : Type 0 where
+  pub marks : (s e : ℕ) → s < m .size → e < m .size → T (P′ s e) ↔ LinkedRefused m P s e
