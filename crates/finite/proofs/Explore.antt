@@ -1,16 +1,16 @@
 -- A search in breadth that runs: from a list of starts and a list of next states for each letter it computes the states
 -- that are reached, each once, in the order of the parent's place, the letter, and the place in the list of next states.
 -- Here is the search and what it keeps true; Explored reads the results. Assumes nothing.
-use mathlib.Core.Path.{_≡_, refl, sym, ap, subst, subst₂, _∙_}
+use mathlib.Core.Path.{_≡_, refl, sym, subst, subst₂}
 use mathlib.Core.Bool.{Bool, true, false, _||_}
 use mathlib.Core.Logic.{_⊎_, inl, inr, ⊎-elim}
-use mathlib.Core.Option.{Option, none, some}
+use mathlib.Core.Option.{none, some}
 use mathlib.Core.List.{List, [], _∷_, _++_, List·Memᴰ, List·Memᴰ·head, List·Memᴰ·tail, List·Memᴰ·not-nil, List·Memᴰ·cases-cons, Memᴰ·cast}
 use Prim.Native.Nat.{ℕ, zero, suc, _+_, _≤_, _<_}
 use native.Mathlib.Nat.{le-refl}
 use native.Mathlib.Omega.{arith}
 use lib.Dec.{T}
-use lib.ListN.{length, length-append, getElem?}
+use lib.ListN.{length, getElem?}
 use Rattle.finite.proofs.Tests.{T-dec, T-true, T-false, T-or-left, T-or-right, T-or-cases, decide, decide-intro, decide-elim}
 use Rattle.finite.proofs.Numbers.{below-cases}
 use Rattle.finite.proofs.Places.{At, Among, Extends, at-below, at-mem, at-same, at-cast, mem-among, at-last, at-front, at-snoc-cases, extends-refl, extends-more, extends-trans, extends-length, extends-at, extends-front, extends-among, Read, read-none, read-some, read}
@@ -64,7 +64,7 @@ pub record Grown {A : Type 0} (starts : List A) (next : ℕ → A → List A) (k
   pub distinct : (i j : ℕ) (x : A) → i < j → At x l i → At x l j → ⊥
   pub source : (j : ℕ) (y : A) → At y l j → Source starts next k l j y
 
-sooner-le : {p′ b p a : ℕ} → Sooner p′ b p a → p′ ≤ p
+pub sooner-le : {p′ b p a : ℕ} → Sooner p′ b p a → p′ ≤ p
 sooner-le (sooner-parent h) = omega arith
 sooner-le (sooner-letter e h) = omega arith
 

@@ -1,17 +1,16 @@
 -- What the search in breadth of Explore computes: where the reached states have different codes below N and the fuel is at
 -- least N, the states that it lists are a closed worklist, so they are exactly the reached states. Assumes nothing.
-use mathlib.Core.Path.{_≡_, refl, sym, subst, _∙_}
+use mathlib.Core.Path.{sym, subst}
 use mathlib.Core.Bool.{Bool}
 use mathlib.Core.Logic.{_↔_}
 use mathlib.Core.List.{List, [], _∷_, List·Memᴰ, Memᴰ·cast}
-use Prim.Native.Nat.{ℕ, zero, suc, _+_, _≤_, _<_}
-use native.Mathlib.Nat.{le-refl}
+use Prim.Native.Nat.{ℕ, _≤_, _<_}
 use native.Mathlib.Omega.{arith}
 use lib.ListN.{length, getD}
-use Rattle.finite.proofs.Places.{At, Among, Extends, at-below, at-mem, at-cast, at-getD, getD-at, mem-among, extends-length, extends-among}
+use Rattle.finite.proofs.Places.{At, Among, at-below, at-mem, at-cast, at-getD, getD-at, mem-among, extends-length, extends-among}
 use Rattle.finite.proofs.Worklist.{Reachable, Origin, start, parent, Worklist, Entry, Closed, Coding, worklist-le, entry-reached, reached-entry}
-use Rattle.finite.proofs.FirstWords.{Sooner, sooner-parent, sooner-letter}
-use Rattle.finite.proofs.Explore.{Equality, add, walk, explore, Known, known-start, Source, source-start, source-step, Grown, grown-none, Added, added, Walked, walked}
+use Rattle.finite.proofs.FirstWords.{sooner-parent}
+use Rattle.finite.proofs.Explore.{Equality, add, walk, explore, known-start, Source, source-start, source-step, Grown, grown-none, Added, added, Walked, walked}
 
 -- y is next to x by the letter a, one of k letters
 pub record NextIn {A : Type 0} (next : ℕ → A → List A) (k a : ℕ) (x y : A) : Type 0 where
@@ -24,7 +23,7 @@ pub record Explored {A : Type 0} (starts : List A) (next : ℕ → A → List A)
   pub begins : (x : A) → List·Memᴰ x starts → Among x l (length l)
   pub goes-on : (p a : ℕ) (x y : A) → At x l p → a < k → List·Memᴰ y (next a x) → Among y l (length l)
 
-among-entry : {A : Type 0} {l : List A} {x : A} (d : A) → Among x l (length l) → Entry (λ n. getD l n d) (length l) x
+pub among-entry : {A : Type 0} {l : List A} {j : ℕ} {x : A} (d : A) → Among x l j → Entry (λ n. getD l n d) j x
 among-entry d p = record { at = p .at; below = p .below; same = at-getD d (p .stands) }
 
 entry-member : {A : Type 0} (l : List A) {x : A} (d : A) → Entry (λ n. getD l n d) (length l) x → List·Memᴰ x l

@@ -1,15 +1,14 @@
 -- The deterministic search in breadth: where the entries of a list of states are found in the order of (parent, letter),
 -- each entry's word, its parent's word and the letter, is the first in the shortlex order of all words that lead to the
 -- entry, and the entries stand in the order of their words. Assumes nothing.
-use mathlib.Core.Path.{_≡_, refl, sym, ap, subst, _∙_}
-use mathlib.Core.Logic.{_⊎_, inl, inr, _≢_, ⊎-elim}
-use mathlib.Core.List.{List, [], _∷_, _++_}
-use Prim.Native.Nat.{ℕ, zero, suc, _+_, _≤_, _<_}
-use native.Mathlib.Nat.{not-suc-le-zero, lt-irrefl}
+use mathlib.Core.Path.{_≡_, refl, sym, ap, _∙_}
+use mathlib.Core.Logic.{inl, inr, _≢_}
+use mathlib.Core.List.{List, [], _∷_}
+use Prim.Native.Nat.{ℕ, zero, suc, _≤_, _<_}
 use native.Mathlib.Omega.{arith}
 use lib.ListN.{length}
-use Rattle.finite.proofs.Numbers.{strong, Compared, less, same, more, compared}
-use Rattle.finite.proofs.Shortlex.{Over, over-none, over-more, over-snoc, over-front, over-last, Before, shorter, NotAfter, snoc, length-snoc, snoc-induction, before-snoc, before-last, empty-first, not-after-snoc, not-after-last, before-not-after}
+use Rattle.finite.proofs.Numbers.{strong, Compared, lesser, level, greater, compared}
+use Rattle.finite.proofs.Shortlex.{Over, over-none, over-snoc, over-front, over-last, Before, shorter, NotAfter, snoc, length-snoc, snoc-induction, before-snoc, before-last, empty-first, not-after-snoc, not-after-last, before-not-after}
 use Rattle.finite.proofs.Worklist.{Entry}
 
 -- the state after reading a word from x
@@ -147,17 +146,17 @@ module _ {A : Type 0} {x₀ : A} {δ : ℕ → A → A} {k : ℕ} {q : ℕ → A
   same-place i j l m e = go (compared i j)
     where
       go : Compared i j → i ≡ j
-      go (less h) = absurd (o .distinct i j h m e)
-      go (same h) = h
-      go (more h) = absurd (o .distinct j i h l (sym e))
+      go (lesser h) = absurd (o .distinct i j h m e)
+      go (level h) = h
+      go (greater h) = absurd (o .distinct j i h l (sym e))
 
   -- the last letter: the parent and letter of i are no later than any p and a that lead to i
   later-word : (i p a : ℕ) (w : List ℕ) → 0 < i → i < c → p < c → a < k → δ a (q p) ≡ q i → NotAfter (firstWord parent letter p) w → Compared (parent i) p → Compared (letter i) a → NotAfter (snoc (firstWord parent letter (parent i)) (letter i)) (snoc w a)
-  later-word i p a w h l m r e n (less g) b = inr (before-snoc (letter i) a (before-not-after (words-increase (parent i) p g m) n))
-  later-word i p a w h l m r e n (same g) (less b) = inr (rw g (not-after-last n b))
-  later-word i p a w h l m r e n (same g) (same b) = rw (g, b) (not-after-snoc a n)
-  later-word i p a w h l m r e n (same g) (more b) = absurd (o .fresh i p a h l m r (sooner-letter (sym g) b) e)
-  later-word i p a w h l m r e n (more g) b = absurd (o .fresh i p a h l m r (sooner-parent g) e)
+  later-word i p a w h l m r e n (lesser g) b = inr (before-snoc (letter i) a (before-not-after (words-increase (parent i) p g m) n))
+  later-word i p a w h l m r e n (level g) (lesser b) = inr (rw g (not-after-last n b))
+  later-word i p a w h l m r e n (level g) (level b) = rw (g, b) (not-after-snoc a n)
+  later-word i p a w h l m r e n (level g) (greater b) = absurd (o .fresh i p a h l m r (sooner-letter (sym g) b) e)
+  later-word i p a w h l m r e n (greater g) b = absurd (o .fresh i p a h l m r (sooner-parent g) e)
 
   word-least : (w : List ℕ) → Over k w → (i : ℕ) → i < c → after δ x₀ w ≡ q i → NotAfter (firstWord parent letter i) w
   unfolding after

@@ -9,3 +9,4 @@ pub mod FirstWords
 pub mod Places
 pub mod Explore
 pub mod Explored
+pub mod Discovery

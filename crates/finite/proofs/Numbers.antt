@@ -16,12 +16,12 @@ le-or-lt (suc a) (suc b) = ⊎-elim (λ p. inl (suc-le-suc p)) (λ q. inr (suc-l
 
 -- two numbers are in order, equal, or in the other order
 pub data Compared (a b : ℕ) : Type 0 where
-  less : a < b → Compared a b
-  same : a ≡ b → Compared a b
-  more : b < a → Compared a b
+  lesser : a < b → Compared a b
+  level : a ≡ b → Compared a b
+  greater : b < a → Compared a b
 
 pub compared : (a b : ℕ) → Compared a b
-compared a b = ⊎-elim (λ h. ⊎-elim (λ e. same e) (λ l. less l) (eq-or-lt-of-le h)) (λ l. more l) (le-or-lt a b)
+compared a b = ⊎-elim (λ h. ⊎-elim (λ e. level e) (λ l. lesser l) (eq-or-lt-of-le h)) (λ l. greater l) (le-or-lt a b)
 
 -- what holds of n whenever it holds of all smaller numbers holds of every n
 pub strong {ℓ} : (P : ℕ → Type ℓ) → ((n : ℕ) → ((m : ℕ) → m < n → P m) → P n) → (n : ℕ) → P n

@@ -4,12 +4,12 @@ use mathlib.Core.Path.{_≡_, refl, subst, sym, ap, _∙_}
 use mathlib.Core.Bool.{Bool, true, false, not, cond, _&&_, _||_}
 use mathlib.Core.Logic.{_⊎_, inl, inr, ⊎-elim, by-cases, Dec·not}
 use Prim.Native.Nat.{ℕ, zero, suc, _+_, _≤_, _<_, zero-le}
-use native.Mathlib.Nat.{le-of-suc-le-suc, not-suc-le-zero, eq-or-lt-of-le}
+use native.Mathlib.Nat.{not-suc-le-zero, eq-or-lt-of-le}
 use native.Mathlib.Numerals.{add-one}
 use native.Mathlib.Omega.{arith}
 use borrow.Author.Tests.{ltb-true, ltb-false}
 use lib.Dec.{T, ltb}
-use Rattle.finite.proofs.Numbers.{below-cases, le-or-lt, Compared, less, same, more, compared}
+use Rattle.finite.proofs.Numbers.{below-cases, le-or-lt, Compared, lesser, level, greater, compared}
 use Rattle.finite.proofs.Tests.{T-and, T-and-left, T-and-right, T-or-left, T-or-right, T-or-cases, T-not, T-dec, true-T}
 unfoldable pub use Rattle.finite.proofs.Count.{countBelow}
 pub use Rattle.finite.proofs.Count.{bit, count-zero, count-suc, count-add-one, count-in, count-out, count-le, count-all, count-mono, count-strict, count-same}
@@ -51,28 +51,35 @@ found-more f = record { at = f .at; below = omega arith; holds = f .holds }
 pub found-last : (n : ℕ) (p : ℕ → Bool) → T (p n) → Found (suc n) p
 found-last n p t = record { at = n; below = omega arith; holds = t }
 
+-- each search below 0
 module _ (p : ℕ → Bool) where
   pub any-zero : anyBelow 0 p ≡ false
   unfolding anyBelow
   any-zero = refl
 
-  pub any-suc : (n : ℕ) → anyBelow (suc n) p ≡ p n || anyBelow n p
-  unfolding anyBelow
-  any-suc n = refl
-
   pub all-zero : allBelow 0 p ≡ true
   unfolding allBelow
   all-zero = refl
 
-  pub all-suc : (n : ℕ) → allBelow (suc n) p ≡ p n && allBelow n p
+  pub least-zero : leastBelow 0 p ≡ 0
+  unfolding leastBelow leastFrom
+  least-zero = refl
+
+-- some and all, with one number more
+module _ (n : ℕ) (p : ℕ → Bool) where
+  pub any-suc : anyBelow (suc n) p ≡ p n || anyBelow n p
+  unfolding anyBelow
+  any-suc = refl
+
+  pub any-add-one : anyBelow (n + 1) p ≡ p n || anyBelow n p
+  any-add-one = rw add-one any-suc
+
+  pub all-suc : allBelow (suc n) p ≡ p n && allBelow n p
   unfolding allBelow
-  all-suc n = refl
+  all-suc = refl
 
-pub any-add-one : (p : ℕ → Bool) (n : ℕ) → anyBelow (n + 1) p ≡ p n || anyBelow n p
-any-add-one p n = rw add-one (any-suc p n)
-
-pub all-add-one : (p : ℕ → Bool) (n : ℕ) → allBelow (n + 1) p ≡ p n && allBelow n p
-all-add-one p n = rw add-one (all-suc p n)
+  pub all-add-one : allBelow (n + 1) p ≡ p n && allBelow n p
+  all-add-one = rw add-one all-suc
 
 -- anyBelow is true exactly where a number is found
 pub any-intro : (n : ℕ) (p : ℕ → Bool) (i : ℕ) → i < n → T (p i) → T (anyBelow n p)
@@ -170,9 +177,9 @@ module _ (n : ℕ) (p : ℕ → Bool) where
   least-unique l h holds first = go (compared l (leastBelow n p))
     where
       go : Compared l (leastBelow n p) → l ≡ leastBelow n p
-      go (less q) = absurd (least-first l q (holds (omega (arith, least-le))))
-      go (same e) = e
-      go (more q) = absurd (first (leastBelow n p) q (least-holds (omega arith)))
+      go (lesser q) = absurd (least-first l q (holds (omega (arith, least-le))))
+      go (level e) = e
+      go (greater q) = absurd (first (leastBelow n p) q (least-holds (omega arith)))
 
   -- where none passes, the search ends at the bound
   pub least-none : ((i : ℕ) → i < n → ¬ T (p i)) → leastBelow n p ≡ n

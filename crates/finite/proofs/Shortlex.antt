@@ -3,11 +3,11 @@
 use mathlib.Core.Path.{_≡_, refl, sym, ap, ap₂, subst, _∙_}
 use mathlib.Core.Logic.{_⊎_, inl, inr}
 use mathlib.Core.List.{List, [], _∷_, _++_, append-nil, append-assoc, head-eq-of-cons-eq, tail-eq-of-cons-eq}
-use Prim.Native.Nat.{ℕ, zero, suc, _+_, _≤_, _<_}
+use Prim.Native.Nat.{ℕ, suc, _<_}
 use native.Mathlib.Nat.{lt-irrefl}
 use native.Mathlib.Omega.{arith}
 use lib.ListN.{length, length-append}
-use Rattle.finite.proofs.Numbers.{Compared, less, same, more, compared}
+use Rattle.finite.proofs.Numbers.{Compared, lesser, level, greater, compared}
 
 -- words over the letters below k
 pub data Over (k : ℕ) : List ℕ → Type 0 where
@@ -92,11 +92,11 @@ before-cons e (shorter l) = shorter (omega arith)
 before-cons e (smaller s) = smaller (there e s)
 
 placed-cons : {x y : ℕ} {u v : List ℕ} → length u ≡ length v → Compared x y → Placed u v → Placed (x ∷ u) (y ∷ v)
-placed-cons e (less l) p = earlier (smaller (here l e))
-placed-cons e (same h) (earlier b) = earlier (before-cons h b)
-placed-cons e (same h) (equal q) = equal (ap₂ _∷_ h q)
-placed-cons e (same h) (later b) = later (before-cons (sym h) b)
-placed-cons e (more l) p = later (smaller (here l (sym e)))
+placed-cons e (lesser l) p = earlier (smaller (here l e))
+placed-cons e (level h) (earlier b) = earlier (before-cons h b)
+placed-cons e (level h) (equal q) = equal (ap₂ _∷_ h q)
+placed-cons e (level h) (later b) = later (before-cons (sym h) b)
+placed-cons e (greater l) p = later (smaller (here l (sym e)))
 
 placed-level : (u v : List ℕ) → length u ≡ length v → Placed u v
 placed-level [] [] e = equal refl
@@ -109,9 +109,9 @@ pub placed : (u v : List ℕ) → Placed u v
 placed u v = go (compared (length u) (length v))
   where
     go : Compared (length u) (length v) → Placed u v
-    go (less l) = earlier (shorter l)
-    go (same e) = placed-level u v e
-    go (more l) = later (shorter l)
+    go (lesser l) = earlier (shorter l)
+    go (level e) = placed-level u v e
+    go (greater l) = later (shorter l)
 
 -- one letter more at the end keeps the order, and makes it between equal words
 smaller-snoc : {u v : List ℕ} (a b : ℕ) → Smaller u v → Smaller (snoc u a) (snoc v b)
@@ -155,7 +155,7 @@ before-snoc-cases u v a b h = go (placed u v) (compared a b)
   where
     go : Placed u v → Compared a b → Before u v ⊎ ((u ≡ v) × (a < b))
     go (earlier l) c = inl l
-    go (equal e) (less l) = inr (e, l)
-    go (equal e) (same q) = absurd (before-irrefl (rw (e, q) at h))
-    go (equal e) (more l) = absurd (before-irrefl (before-trans (rw e at h) (before-last v l)))
+    go (equal e) (lesser l) = inr (e, l)
+    go (equal e) (level q) = absurd (before-irrefl (rw (e, q) at h))
+    go (equal e) (greater l) = absurd (before-irrefl (before-trans (rw e at h) (before-last v l)))
     go (later l) c = absurd (before-irrefl (before-trans h (before-snoc b a l)))

@@ -1,13 +1,13 @@
 -- Worklists: states in the order in which a search found them, each a start or a step on from an earlier one.
 -- Every entry is reached by a word no longer than its place; a closed worklist holds every reached state; and there
 -- are no more entries than codes for reached states. Assumes nothing.
-use mathlib.Core.Path.{_≡_, refl, sym, subst}
+use mathlib.Core.Path.{_≡_, sym, subst}
 use mathlib.Core.List.{List, [], _∷_}
-use Prim.Native.Nat.{ℕ, zero, suc, _≤_, _<_}
+use Prim.Native.Nat.{ℕ, suc, _≤_, _<_}
 use native.Mathlib.Omega.{arith}
 use lib.ListN.{length}
-use Rattle.finite.proofs.Numbers.{strong, Compared, less, same, more, compared}
-use Rattle.finite.proofs.Pigeonhole.{Injection, injection-le}
+use Rattle.finite.proofs.Numbers.{strong, Compared, lesser, level, greater, compared}
+use Rattle.finite.proofs.Pigeonhole.{injection-le}
 
 -- x is reached from a start by these letters, the last one first
 pub data Reached {A : Type 0} (Start : A → Type 0) (Step : ℕ → A → A → Type 0) : List ℕ → A → Type 0 where
@@ -88,9 +88,9 @@ module _ {A : Type 0} {Start : A → Type 0} {Step : ℕ → A → A → Type 0}
   })
     where
       go : (i j : ℕ) → i < c → j < c → q i ≡ q j → Compared i j → i ≡ j
-      go i j h l e (less b) = absurd (d .distinct i j b l e)
-      go i j h l e (same b) = b
-      go i j h l e (more b) = absurd (d .distinct j i b h (sym e))
+      go i j h l e (lesser b) = absurd (d .distinct i j b l e)
+      go i j h l e (level b) = b
+      go i j h l e (greater b) = absurd (d .distinct j i b h (sym e))
 
   -- a worklist is no longer than there are codes
   pub worklist-le : {c N : ℕ} {code : A → ℕ} → Coding Start Step code N → Worklist Start Step q c → c ≤ N

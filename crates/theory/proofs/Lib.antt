@@ -8,3 +8,4 @@ pub mod Cuts
 pub mod Membership
 pub mod Splits
 pub mod Strength
+pub mod Escapes

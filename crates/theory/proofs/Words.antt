@@ -17,6 +17,9 @@ over-append over-nil o = o
 over-append (over-cons h r) o = over-cons h (over-append r o)
 
 -- the first part of a word
+pub over-head : {k a : ℕ} {w : List ℕ} → Over k (a ∷ w) → a < k
+over-head (over-cons h o) = h
+
 pub over-left : {k : ℕ} (x y : List ℕ) → Over k (x ++ y) → Over k x
 over-left [] y o = over-nil
 over-left (a ∷ x) y (over-cons h o) = over-cons h (over-left x y o)
