@@ -8,7 +8,8 @@ use Prim.Native.Nat.{ℕ, zero, suc, _≤_, _<_}
 use native.Mathlib.Omega.{arith}
 use lib.ListN.{length}
 use Rattle.finite.proofs.Numbers.{strong, Compared, lesser, level, greater, compared}
-use Rattle.finite.proofs.Shortlex.{Over, over-none, over-snoc, over-front, over-last, Before, shorter, NotAfter, snoc, length-snoc, snoc-induction, before-snoc, before-last, empty-first, not-after-snoc, not-after-last, before-not-after}
+use Rattle.finite.specs.Letters.{Over, over-nil}
+use Rattle.finite.proofs.Shortlex.{over-snoc, over-front, over-last, Before, shorter, NotAfter, snoc, length-snoc, snoc-induction, before-snoc, before-last, empty-first, not-after-snoc, not-after-last, before-not-after}
 use Rattle.finite.proofs.Worklist.{Entry}
 
 -- the state after reading a word from x
@@ -99,7 +100,7 @@ module _ {A : Type 0} {x₀ : A} {δ : ℕ → A → A} {k : ℕ} {q : ℕ → A
   word-over : (i : ℕ) → i < c → Over k (firstWord parent letter i)
   word-over =
       entry-induction (λ i. Over k (firstWord parent letter i))
-      (rw word-zero over-none)
+      (rw word-zero over-nil)
       (λ i h l r. rw (word-step i h l) (over-snoc r (o .letter-lt i h l)))
 
   -- an entry's word is no longer than its place

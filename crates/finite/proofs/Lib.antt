@@ -10,3 +10,4 @@ pub mod Places
 pub mod Explore
 pub mod Explored
 pub mod Discovery
+pub mod Select

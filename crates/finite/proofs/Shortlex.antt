@@ -8,11 +8,7 @@ use native.Mathlib.Nat.{lt-irrefl}
 use native.Mathlib.Omega.{arith}
 use lib.ListN.{length, length-append}
 use Rattle.finite.proofs.Numbers.{Compared, lesser, level, greater, compared}
-
--- words over the letters below k
-pub data Over (k : ℕ) : List ℕ → Type 0 where
-  over-none : Over k []
-  over-more : {a : ℕ} {w : List ℕ} → a < k → Over k w → Over k (a ∷ w)
+use Rattle.finite.specs.Letters.{Over, over-nil, over-cons}
 
 -- words of one length, the first differing letter smaller in the first
 pub data Smaller : List ℕ → List ℕ → Type 0 where
@@ -45,16 +41,16 @@ snoc-induction P base step w = go [] w base
 
 module _ {k : ℕ} where
   pub over-snoc : {w : List ℕ} {a : ℕ} → Over k w → a < k → Over k (snoc w a)
-  over-snoc over-none l = over-more l over-none
-  over-snoc (over-more h o) l = over-more h (over-snoc o l)
+  over-snoc over-nil l = over-cons l over-nil
+  over-snoc (over-cons h o) l = over-cons h (over-snoc o l)
 
   pub over-front : (w : List ℕ) (a : ℕ) → Over k (snoc w a) → Over k w
-  over-front [] a o = over-none
-  over-front (b ∷ w) a (over-more h o) = over-more h (over-front w a o)
+  over-front [] a o = over-nil
+  over-front (b ∷ w) a (over-cons h o) = over-cons h (over-front w a o)
 
   pub over-last : (w : List ℕ) (a : ℕ) → Over k (snoc w a) → a < k
-  over-last [] a (over-more h o) = h
-  over-last (b ∷ w) a (over-more h o) = over-last w a o
+  over-last [] a (over-cons h o) = h
+  over-last (b ∷ w) a (over-cons h o) = over-last w a o
 
 smaller-length : {u v : List ℕ} → Smaller u v → length u ≡ length v
 smaller-length (here l e) = ap suc e

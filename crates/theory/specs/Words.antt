@@ -2,14 +2,10 @@
 -- Document 01, "What a rule means". Assumes nothing.
 use Prim.Native.Nat.{ℕ, _-_, _%_, _<_}
 use mathlib.Core.Bool.{cond}
-use mathlib.Core.List.{List, [], _∷_}
+use mathlib.Core.List.{List}
 use lib.ListN.{length, getD}
 use lib.Dec.{ltb}
-
--- every letter of the word is one of the k letters ("a letter of k or more" is a foreign one)
-pub data Over (k : ℕ) : List ℕ → Type 0 where
-  over-nil : Over k []
-  over-cons : {a : ℕ} {w : List ℕ} → a < k → Over k w → Over k (a ∷ w)
+pub use Rattle.finite.specs.Letters.{Over, over-nil, over-cons}
 
 -- "A lasso is u followed by v for ever, neither empty", here over k letters and of any length
 pub record Lasso (k : ℕ) (u v : List ℕ) : Type 0 where

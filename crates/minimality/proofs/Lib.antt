@@ -1,0 +1,10 @@
+pub mod Rounds
+pub mod FirstStable
+pub mod Contexts
+pub mod Congruence
+pub mod Smallest
+pub mod Quotient
+pub mod Listed
+pub mod Numbering
+pub mod Blocks
+pub mod Settle

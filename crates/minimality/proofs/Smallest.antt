@@ -1,0 +1,210 @@
+-- A rule in which contexts tell all elements apart is the smallest with its outcomes: any other rule whose values decide
+-- them has as many elements or more, and one with just as many is a renumbering. Assumes nothing.
+use Prim.Native.Nat.{ℕ, _≤_, _<_}
+use native.Mathlib.Decide.{decLt}
+use native.Mathlib.Omega.{arith}
+use mathlib.Core.Path.{_≡_, refl, sym, subst, ap, ap₂, _∙_}
+use mathlib.Core.Logic.{dite}
+use mathlib.Core.List.{List, [], _∷_, _++_}
+use lib.ListN.{length}
+use lib.Dec.{eqb, eqb→eq}
+use mir.Facts.{yes-eqb}
+use Rattle.finite.proofs.Search.{leastBelow, least-holds, least-bound}
+use Rattle.finite.proofs.Pigeonhole.{Injection, injection-le, injection-onto}
+use Rattle.theory.specs.Words.{Over, over-nil, over-cons, Lasso}
+use Rattle.theory.specs.Rules.{Morphism, Lawful, Value, none, element, join, value, AllReached}
+use Rattle.theory.specs.Smallest.{Renumbered}
+use Rattle.theory.proofs.Values.{inside-element, element-apart, element-same, join-elements, value-append, Element, value-element}
+use Rattle.minimality.specs.Rounds.{SameOutcomes}
+use Rattle.minimality.proofs.Contexts.{around, Indistinct, HasValue, ValueWord, value-word, has-append, has-around}
+
+-- the outcome of two values, 0 where one of them is of an empty word
+unfoldable pub valueOutcome : (ℕ → ℕ → ℕ) → Value → Value → ℕ
+valueOutcome acc none y = 0
+valueOutcome acc (element s) none = 0
+valueOutcome acc (element s) (element t) = acc s t
+
+-- the outcome of a lasso
+unfoldable pub outcome : Morphism → (ℕ → ℕ → ℕ) → List ℕ → List ℕ → ℕ
+outcome m acc u v = valueOutcome acc (value m u) (value m v)
+
+-- lassos with equal values in the rival have equal outcomes
+pub record Factors (m : Morphism) (acc : ℕ → ℕ → ℕ) (rival : Morphism) : Type 0 where
+  pub equal-outcomes : (u v u′ v′ : List ℕ) → Lasso (m .letters) u v → Lasso (m .letters) u′ v′
+      → value rival u ≡ value rival u′ → value rival v ≡ value rival v′ → outcome m acc u v ≡ outcome m acc u′ v′
+
+-- contexts tell all elements apart
+pub record Syntactic (m : Morphism) (acc : ℕ → ℕ → ℕ) : Type 0 where
+  pub told-apart : (s t : ℕ) → s < m .size → t < m .size → Indistinct m acc s t → s ≡ t
+
+pub outcome-at : {m : Morphism} (acc : ℕ → ℕ → ℕ) {u v : List ℕ} {s t : ℕ} → HasValue m u (element s) → HasValue m v (element t)
+    → outcome m acc u v ≡ acc s t
+unfolding outcome valueOutcome
+outcome-at acc p q = ap₂ (valueOutcome acc) (p .is) (q .is)
+
+-- a word with an element for its value is not empty
+pub word-some : {m : Morphism} {w : List ℕ} {s : ℕ} → HasValue m w (element s) → 0 < length w
+unfolding value
+word-some {w = []} e = absurd (element-apart (sym (e .is)))
+word-some {w = a ∷ w} e = omega arith
+
+pub elements-lasso : {m : Morphism} {u v : List ℕ} {s t : ℕ} → HasValue m u (element s) → HasValue m v (element t) → Lasso (m .letters) u v
+elements-lasso p q = record {
+  start-over = p .over;
+  cycle-over = q .over;
+  start-some = word-some p;
+  cycle-some = word-some q;
+}
+
+pub framed-value : {p w q : List ℕ} (rival : Morphism) → Lawful rival → Over (rival .letters) p → Over (rival .letters) w → Over (rival .letters) q
+    → value rival ((p ++ w) ++ q) ≡ join rival (join rival (value rival p) (value rival w)) (value rival q)
+framed-value rival law op ow oq =
+    has-append law (has-append law (record { over = op; is = refl }) (record { over = ow; is = refl })) (record { over = oq; is = refl }) .is
+
+-- a word chosen for each element
+chosen : {m : Morphism} → AllReached m → ℕ → List ℕ
+chosen {m} reached s = dite (decLt s (m .size)) (λ h. reached .word-of s h .word) (λ h. [])
+
+chosen-has : {m : Morphism} (reached : AllReached m) (s : ℕ) → s < m .size → HasValue m (chosen reached s) (element s)
+unfolding chosen
+chosen-has {m} reached s h = go (decLt s (m .size))
+  where
+    go : (d : Dec (s < m .size)) → HasValue m (dite d (λ h. reached .word-of s h .word) (λ h. [])) (element s)
+    go (yes l) = record { over = reached .word-of s l .over; is = reached .word-of s l .its-value }
+    go (no f) = absurd (f h)
+
+pub letter-has : (m : Morphism) (a : ℕ) → a < m .letters → HasValue m (a ∷ []) (element (m .image a))
+unfolding value
+letter-has m a h = record { over = over-cons h over-nil; is = refl }
+
+-- the element of a value that is one
+the-element : Value → ℕ
+the-element none = 0
+the-element (element s) = s
+
+element-itself : {x : Value} {s : ℕ} → x ≡ element s → x ≡ element (the-element x)
+unfolding the-element
+element-itself e = e ∙ ap element (sym (ap the-element e))
+
+module _ {m rival : Morphism} (acc : ℕ → ℕ → ℕ) (law : Lawful m) (reached : AllReached m) (rival-law : Lawful rival) (letters : rival .letters ≡ m .letters) (factors : Factors m acc rival) where
+  for-rival : {w : List ℕ} → Over (m .letters) w → Over (rival .letters) w
+  for-rival {w} o = subst (λ k. Over k w) (sym letters) o
+
+  module _ {w w′ : List ℕ} {s t : ℕ} (hw : HasValue m w (element s)) (hw′ : HasValue m w′ (element t)) (e : value rival w ≡ value rival w′) where
+    framed-same : {p q : List ℕ} → Over (m .letters) p → Over (m .letters) q → value rival ((p ++ w) ++ q) ≡ value rival ((p ++ w′) ++ q)
+    framed-same {p} {q} op oq =
+        framed-value rival rival-law (for-rival op) (for-rival (hw .over)) (for-rival oq)
+        ∙ ap (λ x. join rival (join rival (value rival p) x) (value rival q)) e
+        ∙ sym (framed-value rival rival-law (for-rival op) (for-rival (hw′ .over)) (for-rival oq))
+
+    context-same : {x y : Value} → ValueWord m x → ValueWord m y → SameOutcomes m acc (around m x s y) (around m x t y)
+    context-same {x} {y} p q =
+        let one : HasValue m ((p .word ++ w) ++ q .word) (element (around m x s y)) = has-around law (p .has) hw (q .has) in
+        let two : HasValue m ((p .word ++ w′) ++ q .word) (element (around m x t y)) = has-around law (p .has) hw′ (q .has) in
+        let same : value rival ((p .word ++ w) ++ q .word) ≡ value rival ((p .word ++ w′) ++ q .word) = framed-same (p .has .over) (q .has .over) in
+        record {
+          as-start = λ z h.
+              let c : ValueWord m (element z) = value-word reached (inside-element h) in
+              sym (outcome-at acc one (c .has))
+              ∙ factors .equal-outcomes _ _ _ _ (elements-lasso one (c .has)) (elements-lasso two (c .has)) same refl
+              ∙ outcome-at acc two (c .has);
+          as-cycle = λ z h.
+              let c : ValueWord m (element z) = value-word reached (inside-element h) in
+              sym (outcome-at acc (c .has) one)
+              ∙ factors .equal-outcomes _ _ _ _ (elements-lasso (c .has) one) (elements-lasso (c .has) two) refl same
+              ∙ outcome-at acc (c .has) two;
+        }
+
+    -- words with one value in the rival have values in ours that no context tells apart
+    pub one-value : Indistinct m acc s t
+    one-value = record { in-context = λ x y hx hy. context-same (value-word reached hx) (value-word reached hy) }
+
+  module _ (syntactic : Syntactic m acc) where
+    -- the rival's value of an element's chosen word
+    send : ℕ → ℕ
+    send s = the-element (value rival (chosen reached s))
+
+    sent : (s : ℕ) → s < m .size → Element rival (value rival (chosen reached s))
+    sent s h =
+        let w : HasValue m (chosen reached s) (element s) = chosen-has reached s h in
+        value-element rival-law (for-rival (w .over)) (word-some w)
+
+    send-value : (s : ℕ) → s < m .size → value rival (chosen reached s) ≡ element (send s)
+    unfolding send
+    send-value s h = element-itself (sent s h .is)
+
+    send-inside : (s : ℕ) → s < m .size → send s < rival .size
+    send-inside s h =
+        subst (λ t. t < rival .size) (element-same (sym (sent s h .is) ∙ send-value s h)) (sent s h .inside)
+
+    injection : Injection (m .size) (rival .size) send
+    injection = record {
+      maps = send-inside;
+      apart = λ s t hs ht e.
+          syntactic .told-apart s t hs ht (one-value (chosen-has reached s hs) (chosen-has reached t ht)
+          (send-value s hs ∙ ap element e ∙ sym (send-value t ht)));
+    }
+
+    -- a rival has at least as many elements
+    pub smallest-size : m .size ≤ rival .size
+    smallest-size = injection-le injection
+
+    module _ (sizes : rival .size ≡ m .size) where
+      -- our element that is sent to b
+      back : ℕ → ℕ
+      back b = leastBelow (m .size) (λ s. eqb (send s) b)
+
+      source : (b : ℕ) → b < rival .size → (s : ℕ) × (s < m .size) × (send s ≡ b)
+      source b h = injection-onto (subst (λ n. Injection (m .size) n send) sizes injection) b (omega arith)
+
+      back-inside : (b : ℕ) → b < rival .size → back b < m .size
+      unfolding back
+      back-inside b h =
+          omega (arith, source b h .1, least-bound (m .size) (λ s. eqb (send s) b) (source b h .0) (source b h .1) (yes-eqb (source b h .2)))
+
+      send-back : (b : ℕ) → b < rival .size → send (back b) ≡ b
+      unfolding back
+      send-back b h = eqb→eq _ _ (least-holds (m .size) (λ s. eqb (send s) b) (back-inside b h))
+
+      back-has : (b : ℕ) → b < rival .size → HasValue m (chosen reached (back b)) (element (back b))
+      back-has b h = chosen-has reached (back b) (back-inside b h)
+
+      back-sent : (b : ℕ) → b < rival .size → value rival (chosen reached (back b)) ≡ element b
+      back-sent b h = send-value (back b) (back-inside b h) ∙ ap element (send-back b h)
+
+      -- a word tells where the rival's value of it goes back to
+      back-value : {w : List ℕ} {s : ℕ} (b : ℕ) → b < rival .size → s < m .size → HasValue m w (element s)
+          → value rival w ≡ element b → back b ≡ s
+      back-value {s = s} b h hs hw e =
+          syntactic .told-apart (back b) s (back-inside b h) hs (one-value (back-has b h) hw (back-sent b h ∙ sym e))
+
+      module _ (a b : ℕ) (ha : a < rival .size) (hb : b < rival .size) where
+        pair-has : HasValue m (chosen reached (back a) ++ chosen reached (back b)) (element (m .product (back a) (back b)))
+        pair-has =
+            subst (HasValue m _) (join-elements m (back a) (back b)) (has-append law (back-has a ha) (back-has b hb))
+
+        pair-value : value rival (chosen reached (back a) ++ chosen reached (back b)) ≡ element (rival .product a b)
+        pair-value =
+            value-append rival-law (for-rival (back-has a ha .over)) (for-rival (back-has b hb .over))
+            ∙ ap₂ (join rival) (back-sent a ha) (back-sent b hb)
+            ∙ join-elements rival a b
+
+        back-product : back (rival .product a b) ≡ m .product (back a) (back b)
+        back-product =
+            back-value (rival .product a b) (rival-law .closed a b ha hb)
+            (law .closed _ _ (back-inside a ha) (back-inside b hb)) pair-has pair-value
+
+      -- a rival with just as many elements is ours, renumbered
+      pub smallest-copy : Renumbered rival m
+      smallest-copy = record {
+        same-letters = letters;
+        to = back;
+        inside = back-inside;
+        one-to-one = λ a b ha hb e. sym (send-back a ha) ∙ ap send e ∙ send-back b hb;
+        onto = λ b h.
+            (send b, send-inside b h, back-value (send b) (send-inside b h) h (chosen-has reached b h) (send-value b h));
+        products = back-product;
+        images = λ a h.
+            let h′ : a < rival .letters = omega arith in
+            back-value (rival .image a) (rival-law .images a h′) (law .images a h) (letter-has m a h) (letter-has rival a h′ .is);
+      }
