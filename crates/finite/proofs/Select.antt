@@ -50,7 +50,7 @@ module _ {A : Type 0} (p : ℕ → Bool) (f : ℕ → A) where
       wider r = record { at = r .at; below = omega arith; passes = r .passes; same = r .same }
 
       go : (b : Bool) → p i ≡ b → (List·Memᴰ y (selectFrom k (suc i) p f) → Selected (suc i + k) p f y)
-        → List·Memᴰ y (cond b (f i ∷ selectFrom k (suc i) p f) (selectFrom k (suc i) p f)) → Selected (i + suc k) p f y
+          → List·Memᴰ y (cond b (f i ∷ selectFrom k (suc i) p f) (selectFrom k (suc i) p f)) → Selected (i + suc k) p f y
       go true e rest q =
           ⊎-elim (λ g. record { at = i; below = omega arith; passes = true-T e; same = sym g }) (λ r. wider (rest r)) (List·Memᴰ·cases-cons q)
       go false e rest q = wider (rest q)

@@ -33,23 +33,23 @@ module _ {m : Morphism} (law : Lawful m) where
     x-inside = c .y-inside;
     y-inside = c .x-inside;
     moves =
-      ap (λ (a : ℕ). m .product a (c .y)) (sym (c .moves))
-      ∙ law .associative s (c .x) (c .y) (c .left-linked .inside) (c .x-inside) (c .y-inside)
-      ∙ ap (m .product s) (c .around) ∙ c .left-linked .stays;
+        ap (λ (a : ℕ). m .product a (c .y)) (sym (c .moves))
+        ∙ law .associative s (c .x) (c .y) (c .left-linked .inside) (c .x-inside) (c .y-inside)
+        ∙ ap (m .product s) (c .around) ∙ c .left-linked .stays;
     around = c .turned;
     turned = c .around;
   }
 
   -- (a·b)·(c·d) = a·((b·c)·d)
   pub middle : (a b c d : ℕ) → a < m .size → b < m .size → c < m .size → d < m .size
-    → m .product (m .product a b) (m .product c d) ≡ m .product a (m .product (m .product b c) d)
+      → m .product (m .product a b) (m .product c d) ≡ m .product a (m .product (m .product b c) d)
   middle a b c d ha hb hc hd =
       law .associative a b (m .product c d) ha hb (law .closed c d hc hd)
       ∙ ap (m .product a) (sym (law .associative b c d hb hc hd))
 
   -- where x·y = e, y′·y″.. the two outer factors close around e: x·(e·y) = e
   around-idempotent : (x y e : ℕ) → x < m .size → y < m .size → Idempotent m e → m .product x y ≡ e
-    → (f : ℕ) → m .product y x ≡ f → m .product x (m .product f y) ≡ e
+      → (f : ℕ) → m .product y x ≡ f → m .product x (m .product f y) ≡ e
   around-idempotent x y e hx hy i p f q =
       ap (λ (a : ℕ). m .product x (m .product a y)) (sym q)
       ∙ sym (middle x y x y hx hy hx hy) ∙ ap (λ (a : ℕ). m .product a a) p ∙ i .square
@@ -63,14 +63,14 @@ module _ {m : Morphism} (law : Lawful m) where
     x-inside = law .closed (c .x) (d .x) (c .x-inside) (d .x-inside);
     y-inside = law .closed (d .y) (c .y) (d .y-inside) (c .y-inside);
     moves =
-      sym (law .associative s (c .x) (d .x) (c .left-linked .inside) (c .x-inside) (d .x-inside))
-      ∙ ap (λ (a : ℕ). m .product a (d .x)) (c .moves) ∙ d .moves;
+        sym (law .associative s (c .x) (d .x) (c .left-linked .inside) (c .x-inside) (d .x-inside))
+        ∙ ap (λ (a : ℕ). m .product a (d .x)) (c .moves) ∙ d .moves;
     around =
-      middle (c .x) (d .x) (d .y) (c .y) (c .x-inside) (d .x-inside) (d .y-inside) (c .y-inside)
-      ∙ ap (λ (a : ℕ). m .product (c .x) (m .product a (c .y))) (d .around)
-      ∙ around-idempotent (c .x) (c .y) e (c .x-inside) (c .y-inside) (c .left-linked .idempotent) (c .around) f (c .turned);
+        middle (c .x) (d .x) (d .y) (c .y) (c .x-inside) (d .x-inside) (d .y-inside) (c .y-inside)
+        ∙ ap (λ (a : ℕ). m .product (c .x) (m .product a (c .y))) (d .around)
+        ∙ around-idempotent (c .x) (c .y) e (c .x-inside) (c .y-inside) (c .left-linked .idempotent) (c .around) f (c .turned);
     turned =
-      middle (d .y) (c .y) (c .x) (d .x) (d .y-inside) (c .y-inside) (c .x-inside) (d .x-inside)
-      ∙ ap (λ (a : ℕ). m .product (d .y) (m .product a (d .x))) (c .turned)
-      ∙ around-idempotent (d .y) (d .x) g (d .y-inside) (d .x-inside) (d .right-linked .idempotent) (d .turned) f (d .around);
+        middle (d .y) (c .y) (c .x) (d .x) (d .y-inside) (c .y-inside) (c .x-inside) (d .x-inside)
+        ∙ ap (λ (a : ℕ). m .product (d .y) (m .product a (d .x))) (c .turned)
+        ∙ around-idempotent (d .y) (d .x) g (d .y-inside) (d .x-inside) (d .right-linked .idempotent) (d .turned) f (d .around);
   }

@@ -37,11 +37,11 @@ accepts-cut {m} {P} {u} {v} a = record {
   start-element = a .start-element;
   cycle-element = a .cycle-element;
   start-value =
-    ap (value m) (seg-same-all (endless u v) (endless (a .start) (a .cycle)) 0 (length (a .start)) back ∙ endless-start (a .start) (a .cycle))
-    ∙ a .start-value;
+      ap (value m) (seg-same-all (endless u v) (endless (a .start) (a .cycle)) 0 (length (a .start)) back ∙ endless-start (a .start) (a .cycle))
+      ∙ a .start-value;
   cycle-value =
-    ap (value m) (seg-same-all (endless u v) (endless (a .start) (a .cycle)) (length (a .start)) (length (a .cycle)) back ∙ endless-cycle (a .start) (a .cycle) some)
-    ∙ a .cycle-value;
+      ap (value m) (seg-same-all (endless u v) (endless (a .start) (a .cycle)) (length (a .start)) (length (a .cycle)) back ∙ endless-cycle (a .start) (a .cycle) some)
+      ∙ a .cycle-value;
   is-marked = a .is-marked;
 }
   where
@@ -80,7 +80,7 @@ pub record TurnAccepts (m : Morphism) (P : Pairs) (α : ℕ → ℕ) (from q : �
 module _ {m : Morphism} (law : Lawful m) where
   -- the value of x followed by c copies of w
   pub value-then-repeat : {x w : List ℕ} {s r : ℕ} → Over (m .letters) x → Over (m .letters) w → value m x ≡ element s → value m w ≡ element r
-    → s < m .size → r < m .size → (c : ℕ) → value m (x ++ repeat c w) ≡ element (times (m .product) s r c)
+      → s < m .size → r < m .size → (c : ℕ) → value m (x ++ repeat c w) ≡ element (times (m .product) s r c)
   unfolding repeat times value
   value-then-repeat {x} {w} {s} {r} ox ow ex ew hs hr zero = value-append law ox over-nil ∙ join-none m (value m x) ∙ ex
   value-then-repeat {x} {w} {s} {r} ox ow ex ew hs hr (suc c) =
@@ -92,7 +92,7 @@ module _ {m : Morphism} (law : Lawful m) where
 
   -- the value of c copies of w, c above 0
   pub value-repeat : {w : List ℕ} {r : ℕ} → Over (m .letters) w → value m w ≡ element r → r < m .size → (c : ℕ)
-    → value m (repeat (suc c) w) ≡ element (times (m .product) r r c)
+      → value m (repeat (suc c) w) ≡ element (times (m .product) r r c)
   unfolding repeat
   value-repeat ow ew hr c = value-then-repeat ow ow ew ew hr hr c
 
@@ -127,7 +127,7 @@ module _ {m : Morphism} (law : Lawful m) where
 
       -- e is a power of the value of one turn there
       turn-power : {r : ℕ} → r < m .size → value m (seg α at q) ≡ element r → (p′ q′ : ℕ) → c .period ≡ suc p′ → q ≡ suc q′
-        → times (m .product) r r p′ ≡ c .cycle-element
+          → times (m .product) r r p′ ≡ c .cycle-element
       turn-power {r} hr er p′ q′ ep eq =
           element-same
           (sym (value-repeat (over at q) er hr p′)
@@ -138,7 +138,7 @@ module _ {m : Morphism} (law : Lawful m) where
           ∙ ap element (times-stays (semigroup law) (pair .idempotent .square) q′))
 
       turn-marked : {r : ℕ} → r < m .size → value m (seg α at q) ≡ element r
-        → T (P (c .start-element) (idempotent-of (m .size) (m .product) r))
+          → T (P (c .start-element) (idempotent-of (m .size) (m .product) r))
       turn-marked {r} hr er =
           let e = turn-power hr er (pred (c .period)) (pred q) (let z = c .periodic .some in omega arith) (let z = turns .some in omega arith) in
           subst (λ (x : ℕ). T (P (c .start-element) x))
@@ -172,8 +172,8 @@ module _ {m : Morphism} (law : Lawful m) where
       cycle-element = idempotent-of (m .size) (m .product) (t .turn-element);
       start-value = t .start-value;
       cycle-value =
-        ap (value m) (seg-repeat here (suc (settling (m .size) (m .product) (t .turn-element))))
-        ∙ value-repeat (seg-over α (t .at) q below) (t .turn-value) (inside-of law (seg-over α (t .at) q below) (t .turn-value)) (settling (m .size) (m .product) (t .turn-element));
+          ap (value m) (seg-repeat here (suc (settling (m .size) (m .product) (t .turn-element))))
+          ∙ value-repeat (seg-over α (t .at) q below) (t .turn-value) (inside-of law (seg-over α (t .at) q below) (t .turn-value)) (settling (m .size) (m .product) (t .turn-element));
       is-marked = t .is-marked;
     }
       where

@@ -67,7 +67,7 @@ pub record Known (m : Morphism) (P P′ : Pairs) (s : ℕ) (w : List ℕ) (x : S
   pub is-marked : T (P s cycle-element)
   pub product : join m (x .front) (x .back) ≡ element cycle-element
   pub unmarked : (w₁ w₂ : List ℕ) → w₁ ++ w₂ ≡ w → 0 < length w₁ → (z : ℕ) → join m (x .front) (value m w₁) ≡ element z
-    → T (P′ (m .product s z) (turn-square m (value m w₂) z)) → ⊥
+      → T (P′ (m .product s z) (turn-square m (value m w₂) z)) → ⊥
 
 module _ {m : Morphism} (law : Lawful m) {P P′ : Pairs} {s : ℕ} where
   known-begin : {x : State} → Begins m P s x → Known m P P′ s [] x
@@ -83,7 +83,7 @@ module _ {m : Morphism} (law : Lawful m) {P P′ : Pairs} {s : ℕ} where
   }
     where
       none-left : (w₁ w₂ : List ℕ) → w₁ ++ w₂ ≡ [] → 0 < length w₁ → (z : ℕ) → join m (x .front) (value m w₁) ≡ element z
-        → T (P′ (m .product s z) (turn-square m (value m w₂) z)) → ⊥
+          → T (P′ (m .product s z) (turn-square m (value m w₂) z)) → ⊥
       none-left [] w₂ e h z p t = omega arith
       none-left (a ∷ w₁) w₂ e h z p t = let g : _≡_ {A = ℕ} 0 1 = cc in omega arith
 
@@ -104,7 +104,7 @@ module _ {m : Morphism} (law : Lawful m) {P P′ : Pairs} {s : ℕ} where
 
     -- the new front's splits: the first is the one just looked at, the others were looked at before
     splits : (w₁ w₂ : List ℕ) → w₁ ++ w₂ ≡ a ∷ w → 0 < length w₁ → (z : ℕ) → join m (y .front) (value m w₁) ≡ element z
-      → T (P′ (m .product s z) (turn-square m (value m w₂) z)) → ⊥
+        → T (P′ (m .product s z) (turn-square m (value m w₂) z)) → ⊥
     unfolding value join
     splits [] w₂ e l z p t = omega arith
     splits (b ∷ []) w₂ e l z p t =
@@ -150,7 +150,7 @@ module _ {m : Morphism} (law : Lawful m) {P P′ : Pairs} {s : ℕ} where
         cycle-value = k .back-value ∙ ap (λ (z : Value). join m z (x .back)) (sym e) ∙ k .product;
         is-marked = k .is-marked;
         no-split = λ c. k .unmarked (c .front) (c .back) (c .parts) (value-some m (c .front) (c .front-element) (c .front-value)) (c .front-element)
-          (ap (λ (z : Value). join m z (value m (c .front))) e ∙ c .front-value) (c .is-marked);
+            (ap (λ (z : Value). join m z (value m (c .front))) e ∙ c .front-value) (c .is-marked);
       }
 
   module _ {v : List ℕ} (k : Escapes m P P′ s v) where
@@ -159,15 +159,15 @@ module _ {m : Morphism} (law : Lawful m) {P P′ : Pairs} {s : ℕ} where
 
     -- the front of a split hands its last letter over
     move : (v₁ v₂ : List ℕ) (a : ℕ) → v₁ ++ (a ∷ v₂) ≡ v → a < m .letters → Over (m .letters) v₁
-      → Element m (value m (v₁ ++ (a ∷ [])))
-      → Moves m P′ s a (split-state (value m (v₁ ++ (a ∷ []))) (value m v₂)) (split-state (value m v₁) (value m (a ∷ v₂)))
+        → Element m (value m (v₁ ++ (a ∷ [])))
+        → Moves m P′ s a (split-state (value m (v₁ ++ (a ∷ []))) (value m v₂)) (split-state (value m v₁) (value m (a ∷ v₂)))
     unfolding value join
     move v₁ v₂ a e h o x = record {
       letter = h;
       front-element = x .the;
       has-front = x .is;
       unmarked = λ t. k .no-split
-        (record { front = v₁ ++ (a ∷ []); back = v₂; parts = append-assoc v₁ (a ∷ []) v₂ ∙ e; front-element = x .the; front-value = x .is; is-marked = t });
+          (record { front = v₁ ++ (a ∷ []); back = v₂; parts = append-assoc v₁ (a ∷ []) v₂ ∙ e; front-element = x .the; front-value = x .is; is-marked = t });
       inside = value-inside law o;
       front-less = sym (value-append law o (over-cons h over-nil)) ∙ x .is;
       back-more = refl;

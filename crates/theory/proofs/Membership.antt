@@ -102,14 +102,15 @@ module _ {m : Morphism} (law : Lawful m) where
     pub turn-test-elim : (P : Pairs) → T (turn-test m P p r) → (t : ℕ) × T (P (times (m .product) p r t) e)
     unfolding turn-test turn-look
     turn-test-elim P h =
-        let f = any-elim (m .size) (turn-look m P p r e) h in
-        (π + f .at,
+        let f = any-elim (m .size) (turn-look m P p r e) h in (
+          π + f .at,
           subst (λ (x : ℕ). T (P x e))
-          (ap (λ (x : ℕ). times (m .product) x r (f .at)) p-e ∙ times-add (semigroup law) p r π (f .at))
-          (f .holds))
+              (ap (λ (x : ℕ). times (m .product) x r (f .at)) p-e ∙ times-add (semigroup law) p r π (f .at))
+              (f .holds),
+        )
 
   module _ {α : ℕ → ℕ} (below : (j : ℕ) → α j < m .letters) {i q : ℕ} (turns : Periodic α i q) {p r : ℕ}
-    (start : value m (seg α 0 i) ≡ element p) (turn : value m (seg α i q) ≡ element r) where
+      (start : value m (seg α 0 i) ≡ element p) (turn : value m (seg α i q) ≡ element r) where
     over : (j n : ℕ) → Over (m .letters) (seg α j n)
     over j n = seg-over α j n below
 
@@ -142,7 +143,7 @@ unfolding cut-test
 cut-test-is m P ex ey = rw (ex, ey)
 
 module _ {m : Morphism} (law : Lawful m) {P : Pairs} (linked : LinkedOnly m P) {u v : List ℕ} (ou : Over (m .letters) u) (ov : Over (m .letters) v)
-  (some : 0 < length v) where
+    (some : 0 < length v) where
   α-below : (j : ℕ) → endless u v j < m .letters
   α-below = endless-below ou ov some
 
@@ -181,16 +182,18 @@ module _ {m : Morphism} (law : Lawful m) {P : Pairs} (linked : LinkedOnly m P) {
 
     -- a marked cut some turns later is found by the test
     cut-found : (t : TurnAccepts m P (endless u v) (length u) (length v)) (c : ℕ) → length u + suc j + c * length v ≡ t .at
-      → T (cut-test m P (value m before) (value m turn))
+        → T (cut-test m P (value m before) (value m turn))
     cut-found t c e =
         rw test-is
         (turn-test-intro law (start-element .inside) (turn-element .inside) linked c
-        (rw (element-same
-        (sym (start-later law α-below turns-here (start-element .is) (turn-element .is) c)
-        ∙ ap (λ (i : ℕ). value m (seg (endless u v) 0 i)) e ∙ t .start-value),
-        element-same
-        (sym (turn-later law α-below turns-here (start-element .is) (turn-element .is) c)
-        ∙ ap (λ (i : ℕ). value m (seg (endless u v) i (length v))) e ∙ t .turn-value)) (t .is-marked)))
+        (rw (
+          element-same
+              (sym (start-later law α-below turns-here (start-element .is) (turn-element .is) c)
+              ∙ ap (λ (i : ℕ). value m (seg (endless u v) 0 i)) e ∙ t .start-value),
+          element-same
+              (sym (turn-later law α-below turns-here (start-element .is) (turn-element .is) c)
+              ∙ ap (λ (i : ℕ). value m (seg (endless u v) i (length v))) e ∙ t .turn-value),
+        ) (t .is-marked)))
 
     -- what the test finds is a marked cut some turns later
     found-cut : T (cut-test m P (value m before) (value m turn)) → TurnAccepts m P (endless u v) (length u) (length v)

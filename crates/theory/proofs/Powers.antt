@@ -24,7 +24,6 @@ pub record Semigroup (n : ℕ) (_·_ : ℕ → ℕ → ℕ) : Type 0 where
 
 module _ {n : ℕ} {_·_ : ℕ → ℕ → ℕ} (law : Semigroup n _·_) where
   infixl 70 _·_
-
   pub times-inside : {s t : ℕ} → s < n → t < n → (i : ℕ) → times _·_ s t i < n
   unfolding times
   times-inside hs ht zero = hs
@@ -59,7 +58,7 @@ module _ {n : ℕ} {_·_ : ℕ → ℕ → ℕ} (law : Semigroup n _·_) where
 
   -- (t^(i+1))^(j+1) = t^((i+1)(j+1))
   pub power-power : {t : ℕ} → t < n → (i j : ℕ)
-    → times _·_ (times _·_ t t i) (times _·_ t t i) j ≡ times _·_ t t (i + j * suc i)
+      → times _·_ (times _·_ t t i) (times _·_ t t i) j ≡ times _·_ t t (i + j * suc i)
   unfolding times
   power-power {t} ht i zero = ap (times _·_ t t) (let e : i ≡ i + 0 * suc i = omega arith in e)
   power-power {t} ht i (suc j) =
@@ -74,8 +73,8 @@ module _ {n : ℕ} {_·_ : ℕ → ℕ → ℕ} (law : Semigroup n _·_) where
 
   -- two idempotent powers of one element are equal
   pub idempotent-unique : {t : ℕ} → t < n → (i j : ℕ)
-    → times _·_ t t i · times _·_ t t i ≡ times _·_ t t i → times _·_ t t j · times _·_ t t j ≡ times _·_ t t j
-    → times _·_ t t i ≡ times _·_ t t j
+      → times _·_ t t i · times _·_ t t i ≡ times _·_ t t i → times _·_ t t j · times _·_ t t j ≡ times _·_ t t j
+      → times _·_ t t i ≡ times _·_ t t j
   idempotent-unique {t} ht i j p q =
       sym (times-stays p j) ∙ power-power ht i j
       ∙ ap (times _·_ t t) (let e : i + j * suc i ≡ j + i * suc j = omega arith in e)
@@ -83,7 +82,7 @@ module _ {n : ℕ} {_·_ : ℕ → ℕ → ℕ} (law : Semigroup n _·_) where
 
   -- once a power comes again after p more factors, so do all later ones
   pub power-again : (t i p : ℕ) → times _·_ t t (i + p) ≡ times _·_ t t i → (d c : ℕ)
-    → times _·_ t t (i + d + c * p) ≡ times _·_ t t (i + d)
+      → times _·_ t t (i + d + c * p) ≡ times _·_ t t (i + d)
   power-again t i p h d zero = ap (times _·_ t t) (let e : i + d + 0 * p ≡ i + d = omega arith in e)
   power-again t i p h d (suc c) =
       ap (times _·_ t t) (let e : i + d + suc c * p ≡ (i + p) + (d + c * p) = omega arith in e)
@@ -94,7 +93,7 @@ module _ {n : ℕ} {_·_ : ℕ → ℕ → ℕ} (law : Semigroup n _·_) where
 
   -- where t^(i+1) comes again after p more factors, a power with an exponent above i that is a multiple of p is its own square
   multiple-square : {t : ℕ} → t < n → (i p d c : ℕ) → times _·_ t t (i + p) ≡ times _·_ t t i → suc (i + d) ≡ c * p
-    → times _·_ t t (i + d) · times _·_ t t (i + d) ≡ times _·_ t t (i + d)
+      → times _·_ t t (i + d) · times _·_ t t (i + d) ≡ times _·_ t t (i + d)
   multiple-square {t} ht i p d c h e =
       power-add ht (i + d) (i + d)
       ∙ ap (times _·_ t t) (let g : suc (i + d + (i + d)) ≡ i + d + c * p = omega arith in g)
@@ -152,7 +151,6 @@ idempotent-of n _·_ t = times _·_ t t (settling n _·_ t)
 
 module _ {n : ℕ} {_·_ : ℕ → ℕ → ℕ} (law : Semigroup n _·_) {t : ℕ} (ht : t < n) where
   infixl 70 _·_
-
   -- the least exponent lies in 1..n
   pub settling-below : settling n _·_ t < n
   unfolding settling settled

@@ -45,7 +45,7 @@ module _ {m : Morphism} (law : Lawful m) {s e : ℕ} (l : Linked m s e) where
         ∙ ap (λ (a : ℕ). m .product a (turned m y x)) (turn .stays) ∙ turn .stays
 
     looks-at : (j : ℕ)
-      → times (m .product) (m .product (m .product s x) (idempotent-of (m .size) (m .product) (turned m y x))) (turned m y x) j ≡ m .product s x
+        → times (m .product) (m .product (m .product s x) (idempotent-of (m .size) (m .product) (turned m y x))) (turned m y x) j ≡ m .product s x
     looks-at j = rw (turn .settles, stays-twice) (times-stays (semigroup law) (turn .stays) j)
 
     pub one-look-elim : (P : Pairs) → T (turn-test m P (m .product s x) (turned m y x)) → T (P (m .product s x) (turn-square m y x))
@@ -61,13 +61,13 @@ module _ {m : Morphism} (law : Lawful m) {s e : ℕ} (l : Linked m s e) where
         (omega (arith, l .inside)) (rw (looks-at 0, turn .settles) h)
 
   module _ {P : Pairs} (linked : LinkedOnly m P) {u v : List ℕ} (ou : Over (m .letters) u) (ov : Over (m .letters) v)
-    (u-value : value m u ≡ element s) (v-value : value m v ≡ element e) where
+      (u-value : value m u ≡ element s) (v-value : value m v ≡ element e) where
     some : 0 < length v
     some = value-some m v e v-value
 
     -- the two parts of a split: their values, and what the test sees there
     module _ {front back : List ℕ} (of : Over (m .letters) front) (ob : Over (m .letters) back) (parts : front ++ back ≡ v)
-      {x : ℕ} (front-value : value m front ≡ element x) where
+        {x : ℕ} (front-value : value m front ≡ element x) where
       around : join m (element x) (value m back) ≡ element e
       around =
           ap (λ (a : Value). join m a (value m back)) (sym front-value) ∙ sym (value-append law of ob)
@@ -98,9 +98,9 @@ module _ {m : Morphism} (law : Lawful m) {s e : ℕ} (l : Linked m s e) where
           front-element = x .the;
           front-value = x .is;
           is-marked =
-            one-look-elim (x .inside) (value-inside law (over-drop (suc j) ov))
-            (around (over-take (suc j) ov) (over-drop (suc j) ov) (take-append-drop (suc j) v) (x .is)) P
-            (rw (look-is (over-take (suc j) ov) (over-drop (suc j) ov) (take-append-drop (suc j) v) (x .is)) at h);
+              one-look-elim (x .inside) (value-inside law (over-drop (suc j) ov))
+              (around (over-take (suc j) ov) (over-drop (suc j) ov) (take-append-drop (suc j) v) (x .is)) P
+              (rw (look-is (over-take (suc j) ov) (over-drop (suc j) ov) (take-append-drop (suc j) v) (x .is)) at h);
         }
 
     -- an accepted lasso splits at a marked pair

@@ -64,14 +64,14 @@ lasso-of m {u} {v} {s} {e} ou ov eu ev = record { start-over = ou; cycle-over = 
 module _ {m : Morphism} (law : Lawful m) where
   -- the value of two words whose values are elements
   pub value-two : {x y : List ℕ} {s t : ℕ} → Over (m .letters) x → Over (m .letters) y → value m x ≡ element s → value m y ≡ element t
-    → value m (x ++ y) ≡ element (m .product s t)
+      → value m (x ++ y) ≡ element (m .product s t)
   value-two {x} {y} {s} {t} ox oy ex ey =
       value-append law ox oy ∙ ap (λ (a : Value). join m a (value m y)) ex ∙ ap (join m (element s)) ey ∙ join-elements m s t
 
   module _ {P : Pairs} (linked : LinkedOnly m P) where
     -- a lasso with linked values that is accepted has its values in the closure
     pub accepted-closed : {s e : ℕ} {u v : List ℕ} → Linked m s e → Over (m .letters) u → Over (m .letters) v → value m u ≡ element s
-      → value m v ≡ element e → Accepts m P u v → Closed m P s e
+        → value m v ≡ element e → Accepts m P u v → Closed m P s e
     accepted-closed {s} {e} {u} {v} l ou ov eu ev a =
         let k = accepted-splits law l linked ou ov eu ev a in
         record {
@@ -143,8 +143,8 @@ module _ {m : Morphism} (law : Lawful m) where
     inside = law .closed s (settled-cycle m z) hs (idempotent-inside (semigroup law) hz);
     idempotent = record { inside = idempotent-inside (semigroup law) hz; square = idempotent-square (semigroup law) hz };
     stays =
-      law .associative s (settled-cycle m z) (settled-cycle m z) hs (idempotent-inside (semigroup law) hz) (idempotent-inside (semigroup law) hz)
-      ∙ ap (m .product s) (idempotent-square (semigroup law) hz);
+        law .associative s (settled-cycle m z) (settled-cycle m z) hs (idempotent-inside (semigroup law) hz) (idempotent-inside (semigroup law) hz)
+        ∙ ap (m .product s) (idempotent-square (semigroup law) hz);
   }
 
   -- every lasso can be written so
@@ -156,8 +156,8 @@ module _ {m : Morphism} (law : Lawful m) where
     start-over = over-append ou (repeat-over (suc σ) ov);
     cycle-over = repeat-over (suc σ) ov;
     start-value =
-      value-then-repeat law ou ov eu ev (inside-of law ou eu) (inside-of law ov ev) (suc σ)
-      ∙ ap element (sym (times-power (semigroup law) (inside-of law ou eu) (inside-of law ov ev) σ));
+        value-then-repeat law ou ov eu ev (inside-of law ou eu) (inside-of law ov ev) (suc σ)
+        ∙ ap element (sym (times-power (semigroup law) (inside-of law ou eu) (inside-of law ov ev) σ));
     cycle-value = value-repeat law ov ev (inside-of law ov ev) σ;
     same = same-unrolled-repeated u v (suc σ) (suc σ) (value-some m v z ev) (omega arith);
   }
@@ -174,13 +174,13 @@ module _ {m : Morphism} (law : Lawful m) {P : Pairs} (linked : LinkedOnly m P) w
   pub strong-all : AllReached m → Strong m P → AllAccepted m P
   strong-all reached strong = record {
     accepted = λ {s} {e} {u} {v} c ou ov eu ev.
-      (let a = closed-accepted law reached c in
-      strong .both-or-neither (a .start) (a .cycle) u v (a .lasso) (lasso-of m ou ov eu ev) (a .start-value ∙ sym eu) (a .cycle-value ∙ sym ev) .0 (a .accepted))
+        (let a = closed-accepted law reached c in
+        strong .both-or-neither (a .start) (a .cycle) u v (a .lasso) (lasso-of m ou ov eu ev) (a .start-value ∙ sym eu) (a .cycle-value ∙ sym ev) .0 (a .accepted));
   }
 
   -- an accepted lasso has its settled values in the closure
   pub accepted-settled : {u v : List ℕ} {s z : ℕ} → Over (m .letters) u → Over (m .letters) v → value m u ≡ element s → value m v ≡ element z
-    → Accepts m P u v → Closed m P (settled-start m s z) (settled-cycle m z)
+      → Accepts m P u v → Closed m P (settled-start m s z) (settled-cycle m z)
   accepted-settled {u} {v} {s} {z} ou ov eu ev a =
       let t = settle law ou ov eu ev in
       accepted-closed law linked (settled-linked law (inside-of law ou eu) (inside-of law ov ev)) (t .start-over) (t .cycle-over) (t .start-value) (t .cycle-value)
@@ -188,13 +188,13 @@ module _ {m : Morphism} (law : Lawful m) {P : Pairs} (linked : LinkedOnly m P) w
 
   -- and where all lassos with values in the closure are accepted, one with its settled values there is
   pub settled-accepted : AllAccepted m P → {u v : List ℕ} {s z : ℕ} → Over (m .letters) u → Over (m .letters) v → value m u ≡ element s → value m v ≡ element z
-    → Closed m P (settled-start m s z) (settled-cycle m z) → Accepts m P u v
+      → Closed m P (settled-start m s z) (settled-cycle m z) → Accepts m P u v
   settled-accepted all {u} {v} {s} {z} ou ov eu ev c =
       let t = settle law ou ov eu ev in
       accepts-same (value-some m v z ev) (t .same) (all .accepted c (t .start-over) (t .cycle-over) (t .start-value) (t .cycle-value))
 
   one-way : AllAccepted m P → {u v u′ v′ : List ℕ} → Lasso (m .letters) u v → Lasso (m .letters) u′ v′
-    → value m u ≡ value m u′ → value m v ≡ value m v′ → Accepts m P u v → Accepts m P u′ v′
+      → value m u ≡ value m u′ → value m v ≡ value m v′ → Accepts m P u v → Accepts m P u′ v′
   one-way all {u} {v} {u′} {v′} k k′ eu ev a =
       let s = value-element law (k .start-over) (k .start-some) in
       let z = value-element law (k .cycle-over) (k .cycle-some) in
@@ -204,5 +204,5 @@ module _ {m : Morphism} (law : Lawful m) {P : Pairs} (linked : LinkedOnly m P) w
   -- where they all are, the marking is strong
   pub all-strong : AllAccepted m P → Strong m P
   all-strong all = record {
-    both-or-neither = λ u v u′ v′ k k′ eu ev. (one-way all k k′ eu ev, one-way all k′ k (sym eu) (sym ev))
+    both-or-neither = λ u v u′ v′ k k′ eu ev. (one-way all k k′ eu ev, one-way all k′ k (sym eu) (sym ev));
   }

@@ -29,7 +29,6 @@ pub record Turn (m : Morphism) (s e x : ℕ) (y : Value) : Type 0 where
   pub conjugate : Conjugate m s e (m .product s x) (m .product (turned m y x) (turned m y x))
 
 module _ {m : Morphism} (law : Lawful m) where
-
   turn-none : (s e : ℕ) → Linked m s e → Turn m s e e none
   unfolding turned times
   turn-none s e l = record {
@@ -106,8 +105,8 @@ module _ {m : Morphism} (law : Lawful m) where
           inside = law .closed s x (l .inside) hx;
           idempotent = record { inside = law .closed f f hf hf; square = squared };
           stays =
-            sym (law .associative (m .product s x) f f (law .closed s x (l .inside) hx) hf hf)
-            ∙ ap (λ (a : ℕ). m .product a f) moved ∙ moved;
+              sym (law .associative (m .product s x) f f (law .closed s x (l .inside) hx) hf hf)
+              ∙ ap (λ (a : ℕ). m .product a f) moved ∙ moved;
         };
         x = x;
         y = m .product y e;

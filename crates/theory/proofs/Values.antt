@@ -45,7 +45,7 @@ module _ {m : Morphism} (law : Lawful m) where
   join-inside (inside-element {s} h) (inside-element {s = t} h′) = inside-element (law .closed s t h h′)
 
   pub join-assoc : {x y z : Value} → Inside m x → Inside m y → Inside m z
-    → join m (join m x y) z ≡ join m x (join m y z)
+      → join m (join m x y) z ≡ join m x (join m y z)
   unfolding join
   join-assoc inside-none hy hz = refl
   join-assoc (inside-element h) inside-none hz = refl
@@ -60,7 +60,7 @@ module _ {m : Morphism} (law : Lawful m) where
 
   -- the value of one word after another is the product of the values
   pub value-append : {x y : List ℕ} → Over (m .letters) x → Over (m .letters) y
-    → value m (x ++ y) ≡ join m (value m x) (value m y)
+      → value m (x ++ y) ≡ join m (value m x) (value m y)
   unfolding value join
   value-append over-nil oy = refl
   value-append {y = y} (over-cons {a} {w} h o) oy =

@@ -27,7 +27,7 @@ pub record Accepts (m : Morphism) (P : Pairs) (u v : List ℕ) : Type 0 where
 -- accepted or both not." Lassos of every length count.
 pub record Strong (m : Morphism) (P : Pairs) : Type 0 where
   pub both-or-neither : (u v u′ v′ : List ℕ) → Lasso (m .letters) u v → Lasso (m .letters) u′ v′
-    → value m u ≡ value m u′ → value m v ≡ value m v′ → Accepts m P u v ↔ Accepts m P u′ v′
+      → value m u ≡ value m u′ → value m v ≡ value m v′ → Accepts m P u v ↔ Accepts m P u′ v′
 
 -- the lassos that a rule accepts are those of its marked pairs
 abbrev pub RuleAccepts : Rule → List ℕ → List ℕ → Type 0

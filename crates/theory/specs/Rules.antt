@@ -20,7 +20,7 @@ pub record Morphism : Type 0 where
 pub record Lawful (m : Morphism) : Type 0 where
   pub closed : (a b : ℕ) → a < m .size → b < m .size → m .product a b < m .size
   pub associative : (a b c : ℕ) → a < m .size → b < m .size → c < m .size
-    → m .product (m .product a b) c ≡ m .product a (m .product b c)
+      → m .product (m .product a b) c ≡ m .product a (m .product b c)
   pub images : (a : ℕ) → a < m .letters → m .image a < m .size
 
 -- "any marked pairs": a number for each pair of elements, 0 where it is not marked; at other numbers it means nothing

@@ -38,7 +38,7 @@ pub record Renumbered (rival ours : Morphism) : Type 0 where
   pub one-to-one : (a b : ℕ) → a < rival .size → b < rival .size → to a ≡ to b → a ≡ b
   pub onto : (b : ℕ) → b < ours .size → (a : ℕ) × (a < rival .size) × (to a ≡ b)
   pub products : (a b : ℕ) → a < rival .size → b < rival .size
-    → to (rival .product a b) ≡ ours .product (to a) (to b)
+      → to (rival .product a b) ≡ ours .product (to a) (to b)
   pub images : (a : ℕ) → a < ours .letters → to (rival .image a) ≡ ours .image a
 
 -- demand 3: the rule is strong; no strong rule of any finite size with the same lassos has fewer elements, and one with just
@@ -46,9 +46,9 @@ pub record Renumbered (rival ours : Morphism) : Type 0 where
 pub record Smallest (r : Rule) : Type 0 where
   pub strong : RuleStrong r
   pub at-least : (rival : Rule) → RuleStrong rival → SameLassos r rival
-    → r .morphism .size ≤ rival .morphism .size
+      → r .morphism .size ≤ rival .morphism .size
   pub copy : (rival : Rule) → RuleStrong rival → SameLassos r rival
-    → rival .morphism .size ≡ r .morphism .size → Renumbered (rival .morphism) (r .morphism)
+      → rival .morphism .size ≡ r .morphism .size → Renumbered (rival .morphism) (r .morphism)
 
 -- "It marks every linked pair whose lassos are accepted", and no other pair of elements
 pub record MarksAccepted (m : Morphism) (P : Pairs) : Type 0 where
