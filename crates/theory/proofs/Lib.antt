@@ -9,3 +9,4 @@ pub mod Membership
 pub mod Splits
 pub mod Strength
 pub mod Escapes
+pub mod Closure
