@@ -9,6 +9,11 @@ pub record Idempotent (m : Morphism) (e : ℕ) : Type 0 where
   pub inside : e < m .size
   pub square : m .product e e ≡ e
 
+-- the powers of an element: the one with exponent i + 1 at i ("powers 1 to n" are those at i below n)
+unfoldable pub power : Morphism → ℕ → ℕ → ℕ
+power m x zero = x
+power m x (suc i) = m .product (power m x i) x
+
 -- "A pair (s, e) is linked if e is idempotent and s·e = s."
 pub record Linked (m : Morphism) (s e : ℕ) : Type 0 where
   pub inside : s < m .size

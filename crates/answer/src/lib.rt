@@ -1,0 +1,57 @@
+// Why a call refuses. A call's answer is an enum of its own, whose refused case holds one of these with the input that it
+// lies in and its place there; document 01's number of each is `number`.
+ghost use mathlib.Core.Path.{_≡_};
+ghost use Rattle.answer.specs.Refusals.{numberOf};
+
+pub enum Refusal {
+    // Document 01: cut short. The bytes end inside a count or a section.
+    Truncated,
+    // Document 01: miscount. A count lies outside its range.
+    CountOutOfRange,
+    // Document 01: off the table. An entry names no element, state, letter or state kind.
+    EntryOutOfRange,
+    // Document 01: overrun. Bytes follow the last section.
+    TrailingBytes,
+    // Document 01: not associative.
+    NotAssociative,
+    // Document 01: unreached. An element is no word's value.
+    Unreachable,
+    // Document 01: unlinked. A marked pair is not linked.
+    NotLinked,
+    // Document 01: repeated. A pair or a transition stands twice.
+    Duplicate,
+    // Document 01: unsettled. No power of an element within its range is idempotent.
+    NoIdempotentPower,
+    // Document 01: foreign letter.
+    UnknownLetter,
+    // Document 01: word length.
+    WordLength,
+    // Document 01: weak. The rule is not strong.
+    NotStrong,
+    // Document 01: short buffer.
+    BufferTooShort,
+    // Document 01: too rich. An automaton has too many matrices.
+    TooManyMatrices,
+}
+
+// Document 01's number of a refusal.
+pub fn number(r: Refusal) -> u8
+    ensures { λ n. ⌜ n ≡ numberOf r ⌝ }
+{
+    match r {
+        Refusal::Truncated => 1,
+        Refusal::CountOutOfRange => 2,
+        Refusal::EntryOutOfRange => 3,
+        Refusal::TrailingBytes => 4,
+        Refusal::NotAssociative => 5,
+        Refusal::Unreachable => 6,
+        Refusal::NotLinked => 7,
+        Refusal::Duplicate => 8,
+        Refusal::NoIdempotentPower => 9,
+        Refusal::UnknownLetter => 10,
+        Refusal::WordLength => 11,
+        Refusal::NotStrong => 12,
+        Refusal::BufferTooShort => 13,
+        Refusal::TooManyMatrices => 14,
+    }
+}
