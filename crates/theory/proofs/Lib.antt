@@ -10,3 +10,8 @@ pub mod Splits
 pub mod Strength
 pub mod Escapes
 pub mod Closure
+pub mod Searches
+pub mod Codes
+pub mod ShortWords
+pub mod Comparison
+pub mod Included
