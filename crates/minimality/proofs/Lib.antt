@@ -8,3 +8,9 @@ pub mod Listed
 pub mod Numbering
 pub mod Blocks
 pub mod Settle
+pub mod ToldApart
+pub mod Saturation
+pub mod Complements
+pub mod Reductions
+pub mod ReduceModel
+pub mod ReducedExamples

@@ -5,9 +5,9 @@ use mathlib.Core.Path.{_≡_, refl, sym, subst₂, ap, _∙_}
 use mathlib.Core.List.{List}
 use Rattle.theory.specs.Words.{Over, over-nil, over-cons, Lasso}
 use Rattle.theory.specs.Rules.{Morphism, Lawful, Value, none, element, join, value, WordOf, AllReached}
-use Rattle.theory.proofs.Values.{Inside, inside-none, inside-element, value-inside, Element, value-element}
+use Rattle.theory.proofs.Values.{Inside, inside-none, inside-element, value-inside}
 use Rattle.minimality.specs.Rounds.{SameOutcomes}
-use Rattle.minimality.proofs.Contexts.{after, ahead, around, ahead-inside, around-inside, Indistinct, HasValue}
+use Rattle.minimality.proofs.Contexts.{after, ahead, around, ahead-inside, around-inside, Indistinct, HasValue, LassoValues, lasso-values}
 use Rattle.minimality.proofs.Smallest.{outcome, outcome-at, Factors, Syntactic}
 
 -- c numbered blocks: the number of each element's block, and an element of each block, its leader. Products respect the
@@ -127,13 +127,10 @@ module _ {m : Morphism} {acc : ℕ → ℕ → ℕ} {c : ℕ} (law : Lawful m) (
   -- every lasso keeps its outcome
   pub quotient-outcome : {u v : List ℕ} → Lasso (m .letters) u v → outcome (quotient b) (quotient-acc b) u v ≡ outcome m acc u v
   quotient-outcome {u} {v} l =
-      let x : Element m (value m u) = value-element law (l .start-over) (l .start-some) in
-      let y : Element m (value m v) = value-element law (l .cycle-over) (l .cycle-some) in
-      let hu : HasValue m u (element (x .the)) = record { over = l .start-over; is = x .is } in
-      let hv : HasValue m v (element (y .the)) = record { over = l .cycle-over; is = y .is } in
-      outcome-at (quotient-acc b) (quotient-has hu) (quotient-has hv)
-      ∙ quotient-acc-number (x .the) (y .the) (x .inside) (y .inside)
-      ∙ sym (outcome-at acc hu hv)
+      let k : LassoValues m u v = lasso-values law l in
+      outcome-at (quotient-acc b) (quotient-has (k .start-has)) (quotient-has (k .cycle-has))
+      ∙ quotient-acc-number (k .start) (k .cycle) (k .start-inside) (k .cycle-inside)
+      ∙ sym (outcome-at acc (k .start-has) (k .cycle-has))
 
   -- a rival whose values decide the outcomes of lassos decides those of the blocks too
   pub quotient-factors : {rival : Morphism} → Factors m acc rival → Factors (quotient b) (quotient-acc b) rival

@@ -1,0 +1,68 @@
+-- Reductions computed by the model: a rule that is its own, and two that shrink to one element. Assumes nothing.
+use Prim.Native.Nat.{ℕ, _+_, _*_}
+use mathlib.Core.Path.{_≡_, refl}
+use mathlib.Core.Bool.{_&&_}
+use mathlib.Core.List.{List, [], _∷_}
+use lib.ListN.{getD}
+use lib.Dec.{eqb, leb}
+use Rattle.finite.proofs.Search.{anyBelow, allBelow, leastBelow, leastFrom}
+use Rattle.theory.specs.Rules.{Morphism, Pairs}
+use Rattle.theory.proofs.Powers.{times, settled, settling, idempotent-of}
+use Rattle.theory.proofs.Closure.{linked-test, closure-look, closure-test, acceptance}
+use Rattle.minimality.proofs.Listed.{passing}
+use Rattle.minimality.proofs.Blocks.{tabFrom, leastOf, sameTest, productsTest, keptTest, firstBlocks, nextBlocks}
+use Rattle.minimality.proofs.Settle.{unchanged, settleFrom, settle}
+use Rattle.minimality.proofs.ReduceModel.{Model, heads, headsOf, placeOf, modelOf, finalBlocks, reduce-model, reduced-size}
+use Rattle.minimality.proofs.Saturation.{saturated}
+
+-- a table of two elements, by rows, and the images of its letters
+unfoldable pub two-by-two : ℕ → List ℕ → List ℕ → Morphism
+two-by-two letters rows images = record {
+  size = 2;
+  letters = letters;
+  product = λ s t. getD rows (s * 2 + t) 0;
+  image = λ a. getD images a 0;
+}
+
+-- the pair (0, 0) alone
+unfoldable pub first-pair : Pairs
+first-pair s e = eqb s 0 && eqb e 0
+
+-- the pairs (0, 0), (0, 1) and (1, 1)
+unfoldable pub three-pairs : Pairs
+three-pairs s e = leb s e
+
+-- letter 0 without end: an element is 0 exactly where the word has the letter 0
+unfoldable pub letter-without-end : Morphism
+unfolding two-by-two
+letter-without-end = two-by-two 2 (0 ∷ 0 ∷ 0 ∷ 1 ∷ []) (0 ∷ 1 ∷ [])
+
+-- one letter, and an element for words of even length and one for the others
+unfoldable pub parity : Morphism
+unfolding two-by-two
+parity = two-by-two 1 (0 ∷ 1 ∷ 1 ∷ 0 ∷ []) (1 ∷ [])
+
+-- a computed reduction to one element, that is marked with itself
+pub record OneElement (model : Model) : Type 0 where
+  pub size : model .morphism .size ≡ 1
+  pub product : model .morphism .product 0 0 ≡ 0
+  pub image : model .morphism .image 0 ≡ 0
+  pub mark : model .marks 0 0 ≡ 1
+
+-- the first rule has two elements after its reduction; with every lasso accepted one is left, and so of the parity
+pub record Computed : Type 0 where
+  pub stays : reduced-size letter-without-end first-pair ≡ 2
+  pub all-shrinks : reduced-size letter-without-end three-pairs ≡ 1
+  pub all-model : OneElement (reduce-model letter-without-end three-pairs)
+  pub parity-shrinks : reduced-size parity first-pair ≡ 1
+  pub parity-model : OneElement (reduce-model parity first-pair)
+
+pub computed : Computed
+unfolding reduced-size reduce-model modelOf placeOf saturated finalBlocks headsOf heads settle settleFrom unchanged firstBlocks nextBlocks leastOf tabFrom sameTest productsTest keptTest passing allBelow anyBelow leastBelow leastFrom acceptance closure-test closure-look linked-test idempotent-of settling settled times two-by-two letter-without-end parity first-pair three-pairs
+computed = record {
+  stays = refl;
+  all-shrinks = refl;
+  all-model = record { size = refl; product = refl; image = refl; mark = refl };
+  parity-shrinks = refl;
+  parity-model = record { size = refl; product = refl; image = refl; mark = refl };
+}
