@@ -5,17 +5,17 @@ use Rattle.answer.specs.declared.Refusal.the-variants.{Truncated, CountO
 
 -- the column "Number", by the column "Trade word"
 abbrev pub numberOf : Refusal → ℕ
-numberOf Truncated = 1 -- cut short
-numberOf CountOutOfRange = 2 -- miscount
-numberOf EntryOutOfRange = 3 -- off the table
-numberOf TrailingBytes = 4 -- overrun
-numberOf NotAssociative = 5 -- not associative
-numberOf Unreachable = 6 -- unreached
-numberOf NotLinked = 7 -- unlinked
-numberOf Duplicate = 8 -- repeated
-numberOf NoIdempotentPower = 9 -- unsettled
-numberOf UnknownLetter = 10 -- foreign letter
-numberOf WordLength = 11 -- word length
-numberOf NotStrong = 12 -- weak
-numberOf BufferTooShort = 13 -- short buffer
-numberOf TooManyMatrices = 14 -- too rich
+numberOf Truncated = 1  -- cut short
+numberOf CountOutOfRange = 2  -- miscount
+numberOf EntryOutOfRange = 3  -- off the table
+numberOf TrailingBytes = 4  -- overrun
+numberOf NotAssociative = 5  -- not associative
+numberOf Unreachable = 6  -- unreached
+numberOf NotLinked = 7  -- unlinked
+numberOf Duplicate = 8  -- repeated
+numberOf NoIdempotentPower = 9  -- unsettled
+numberOf UnknownLetter = 10  -- foreign letter
+numberOf WordLength = 11  -- word length
+numberOf NotStrong = 12  -- weak
+numberOf BufferTooShort = 13  -- short buffer
+numberOf TooManyMatrices = 14  -- too rich

@@ -1,0 +1,4 @@
+pub mod Places
+pub mod Facts
+pub mod Searched
+pub mod Tried

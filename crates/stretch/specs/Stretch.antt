@@ -1,0 +1,23 @@
+-- The stretch of a lasso that is left to read at a position. Document 01, "Stretch". Assumes nothing.
+use Prim.Native.Nat.{ℕ, _-_, _%_}
+use mathlib.Core.Bool.{Bool, cond, _&&_}
+use mathlib.Core.List.{List, []}
+use lib.ListN.{length, drop}
+use lib.Dec.{ltb, leb}
+
+-- "calls take 1 to 4,224 letters of each": the longest word of a call
+abbrev pub longestWord : ℕ
+longestWord = 4224
+
+-- refusal 11 names every other length
+abbrev pub wordFits : List ℕ → Bool
+wordFits w = leb 1 (length w) && leb (length w) longestWord
+
+-- "the unread rest of u, or of v once u is used up; past u the place in v is the position less the length of u, modulo the
+-- length of v"
+unfoldable pub unread : List ℕ → List ℕ → ℕ → List ℕ
+unread u v at = cond (ltb at (length u)) (drop at u) (drop ((at - length u) % length v) v)
+
+-- "For lengths that refusal 11 names, the answer is the empty part of u."
+unfoldable pub stretchOf : List ℕ → List ℕ → ℕ → List ℕ
+stretchOf u v at = cond (wordFits u && wordFits v) (unread u v at) []

@@ -1,0 +1,26 @@
+// The part of a lasso's word that is left to read at a position (document 01: stretch).
+ghost use mathlib.Core.Path.{_≡_};
+ghost use Rattle.stretch.specs.Stretch.{stretchOf};
+
+// A part of u, or of v once u is used up. Where a word has no letter or more than 4,224 it is the empty part of u.
+pub fn stretch<'a>(u: &'a [u8], v: &'a [u8], position: usize) -> &'a [u8]
+    ensures { λ r. ⌜ now r ≡ stretchOf (now (u .entry)) (now (v .entry)) position ⌝ }
+{
+    if u.len() < 1 {
+        return &u[..0];
+    }
+    if 4224 < u.len() {
+        return &u[..0];
+    }
+    if v.len() < 1 {
+        return &u[..0];
+    }
+    if 4224 < v.len() {
+        return &u[..0];
+    }
+    if position < u.len() {
+        return &u[position..];
+    }
+    let at = (position - u.len()) % v.len();
+    &v[at..]
+}
