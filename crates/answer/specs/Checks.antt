@@ -28,6 +28,9 @@ pub record Refuses (c : Check) (v : Verdict) : Type 0 where
   pub verdict : v ≡ refused (c .refusal) (c .input) place
 
 -- the first check of the list that fails gives the verdict; where none fails it is `passed`
-unfoldable pub FirstFailure : List Check → Verdict → Type 0
-FirstFailure [] v = v ≡ passed
-FirstFailure (c ∷ checks) v = Refuses c v ⊎ (Passes c × FirstFailure checks v)
+unfoldable pub firstOf : List Check → Verdict → Type 0
+firstOf [] v = v ≡ passed
+firstOf (c ∷ checks) v = Refuses c v ⊎ (Passes c × firstOf checks v)
+
+pub record FirstFailure (checks : List Check) (v : Verdict) : Type 0 where
+  pub decided : firstOf checks v

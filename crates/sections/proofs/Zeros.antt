@@ -1,0 +1,31 @@
+-- A buffer that is filled with zeros from the front. Assumes nothing.
+use Prim.Native.Nat.{ℕ, zero, suc, _+_, _≤_, _<_}
+use mathlib.Core.Path.{_≡_, refl, sym, ap, _∙_, subst}
+use mathlib.Core.Logic.{⊎-elim}
+use mathlib.Core.List.{List}
+use native.Mathlib.Omega.{arith}
+use native.Mathlib.Nat.{eq-or-lt-of-le}
+use lib.ListN.{length, getD, set, replicate, length-set, length-replicate, getD-replicate}
+use lib.Seq.{getD-set-same, getD-set-other, ext-getD}
+
+-- as long as it was, and the first i bytes are 0
+pub record Zeroed (entry now : List ℕ) (i : ℕ) : Type 0 where
+  pub same-length : length now ≡ length entry
+  pub zeros : (j : ℕ) → j < i → getD now j 0 ≡ 0
+
+pub zeroed-start : (entry : List ℕ) → Zeroed entry entry 0
+zeroed-start entry = record { same-length = refl; zeros = λ j h. absurd (let z : ⊥ = omega arith in z) }
+
+pub zeroed-next : {entry now : List ℕ} {i : ℕ} → Zeroed entry now i → i < length now → Zeroed entry (set now i 0) (i + 1)
+zeroed-next {entry} {now} {i} z l = record {
+  same-length = length-set now i 0 ∙ z .same-length;
+  zeros = λ j h. ⊎-elim
+      (λ (e : j ≡ i). subst (λ (x : ℕ). getD (set now i 0) x 0 ≡ 0) (sym e) (getD-set-same now i 0 0 l))
+      (λ (h′ : j < i). getD-set-other now i j 0 0 (λ e. omega arith) ∙ z .zeros j h′)
+      (eq-or-lt-of-le (let g : j ≤ i = omega arith in g));
+}
+
+pub zeroed-all : {entry now : List ℕ} {i : ℕ} → Zeroed entry now i → length entry ≤ i → now ≡ replicate (length entry) 0
+zeroed-all {entry} {now} z l =
+    ext-getD 0 now (replicate (length entry) 0) (z .same-length ∙ sym (length-replicate (length entry) 0))
+    (λ j h. z .zeros j (omega (arith, z .same-length)) ∙ sym (getD-replicate (length entry) j 0 0 (omega (arith, z .same-length))))

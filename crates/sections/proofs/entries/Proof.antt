@@ -1,0 +1,70 @@
+-- `sections::entries` meets its contract: what the search found is the first entry out of its range, and where it found
+-- nothing all of them are good. Assumes nothing.
+use mathlib.Core.Path.{refl}
+use native.Mathlib.Omega.{arith}
+use borrow.Author.Needs.{needs}
+use Rattle.sections.specs.Answers.{FirstOut}
+use Rattle.sections.proofs.Laws.{entries-cut-answer, entries-out, found-at, found-nothing}
+use Rattle.sections.proofs.entries.Statement.{statement}
+use Rattle.sections.proofs.entries.Tie as tie
+
+add-if1 : tie.Need-add-if1
+add-if1 c = omega arith
+
+cut-requires : tie.Need-cut-requires
+cut-requires c κs = search needs
+
+returns : tie.Need-returns
+returns c = entries-cut-answer _ _ _ _ _ _ (c .cut .result) (c .cut .ensures) (c .before .if1 .taken)
+
+first-out-requires : tie.Need-first-out-requires
+first-out-requires c κs = search needs
+
+enum-known-i : tie.Need-enum-known-i
+enum-known-i c = search needs
+
+-- the entry that was found
+out : (c : tie.After-known-told)
+    → FirstOut
+    (c .before .before .before .before .before .before .args .rest .now)
+    (c .before .before .before .before .before .before .args .from)
+    (c .before .before .before .before .before .before .args .size)
+    (c .before .before .before .before .before .before .args .bound)
+    (c .before .i .given .0 .0)
+out c = found-at (c .before .before .before .first-out .result) (c .before .before .before .first-out .ensures) (c .before .i .given .1)
+
+add-t14 : tie.Need-add-t14
+add-t14 c = omega (arith, out c .below)
+
+add-t15 : tie.Need-add-t15
+add-t15 c = omega (arith, out c .below)
+
+enum-told : tie.Need-enum-told
+enum-told c = search needs
+
+returns-2 : tie.Need-returns-2
+returns-2 c input = entries-out _ _ _ input _ _ (c .before .before .before .before .if1 .left) (out c)
+
+returns-3 : tie.Need-returns-3
+returns-3 c = record {
+  good = record {
+    present = c .before .before .before .if1 .left;
+    entries = found-nothing (c .before .before .first-out .result) (c .before .before .first-out .ensures) (c .enum-told .given .1);
+  };
+  is-count = refl;
+}
+
+pub entries-spec : {M : Type 1} → statement M
+entries-spec =
+    tie.close
+    (tie.spec
+    add-if1
+    cut-requires
+    returns
+    first-out-requires
+    enum-known-i
+    add-t14
+    add-t15
+    enum-told
+    returns-2
+    returns-3)

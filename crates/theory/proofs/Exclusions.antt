@@ -1,0 +1,135 @@
+-- What the definitions of tables, levels, lassos, acceptance, pairs, counts and inclusion leave out: for each a case that it
+-- excludes, and for one that asks several things a case for each. Assumes nothing.
+use Prim.Native.Nat.{ℕ}
+use mathlib.Core.Path.{_≡_, refl}
+use mathlib.Core.List.{List, [], _∷_}
+use native.Mathlib.Omega.{arith}
+use lib.Dec.{T}
+use Rattle.theory.specs.Words.{Over, over-cons, Lasso}
+use Rattle.theory.specs.Rules.{Morphism, Lawful, Pairs, level, marked, WordOf, AllReached}
+use Rattle.theory.specs.Acceptance.{Accepts}
+use Rattle.theory.specs.Pairs.{Linked, LinkedOnly, Conjugate, LeastConjugate, Counted, counted-none, counted-one, counted-other, LinkedPairs, Classes, Joins}
+use Rattle.theory.specs.Inclusion.{Included, Witness}
+use Rattle.theory.proofs.ShortWords.{reached-intro}
+use Rattle.theory.proofs.TableTests.{conjugate-intro, least-intro, least-elim, counted-same}
+use Rattle.theory.proofs.Computing.{computing, lasso-elim}
+use Rattle.theory.proofs.SmallRules.{entry, table, marks, meet-rows, W, Z, W₀, no-marks, first-mark, Z-sound, W₀-lawful, stray-rule}
+use Rattle.theory.proofs.Examples.{W-accepts, W-refuses}
+
+-- M8: a table that is not associative; one that is not closed; a letter that has no element
+pub not-associative : ¬ Lawful (table ((1 ∷ 0 ∷ []) ∷ (0 ∷ 0 ∷ []) ∷ []) (0 ∷ []))
+not-associative l =
+    let e : _≡_ {A = ℕ} 0 1 = l .associative 0 0 1 (omega arith) (omega arith) (omega arith) in
+    omega arith
+
+pub not-closed : ¬ Lawful (table ((1 ∷ []) ∷ []) (0 ∷ []))
+not-closed l = omega (arith, l .closed 0 0 (omega arith) (omega arith))
+
+pub no-image : ¬ Lawful (table meet-rows (2 ∷ []))
+no-image l = omega (arith, l .images 0 (omega arith))
+
+-- M9: in W's table with one letter of image 0 the element 1 is no word's value
+pub no-word : ¬ WordOf W₀ 1
+unfolding computing
+no-word = reached-intro W₀-lawful
+
+-- a rule need not have its elements reached or its marks linked
+pub stray-unreached : ¬ AllReached (stray-rule .morphism)
+stray-unreached r = no-word (r .word-of 1 (omega arith))
+
+pub stray-unlinked : ¬ LinkedOnly (stray-rule .morphism) (marked (stray-rule .marks))
+unfolding computing
+stray-unlinked l =
+    let e : _≡_ {A = ℕ} 0 1 = l .linked 1 0 (omega arith) (omega arith) tt .stays in
+    omega arith
+
+-- a mark of number 1 is in the first level and not in the second, and a pair of number 0 is not marked
+pub not-second-level : ¬ T (level 2 (entry first-mark) 0 0)
+unfolding computing
+not-second-level t = t
+
+pub not-marked : ¬ T (marks first-mark 0 1)
+unfolding computing
+not-marked t = t
+
+-- no lasso: an empty start, an empty cycle, a foreign letter
+pub empty-start : {k : ℕ} {v : List ℕ} → ¬ Lasso k [] v
+empty-start l = omega (arith, l .start-some)
+
+pub empty-cycle : {k : ℕ} {u : List ℕ} → ¬ Lasso k u []
+empty-cycle l = omega (arith, l .cycle-some)
+
+pub foreign-letter : {v : List ℕ} → ¬ Lasso 2 (2 ∷ []) v
+foreign-letter l = go (l .start-over)
+  where
+    go : ¬ Over 2 (2 ∷ [])
+    go (over-cons h o) = omega arith
+
+-- nothing is accepted with no cycle, and nothing under no marks
+pub no-cycle : {m : Morphism} {P : Pairs} {u : List ℕ} → ¬ Accepts m P u []
+no-cycle a = omega (arith, a .cycle-some)
+
+pub no-marks-refuse : {m : Morphism} {u v : List ℕ} → ¬ Accepts m (marks no-marks) u v
+unfolding computing
+no-marks-refuse a = a .is-marked
+
+-- not linked: 1 is not idempotent in Z; in W 1·0 is not 1
+pub not-idempotent : ¬ Linked Z 0 1
+not-idempotent l =
+    let e : _≡_ {A = ℕ} 0 1 = l .idempotent .square in
+    omega arith
+
+pub not-stays : ¬ Linked W 1 0
+not-stays l =
+    let e : _≡_ {A = ℕ} 0 1 = l .stays in
+    omega arith
+
+-- not conjugate in W: (0, 0) and (0, 1), where x·y = 0 and y·x = 1 fail together; (0, 1) and (1, 1), where 0·x is not 1
+pub cycles-apart : ¬ Conjugate W 0 0 0 1
+unfolding computing
+cycles-apart = conjugate-intro
+
+pub starts-apart : ¬ Conjugate W 0 1 1 1
+unfolding computing
+starts-apart = conjugate-intro
+
+-- the least conjugate of the pair (1, 0) of Z is (0, 0), and not the pair itself
+pub Z-least : LeastConjugate Z 1 0 0 0
+unfolding computing
+Z-least = least-elim (Z-sound .lawful) 1 0 0 0 tt
+
+pub Z-not-least : ¬ LeastConjugate Z 1 0 1 0
+unfolding computing
+Z-not-least = least-intro (Z-sound .lawful)
+
+-- the joins are one number
+pub joins-same : {m : Morphism} {c c′ : ℕ} → Joins m c → Joins m c′ → c ≡ c′
+unfolding LinkedPairs Classes
+joins-same j k =
+    let l : j .linked ≡ k .linked = counted-same (j .linked-pairs) (k .linked-pairs) in
+    let d : j .classes ≡ k .classes = counted-same (j .class-count) (k .class-count) in
+    omega (arith, j .difference, k .difference)
+
+-- one number below 3 is 1
+pub count-of-one : {c : ℕ} → Counted (λ i. i ≡ 1) 3 c → c ≡ 1
+count-of-one k =
+    counted-same k (counted-other (λ e. omega arith) (counted-one refl (counted-other (λ e. omega arith) counted-none)))
+
+-- W's marking is not included in the empty one
+pub not-included : ¬ Included W (marks first-mark) (marks no-marks)
+unfolding computing
+not-included i = no-marks-refuse (i .accepted-too (1 ∷ []) (0 ∷ []) (lasso-elim 2 (1 ∷ []) (0 ∷ []) tt) W-accepts)
+
+-- a witness of W has at most 8 letters in its cycle and at most 2 in its start
+pub cycle-too-long : {P P′ : Pairs} {u : List ℕ} → ¬ Witness W P P′ u (0 ∷ 0 ∷ 0 ∷ 0 ∷ 0 ∷ 0 ∷ 0 ∷ 0 ∷ 0 ∷ [])
+cycle-too-long w = omega (arith, w .cycle-short)
+
+pub start-too-long : {P P′ : Pairs} {v : List ℕ} → ¬ Witness W P P′ (0 ∷ 0 ∷ 0 ∷ []) v
+start-too-long w = omega (arith, w .start-short)
+
+-- what the second marking accepts, or the first does not, is no witness
+pub accepted-second : {P : Pairs} → ¬ Witness W P (marks first-mark) (1 ∷ []) (0 ∷ [])
+accepted-second w = w .refused-second W-accepts
+
+pub refused-first : {P : Pairs} → ¬ Witness W (marks first-mark) P (0 ∷ []) (1 ∷ [])
+refused-first w = W-refuses (w .accepted-first)
