@@ -5,6 +5,7 @@ use mathlib.Core.Path.{_≡_, refl}
 use mathlib.Core.Bool.{Bool, not}
 use mathlib.Core.Logic.{_⊎_, inl, inr, _↔_, ⊎-elim, by-cases}
 use mathlib.Core.List.{List}
+use native.Mathlib.Omega.{arith}
 use lib.Dec.{T}
 use Rattle.finite.proofs.Tests.{T-dec, T-not, not-T}
 use Rattle.finite.proofs.Search.{anyBelow, any-intro, any-elim, Found}
@@ -91,8 +92,8 @@ module _ {m : Morphism} (law : Lawful m) {P P′ : Pairs} (linked : LinkedOnly m
         cycle = v .cycle;
         witness = record {
           lasso = lasso-of m (u .over) (e .over) (u .its-value) (e .cycle-value);
-          start-short = u .short;
-          cycle-short = v .short;
+          start-short = omega (arith, u .short);
+          cycle-short = omega (arith, v .short);
           accepted-first = marked-accepted (u .over) (e .over) (u .its-value) (e .cycle-value) (e .is-marked);
           refused-second = λ a. e .no-split
               (accepted-splits law

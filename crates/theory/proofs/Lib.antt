@@ -15,3 +15,11 @@ pub mod Codes
 pub mod ShortWords
 pub mod Comparison
 pub mod Included
+pub mod TableTests
+pub mod Computing
+pub mod SmallRules
+pub mod EveryLasso
+pub mod Examples
+pub mod Exclusions
+pub mod RivalExclusions
+pub mod SmallReductions
