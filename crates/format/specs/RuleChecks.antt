@@ -49,23 +49,23 @@ layoutChecks input bytes =
     ++ sectionChecks (marksSection (elementsOf bytes)) input (marksAt bytes) (drop (marksAt bytes) bytes))
 
 -- 5, then 6
-abbrev pub tableChecks : ℕ → List ℕ → List Check
-tableChecks input bytes =
-    record { refusal = NotAssociative; input = input; Fails = NotAssociativeAt (morphismOf bytes) }
-    ∷ record { refusal = Unreachable; input = input; Fails = UnreachedAt (morphismOf bytes) }
+abbrev pub tableChecks : ℕ → Morphism → List Check
+tableChecks input m =
+    record { refusal = NotAssociative; input = input; Fails = NotAssociativeAt m }
+    ∷ record { refusal = Unreachable; input = input; Fails = UnreachedAt m }
     ∷ []
 
 -- 9
-abbrev pub powerChecks : ℕ → List ℕ → List Check
-powerChecks input bytes = record { refusal = NoIdempotentPower; input = input; Fails = UnsettledAt (morphismOf bytes) } ∷ []
+abbrev pub powerChecks : ℕ → Morphism → List Check
+powerChecks input m = record { refusal = NoIdempotentPower; input = input; Fails = UnsettledAt m } ∷ []
 
 -- 4, then 5, 6, then 7 and 8, then 9
 abbrev pub contentChecks : ℕ → List ℕ → List Check
 contentChecks input bytes =
     trailingCheck input (ruleEnd bytes) bytes
-    ∷ (tableChecks input bytes
+    ∷ (tableChecks input (morphismOf bytes)
     ++ (markChecks input (morphismOf bytes) bytes (marksAt bytes) 0 (marksOf bytes)
-    ++ powerChecks input bytes))
+    ++ powerChecks input (morphismOf bytes)))
 
 -- a rule file, as an input of the given number
 unfoldable pub ruleChecks : ℕ → List ℕ → List Check

@@ -1,0 +1,95 @@
+-- What each way through the checks of a rule file shows. Assumes nothing.
+use Prim.Native.Nat.{ℕ, _+_, _*_, _-_, _≤_, _<_}
+use mathlib.Core.Path.{_≡_, refl, sym, ap, _∙_, subst}
+use mathlib.Core.List.{List, [], _∷_, _++_}
+use native.Mathlib.Omega.{arith}
+use lib.ListN.{length, getD, drop, replicate, length-drop, length-replicate, getD-replicate}
+use Rattle.answer.specs.declared.Refusal.{Refusal}
+use Rattle.answer.specs.declared.Refusal.the-variants.{NotAssociative, Unreachable, TrailingBytes}
+use Rattle.answer.specs.Checks.{Check, Verdict, passed, refused, FirstFailure}
+use Rattle.answer.proofs.Order.{first-passes, first-fails, none-left, refused-before, passed-before}
+use Rattle.sections.specs.declared.Found.{Found}
+use Rattle.sections.specs.declared.Found.the-variants.{At, Nothing}
+use Rattle.theory.specs.Rules.{Morphism, Lawful}
+use Rattle.table.specs.declared.Triple.{Triple}
+use Rattle.table.specs.declared.Triple.the-variants.{At as Triple-at, Nothing as No-triple}
+use Rattle.table.specs.Table.{Table, morphismAt}
+use Rattle.table.specs.TableChecks.{NotAssociativeAt, UnreachedAt}
+use Rattle.table.specs.Answers.{FirstTriple, AllAssociate, TripleAnswer}
+use Rattle.table.proofs.Facts.{table-lawful, first-triple-place, all-associate-none}
+use Rattle.reach.specs.Reach.{Empty, WordOrder, WithoutAnswer, placeAt}
+use Rattle.reach.proofs.Words.{first-unreached, none-without-absurd}
+use Rattle.format.specs.Format.{marksAt, marksOf, ruleEnd, morphismOf}
+use Rattle.format.specs.RuleChecks.{TrailingAt, trailingCheck, tableChecks, markChecks, powerChecks, contentChecks}
+use Rattle.rulefile.specs.declared.Fault.{Fault}
+use Rattle.rulefile.specs.declared.Fault.the-variants.{Nothing as No-fault, Refused}
+use Rattle.rulefile.specs.Answers.{FaultAnswer, reachChecks}
+
+-- a fresh queue has nothing found
+pub blank-queue : Empty (replicate 256 0)
+unfolding placeAt
+blank-queue = record { room = omega (arith, length-replicate {A = ℕ} 256 0); none-found = λ s h. getD-replicate 256 (192 + s) 0 0 (omega arith) }
+
+-- an answer of checks that is known by its case
+module _ (checks : ℕ → List Check) (answer : Fault) (known : FaultAnswer checks answer) where
+  pub no-fault : answer ≡ No-fault → (input : ℕ) → FirstFailure (checks input) passed
+  no-fault e = subst (FaultAnswer checks) e known
+
+  pub fault-refused : {r : Refusal} {place : ℕ} → answer ≡ Refused r place → (input : ℕ) → FirstFailure (checks input) (refused r input place)
+  fault-refused e = subst (FaultAnswer checks) e known
+
+module _ (bytes : List ℕ) (n k : ℕ) (t : Table bytes n k) (all : AllAssociate (morphismAt bytes n k)) {entry exit : List ℕ} {count : ℕ}
+    (order : WordOrder bytes n k entry exit count) (answer : Found) (known : WithoutAnswer exit n answer) where
+  -- an element that no word reaches
+  pub unreached : {s : ℕ} → answer ≡ At s → (input : ℕ) → FirstFailure (reachChecks input (morphismAt bytes n k)) (refused Unreachable input s)
+  unreached e input =
+      first-fails (record { refusal = Unreachable; input = input; Fails = UnreachedAt (morphismAt bytes n k) })
+      (first-unreached order (table-lawful t all) (subst (WithoutAnswer exit n) e known))
+
+  -- every element is reached
+  pub all-reached : answer ≡ Nothing → (input : ℕ) → FirstFailure (reachChecks input (morphismAt bytes n k)) passed
+  all-reached e input =
+      first-passes (record { nowhere = λ place u. none-without-absurd order (table-lawful t all) (subst (WithoutAnswer exit n) e known) u }) none-left
+
+module _ (bytes : List ℕ) (n k : ℕ) (answer : Triple) (known : TripleAnswer bytes n k answer) where
+  pub triple-at : {a b c : ℕ} → answer ≡ Triple-at a b c → FirstTriple (morphismAt bytes n k) a b c
+  triple-at e = subst (TripleAnswer bytes n k) e known
+
+  pub triple-none : answer ≡ No-triple → AllAssociate (morphismAt bytes n k)
+  triple-none e = subst (TripleAnswer bytes n k) e known
+
+-- a triple that does not associate
+pub not-associative : {m : Morphism} {a b c : ℕ} → FirstTriple m a b c → (input : ℕ) → FirstFailure (tableChecks input m) (refused NotAssociative input (a * 4096 + b * 64 + c))
+not-associative {m} f input =
+    first-fails (record { refusal = NotAssociative; input = input; Fails = NotAssociativeAt m }) (first-triple-place f)
+
+-- after an associative table the reached elements decide
+pub associative : (m : Morphism) (answer : Fault) → AllAssociate m → FaultAnswer (λ input. reachChecks input m) answer → FaultAnswer (λ input. tableChecks input m) answer
+associative m No-fault all f = λ input. first-passes (record { nowhere = λ place u. all-associate-none all u }) (f input)
+associative m (Refused r place) all f = λ input. first-passes (record { nowhere = λ place u. all-associate-none all u }) (f input)
+
+-- the checks after the sections
+module _ (bytes : List ℕ) where
+  pub trailing : {end : ℕ} → end ≡ ruleEnd bytes → 0 < length (drop end bytes) → (input : ℕ) → FirstFailure (contentChecks input bytes) (refused TrailingBytes input end)
+  trailing {end} e h input =
+      first-fails (trailingCheck input (ruleEnd bytes) bytes) (record { longer = omega (arith, length-drop end bytes, e); is-place = e })
+
+  module _ {end : ℕ} (e : end ≡ ruleEnd bytes) (h : length (drop end bytes) ≤ 0) where
+    nothing-follows : (input : ℕ) {v : Verdict} → FirstFailure (tableChecks input (morphismOf bytes) ++ (markChecks input (morphismOf bytes) bytes (marksAt bytes) 0 (marksOf bytes) ++ powerChecks input (morphismOf bytes))) v
+        → FirstFailure (contentChecks input bytes) v
+    nothing-follows input f =
+        first-passes (record { nowhere = λ place t. omega (arith, length-drop end bytes, e, t .longer) }) f
+
+    pub table-refuses : {r : Refusal} {place : ℕ} → ((input : ℕ) → FirstFailure (tableChecks input (morphismOf bytes)) (refused r input place))
+        → (input : ℕ) → FirstFailure (contentChecks input bytes) (refused r input place)
+    table-refuses f input = nothing-follows input (refused-before _ _ (f input))
+
+    module _ (table : (input : ℕ) → FirstFailure (tableChecks input (morphismOf bytes)) passed) where
+      pub marks-refuse : {r : Refusal} {place : ℕ} → ((input : ℕ) → FirstFailure (markChecks input (morphismOf bytes) bytes (marksAt bytes) 0 (marksOf bytes)) (refused r input place))
+          → (input : ℕ) → FirstFailure (contentChecks input bytes) (refused r input place)
+      marks-refuse f input = nothing-follows input (passed-before _ _ (table input) (refused-before _ _ (f input)))
+
+      pub powers-decide : ((input : ℕ) → FirstFailure (markChecks input (morphismOf bytes) bytes (marksAt bytes) 0 (marksOf bytes)) passed)
+          → (answer : Fault) → FaultAnswer (λ input. powerChecks input (morphismOf bytes)) answer → FaultAnswer (λ input. contentChecks input bytes) answer
+      powers-decide marks No-fault f = λ input. nothing-follows input (passed-before _ _ (table input) (passed-before _ _ (marks input) (f input)))
+      powers-decide marks (Refused r place) f = λ input. nothing-follows input (passed-before _ _ (table input) (passed-before _ _ (marks input) (f input)))

@@ -1,0 +1,225 @@
+// The rule file: every check of document 01, in its order. The bytes are read where they are lent; a checked rule leaves its
+// marks in scratch, a byte for each pair.
+use answer::Refusal;
+use layout::Layout;
+use layout::Shape;
+use layout::read_layout;
+use reach::least_without;
+use reach::reach;
+use sections::Found;
+use sections::zero;
+use table::Power;
+use table::Triple;
+use table::first_not_associative;
+use table::idempotent_power;
+use table::product;
+ghost use mathlib.Core.Path.{_≡_};
+ghost use Prim.Native.Nat.{_<_, _≤_};
+ghost use lib.ListN.{length, drop};
+ghost use Rattle.table.specs.Table.{Table, morphismAt};
+ghost use Rattle.table.specs.Answers.{AllAssociate};
+ghost use Rattle.format.specs.Format.{ruleEnd};
+ghost use Rattle.format.specs.RuleChecks.{tableChecks, markChecks, powerChecks, contentChecks};
+ghost use Rattle.layout.specs.Answers.{LayoutPassed};
+ghost use Rattle.rulefile.specs.Answers.{FaultAnswer, LinkedAnswer, MarksRoom, MarksAnswer, reachChecks, Blank, ContentAnswer, CheckPromise};
+
+// The first check that fails, of some that are tried in a row.
+pub enum Fault {
+    Nothing,
+    Refused { refusal: Refusal, place: usize },
+}
+
+// Whether every element is some word's value.
+fn reach_fault(rule: &[u8], n: usize, k: usize) -> Fault
+    requires { ⌜ Table (now rule) n k ⌝ }
+    requires { ⌜ AllAssociate (morphismAt (now rule) n k) ⌝ }
+    ensures { λ r. ⌜ FaultAnswer (λ input. reachChecks input (morphismAt (now (rule .entry)) n k)) r ⌝ }
+{
+    let mut queue = [0u8; 256];
+    reach(rule, n, k, &mut queue);
+    match least_without(&queue, n) {
+        Found::At(s) => Fault::Refused {
+            refusal: Refusal::Unreachable,
+            place: s,
+        },
+        Found::Nothing => Fault::Nothing,
+    }
+}
+
+// Whether the table associates, and then whether every element is some word's value.
+fn table_fault(rule: &[u8], n: usize, k: usize) -> Fault
+    requires { ⌜ Table (now rule) n k ⌝ }
+    ensures { λ r. ⌜ FaultAnswer (λ input. tableChecks input (morphismAt (now (rule .entry)) n k)) r ⌝ }
+{
+    match first_not_associative(rule, n, k) {
+        Triple::At(a, b, c) => Fault::Refused {
+            refusal: Refusal::NotAssociative,
+            place: a * 4096 + b * 64 + c,
+        },
+        Triple::Nothing => reach_fault(rule, n, k),
+    }
+}
+
+// Whether a pair of elements is linked.
+pub fn linked(rule: &[u8], n: usize, k: usize, s: usize, e: usize) -> bool
+    requires { ⌜ Table (now rule) n k ⌝ }
+    requires { ⌜ (s < n) × (e < n) ⌝ }
+    ensures { λ r. ⌜ LinkedAnswer (morphismAt (now (rule .entry)) n k) s e r ⌝ }
+{
+    let square = product(rule, n, e, e);
+    if square != e {
+        return false;
+    }
+    let kept = product(rule, n, s, e);
+    if kept != s {
+        return false;
+    }
+    true
+}
+
+// Goes through the marks of the section at byte `at`, in file order: each is linked and new. A byte of the table for each pair
+// remembers which pairs have stood.
+pub fn mark_fault(
+    rule: &[u8],
+    n: usize,
+    k: usize,
+    bytes: &[u8],
+    at: usize,
+    count: usize,
+    table: &mut [u8],
+) -> Fault
+    requires { ⌜ Table (now rule) n k ⌝ }
+    requires { ⌜ MarksRoom (now bytes) at count n (now table) ⌝ }
+    ensures verdict { λ r. ⌜ FaultAnswer (λ input. markChecks input (morphismAt (now (rule .entry)) n k) (now (bytes .entry)) at 0 count) r ⌝ }
+    ensures laid { λ r. ⌜ MarksAnswer (morphismAt (now (rule .entry)) n k) (now (bytes .entry)) at count (now (table .entry)) (now (table .exit)) r ⌝ }
+{
+    for i in 0..count {
+        let place = at + (2 + 2 * i);
+        let s = bytes[place] as usize;
+        let e = bytes[place + 1] as usize;
+        if !linked(rule, n, k, s, e) {
+            return Fault::Refused {
+                refusal: Refusal::NotLinked,
+                place,
+            };
+        }
+        if table[s * 64 + e] != 0 {
+            return Fault::Refused {
+                refusal: Refusal::Duplicate,
+                place,
+            };
+        }
+        table[s * 64 + e] = 1;
+    }
+    Fault::Nothing
+}
+
+// Whether each element has an idempotent power with an exponent up to n.
+fn power_fault(rule: &[u8], n: usize, k: usize) -> Fault
+    requires { ⌜ Table (now rule) n k ⌝ }
+    ensures { λ r. ⌜ FaultAnswer (λ input. powerChecks input (morphismAt (now (rule .entry)) n k)) r ⌝ }
+{
+    for x in 0..n {
+        match idempotent_power(rule, n, k, x) {
+            Power::Idempotent {
+                element: _,
+                exponent: _,
+            } => {}
+            Power::Nothing => {
+                return Fault::Refused {
+                    refusal: Refusal::NoIdempotentPower,
+                    place: x,
+                };
+            }
+        }
+    }
+    Fault::Nothing
+}
+
+// What follows the last section of a rule file.
+fn rest_after(rule: &[u8], end: usize) -> &[u8]
+    requires { ⌜ end ≤ length (now rule) ⌝ }
+    ensures { λ r. ⌜ now r ≡ drop end (now (rule .entry)) ⌝ }
+{
+    &rule[end..]
+}
+
+// The checks of a file whose sections are there: nothing follows, the table, the marks, the powers.
+fn content_fault(rule: &[u8], shape: Shape, scratch: &mut [u8]) -> Fault
+    requires { ⌜ LayoutPassed (now rule) shape ⌝ }
+    requires { ⌜ Blank (now scratch) ⌝ }
+    ensures verdict { λ r. ⌜ FaultAnswer (λ input. contentChecks input (now (rule .entry))) r ⌝ }
+    ensures marks { λ r. ⌜ ContentAnswer (now (rule .entry)) (now (scratch .entry)) (now (scratch .exit)) r ⌝ }
+{
+    let n = shape.elements;
+    let k = shape.letters;
+    let count = shape.marks;
+    let marks_at = 1 + n * n + (1 + k);
+    let end = marks_at + (2 + 2 * count);
+    let rest = rest_after(rule, end);
+    if 0 < rest.len() {
+        return Fault::Refused {
+            refusal: Refusal::TrailingBytes,
+            place: end,
+        };
+    }
+    match table_fault(rule, n, k) {
+        Fault::Nothing => {}
+        Fault::Refused { refusal, place } => {
+            return Fault::Refused { refusal, place };
+        }
+    }
+    match mark_fault(rule, n, k, rule, marks_at, count, scratch) {
+        Fault::Nothing => {}
+        Fault::Refused { refusal, place } => {
+            return Fault::Refused { refusal, place };
+        }
+    }
+    power_fault(rule, n, k)
+}
+
+// A checked rule's counts, or the first check that fails, in the input of the given number.
+pub enum Checked {
+    Rule(Shape),
+    Refused {
+        refusal: Refusal,
+        input: usize,
+        place: usize,
+    },
+}
+
+// Every check of a rule file that is the input of the given number. Scratch is then zeros, or, of a checked rule, holds its
+// marks, a byte for each pair, and nothing else.
+pub fn check(rule: &[u8], input: usize, scratch: &mut [u8]) -> Checked
+    ensures { λ r. ⌜ CheckPromise input (now (rule .entry)) (now (scratch .entry)) (now (scratch .exit)) r ⌝ }
+{
+    if scratch.len() < 65536 {
+        return Checked::Refused {
+            refusal: Refusal::BufferTooShort,
+            input: 1,
+            place: 0,
+        };
+    }
+    zero(scratch);
+    let shape = match read_layout(rule) {
+        Layout::Read(shape) => shape,
+        Layout::Refused { refusal, place } => {
+            return Checked::Refused {
+                refusal,
+                input,
+                place,
+            };
+        }
+    };
+    match content_fault(rule, shape, scratch) {
+        Fault::Nothing => Checked::Rule(shape),
+        Fault::Refused { refusal, place } => {
+            zero(scratch);
+            Checked::Refused {
+                refusal,
+                input,
+                place,
+            }
+        }
+    }
+}
