@@ -1,0 +1,128 @@
+-- What each way through the preparation of a call shows: the rule's checks, then the monitor's values. Assumes nothing.
+use Prim.Native.Nat.{ℕ, _≤_, _<_}
+use mathlib.Core.Path.{_≡_, refl, sym, ap, _∙_, subst}
+use mathlib.Core.Bool.{Bool, true, false}
+use mathlib.Core.Logic.{_⊎_, inl, inr, ⊎-elim}
+use mathlib.Core.List.{List, [], _∷_, _++_}
+use native.Mathlib.Omega.{arith}
+use lib.ListN.{length, replicate, length-replicate}
+use Rattle.answer.specs.declared.Refusal.{Refusal}
+use Rattle.answer.specs.declared.Refusal.the-variants.{EntryOutOfRange, UnknownLetter}
+use Rattle.answer.specs.Checks.{Check, passed, refused, FirstFailure}
+use Rattle.answer.proofs.Order.{first-passes, first-fails, none-left, refused-before, passed-before, passed-first, passed-last, passes-head, passes-tail}
+use Rattle.table.specs.Table.{Table}
+use Rattle.format.specs.Format.{elementsOf, lettersOf}
+use Rattle.format.specs.RuleChecks.{ruleChecks, layoutChecks, contentChecks, scratchSize, bufferCheck}
+use Rattle.layout.specs.declared.Shape.{Shape}
+use Rattle.layout.specs.Answers.{IsShape}
+use Rattle.rulefile.specs.declared.Checked.{Checked}
+use Rattle.rulefile.specs.declared.Checked.the-variants.{Rule, Refused}
+use Rattle.rulefile.specs.Answers.{CheckPromise, RuleChecked, checkedChecks, afterRefusal}
+use Rattle.rulefile.proofs.Promise.{zeros-after}
+use Rattle.rulefile.proofs.Passed.{table-of}
+use Rattle.monitor.specs.declared.Monitor.{Monitor}
+use Rattle.monitor.specs.declared.Ready.{Ready}
+use Rattle.monitor.specs.declared.Ready.the-variants.{Rule as Ready-rule, Refused as Not-ready}
+use Rattle.monitor.specs.Monitor.{IsStray, StrayAt}
+use Rattle.monitor.specs.Promises.{GoodNumber, StrayAnswer, monitorChecks, ReadyPromise}
+use Rattle.monitor.proofs.Numbers.{not-stray, good-not-stray}
+
+-- a rule that passed its checks
+module _ (bytes entry : List ℕ) (all : FirstFailure (checkedChecks 1 bytes entry) passed) where
+  -- scratch had its size
+  pub scratch-long : scratchSize ≤ length entry
+  scratch-long =
+      let f : length entry < scratchSize → ⊥ = λ h. passes-head all .nowhere 0 (record { short = h; is-place = refl }) in
+      omega arith
+
+  pub layout-passed : FirstFailure (layoutChecks 1 bytes) passed
+  unfolding ruleChecks
+  layout-passed = passed-first (layoutChecks 1 bytes) (contentChecks 1 bytes) (passes-tail all)
+
+  -- the table, by the counts that were read
+  pub table-read : {shape : Shape} → IsShape bytes shape → Table bytes (shape .elements) (shape .letters)
+  table-read {shape} s =
+      subst (λ (x : ℕ). Table bytes x (shape .letters)) (sym (s .elements))
+      (subst (λ (x : ℕ). Table bytes (elementsOf bytes) x) (sym (s .letters)) (table-of bytes layout-passed))
+
+  -- zeros over the whole length are what a call leaves
+  pub zeros-left : (mid exit : List ℕ) → length mid ≡ length entry → exit ≡ replicate (length mid) 0 → exit ≡ afterRefusal entry
+  zeros-left mid exit e z = z ∙ ap (λ (x : ℕ). replicate x 0) e ∙ zeros-after entry scratch-long
+
+-- the check's answer, known by its case
+module _ (input : ℕ) (bytes entry exit : List ℕ) (answer : Checked) (known : CheckPromise input bytes entry exit answer) where
+  pub checked-rule : {shape : Shape} → answer ≡ Rule shape → CheckPromise input bytes entry exit (Rule shape)
+  checked-rule e = subst (CheckPromise input bytes entry exit) e known
+
+  pub checked-refused : {r : Refusal} {i place : ℕ} → answer ≡ Refused r i place → CheckPromise input bytes entry exit (Refused r i place)
+  checked-refused e = subst (CheckPromise input bytes entry exit) e known
+
+-- the marks in scratch keep its length
+pub checked-length : {bytes entry exit : List ℕ} {shape : Shape} → RuleChecked bytes shape entry exit → length exit ≡ length entry
+checked-length {entry = entry} r = r .marks .same-length ∙ length-replicate (length entry) 0
+
+module _ (bytes : List ℕ) (f : Monitor) (entry : List ℕ) where
+  abbrev stray-check : Check
+  stray-check = record { refusal = EntryOutOfRange; input = 1; Fails = StrayAt (elementsOf bytes) f }
+
+  -- the rule is refused
+  pub rule-refused : {exit : List ℕ} {r : Refusal} {i place : ℕ} → CheckPromise 1 bytes entry exit (Refused r i place) → ReadyPromise bytes f entry exit (Not-ready r i place)
+  rule-refused p = record { verdict = refused-before _ _ (p .verdict); shape = tt; scratch = p .scratch }
+
+  module _ {shape : Shape} (mid exit : List ℕ) (p : CheckPromise 1 bytes entry mid (Rule shape)) (z : exit ≡ replicate (length mid) 0) where
+    left : exit ≡ afterRefusal entry
+    left = zeros-left bytes entry (p .verdict) mid exit (checked-length (p .scratch)) z
+
+    -- a value of the monitor is stray
+    pub monitor-stray : IsStray (shape .elements) (f .before) ⊎ IsStray (shape .elements) (f .since) → ReadyPromise bytes f entry exit (Not-ready EntryOutOfRange 1 0)
+    monitor-stray s = record {
+      verdict =
+          passed-before _ _ (p .verdict)
+          (first-fails stray-check
+          (record { stray = subst (λ (x : ℕ). IsStray x (f .before) ⊎ IsStray x (f .since)) (p .scratch .shape-is .elements) s; is-place = refl }));
+      shape = tt;
+      scratch = left;
+    }
+
+    -- both are good
+    pub monitor-good : GoodNumber (shape .elements) (f .before) → GoodNumber (shape .elements) (f .since) → ReadyPromise bytes f entry exit (Ready-rule shape)
+    monitor-good b s = record {
+      verdict = passed-before _ _ (p .verdict) (first-passes (record { nowhere = λ place t. none (t .stray) }) none-left);
+      shape = p .scratch .shape-is;
+      scratch = left;
+    }
+      where
+        none : IsStray (elementsOf bytes) (f .before) ⊎ IsStray (elementsOf bytes) (f .since) → ⊥
+        none (inl i) = good-not-stray (shape .elements) (f .before) b (subst (λ (x : ℕ). IsStray x (f .before)) (sym (p .scratch .shape-is .elements)) i)
+        none (inr i) = good-not-stray (shape .elements) (f .since) s (subst (λ (x : ℕ). IsStray x (f .since)) (sym (p .scratch .shape-is .elements)) i)
+
+-- the answer of a test for stray values
+pub said-stray : (n s : ℕ) (b : Bool) → StrayAnswer n s b → b ≡ true → IsStray n s
+said-stray n s b k e = subst (StrayAnswer n s) e k
+
+pub said-good : (n s : ℕ) (b : Bool) → StrayAnswer n s b → b ≡ false → GoodNumber n s
+said-good n s b k e = subst (StrayAnswer n s) e k
+
+-- what a ready rule is known to be
+module _ (bytes : List ℕ) (f : Monitor) (entry exit : List ℕ) {shape : Shape} (p : ReadyPromise bytes f entry exit (Ready-rule shape)) where
+  pub rule-passed : FirstFailure (checkedChecks 1 bytes entry) passed
+  rule-passed = passed-first (checkedChecks 1 bytes entry) _ (p .verdict)
+
+  pub ready-table : Table bytes (shape .elements) (shape .letters)
+  ready-table = table-read bytes entry rule-passed (p .shape)
+
+  unstray : IsStray (elementsOf bytes) (f .before) ⊎ IsStray (elementsOf bytes) (f .since) → ⊥
+  unstray s = passes-head (passed-last (checkedChecks 1 bytes entry) _ (p .verdict)) .nowhere 0 (record { stray = s; is-place = refl })
+
+  pub ready-before : GoodNumber (shape .elements) (f .before)
+  ready-before = not-stray (shape .elements) (f .before) (λ i. unstray (inl (subst (λ (x : ℕ). IsStray x (f .before)) (p .shape .elements) i)))
+
+  pub ready-since : GoodNumber (shape .elements) (f .since)
+  ready-since = not-stray (shape .elements) (f .since) (λ i. unstray (inr (subst (λ (x : ℕ). IsStray x (f .since)) (p .shape .elements) i)))
+
+module _ (bytes : List ℕ) (f : Monitor) (entry exit : List ℕ) (answer : Ready) (known : ReadyPromise bytes f entry exit answer) where
+  pub ready-said : {shape : Shape} → answer ≡ Ready-rule shape → ReadyPromise bytes f entry exit (Ready-rule shape)
+  ready-said e = subst (ReadyPromise bytes f entry exit) e known
+
+  pub not-ready : {r : Refusal} {i place : ℕ} → answer ≡ Not-ready r i place → ReadyPromise bytes f entry exit (Not-ready r i place)
+  not-ready e = subst (ReadyPromise bytes f entry exit) e known

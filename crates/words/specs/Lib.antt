@@ -1,0 +1,2 @@
+pub mod WordChecks
+pub mod Answers

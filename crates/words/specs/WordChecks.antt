@@ -1,0 +1,35 @@
+-- The checks 10 and 11 of the words of a call. Document 01, "Order of the checks". Assumes nothing.
+use Prim.Native.Nat.{ℕ, _+_, _≤_, _<_}
+use mathlib.Core.Path.{_≡_}
+use mathlib.Core.Logic.{_⊎_}
+use mathlib.Core.List.{List, [], _∷_}
+use lib.ListN.{length, getD}
+use Rattle.answer.specs.declared.Refusal.the-variants.{UnknownLetter, WordLength}
+use Rattle.answer.specs.Checks.{Check}
+
+-- "calls take 1 to 4,224 letters of each"
+abbrev pub shortestWord : ℕ
+shortestWord = 1
+
+abbrev pub longestWord : ℕ
+longestWord = 4224
+
+-- 11 "u or v is outside 1 to 4,224"; place 0
+pub record LengthOutAt (w : List ℕ) (place : ℕ) : Type 0 where
+  pub outside : (length w < shortestWord) ⊎ (longestWord < length w)
+  pub is-place : place ≡ 0
+
+-- 10 "a word .. has a letter of k or more"; place "its position", the first
+pub record ForeignAt (k : ℕ) (w : List ℕ) (place : ℕ) : Type 0 where
+  pub inside : place < length w
+  pub foreign : k ≤ getD w place 0
+  pub first : (i : ℕ) → i < place → getD w i 0 < k
+
+-- "11 for u, then v, .. 10 in u then v"; "for 10 and 11 in a word, 1 for u and 2 for v"
+abbrev pub lassoChecks : ℕ → List ℕ → List ℕ → List Check
+lassoChecks k u v =
+    record { refusal = WordLength; input = 1; Fails = LengthOutAt u }
+    ∷ record { refusal = WordLength; input = 2; Fails = LengthOutAt v }
+    ∷ record { refusal = UnknownLetter; input = 1; Fails = ForeignAt k u }
+    ∷ record { refusal = UnknownLetter; input = 2; Fails = ForeignAt k v }
+    ∷ []
