@@ -101,6 +101,11 @@ pub data AllSingle : List Check → Type 1 where
   single-nil : AllSingle []
   single-cons : {c : Check} {checks : List Check} → Single c → AllSingle checks → AllSingle (c ∷ checks)
 
+-- so do the checks of two such lists in a row
+pub single-append : {before after : List Check} → AllSingle before → AllSingle after → AllSingle (before ++ after)
+single-append single-nil b = b
+single-append (single-cons s a) b = single-cons s (single-append a b)
+
 -- there is one verdict only
 pub one-verdict : {checks : List Check} {v w : Verdict} → AllSingle checks → FirstFailure checks v → FirstFailure checks w → v ≡ w
 unfolding firstOf

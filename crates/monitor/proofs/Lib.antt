@@ -1,3 +1,5 @@
 pub mod Numbers
 pub mod Prepared
 pub mod Moves
+pub mod InPlace
+pub mod Histories

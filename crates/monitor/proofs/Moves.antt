@@ -12,7 +12,7 @@ use Rattle.theory.specs.Rules.{Morphism, Value, element, join}
 use Rattle.table.specs.Table.{Table, morphismAt, imageAt}
 use Rattle.format.specs.Format.{elementsOf, lettersOf, morphismOf}
 use Rattle.layout.specs.declared.Shape.{Shape}
-use Rattle.layout.specs.Answers.{IsShape}
+use Rattle.rulefile.proofs.Calls.{shape-morphism}
 use Rattle.monitor.specs.declared.Monitor.{Monitor}
 use Rattle.monitor.specs.declared.Ready.the-variants.{Rule, Refused as Not-ready}
 use Rattle.monitor.specs.declared.Moved.the-variants.{To, Refused}
@@ -20,10 +20,6 @@ use Rattle.monitor.specs.Monitor.{noValue, valueOf, numberFor, LoneForei
 use Rattle.monitor.specs.Promises.{GoodNumber, joinAt, monitorChecks, ReadyPromise, EventPromise, MarkPromise}
 use Rattle.monitor.proofs.Numbers.{value-element}
 use Rattle.monitor.proofs.Prepared.{ready-table}
-
--- the morphism by the counts that were read is that of the file
-morphism-is : {bytes : List ℕ} {shape : Shape} → IsShape bytes shape → morphismAt bytes (shape .elements) (shape .letters) ≡ morphismOf bytes
-morphism-is {bytes} {shape} s = ap (λ (x : ℕ). morphismAt bytes x (shape .letters)) (s .elements) ∙ ap (morphismAt bytes (elementsOf bytes)) (s .letters)
 
 module _ (bytes : List ℕ) (f : Monitor) (letter : ℕ) (entry exit : List ℕ) where
   abbrev letter-check : Check
@@ -53,7 +49,7 @@ module _ (bytes : List ℕ) (f : Monitor) (letter : ℕ) (entry exit : List ℕ)
     unfolding joinAt afterEvent
     since-is h =
         ap (λ (x : Value). numberFor (join (morphismAt bytes (shape .elements) (shape .letters)) (valueOf (f .since)) x)) (value-element (image-element h))
-        ∙ ap (λ (m : Morphism). numberFor (join m (valueOf (f .since)) (element (m .image letter)))) (morphism-is (p .shape))
+        ∙ ap (λ (m : Morphism). numberFor (join m (valueOf (f .since)) (element (m .image letter)))) (shape-morphism (p .shape))
 
     -- the event moves since
     pub event-moved : {h next : ℕ} → letter < shape .letters → h ≡ imageAt bytes (shape .elements) letter → next ≡ joinAt bytes (shape .elements) (shape .letters) (f .since) h
@@ -79,6 +75,6 @@ module _ (bytes : List ℕ) (f : Monitor) (entry exit : List ℕ) where
     verdict = p .verdict;
     monitor =
         ap (λ (x : ℕ). let g : Monitor = record { before = x; since = noValue } in g)
-        (n ∙ ap (λ (m : Morphism). numberFor (join m (valueOf (f .before)) (valueOf (f .since)))) (morphism-is (p .shape)));
+        (n ∙ ap (λ (m : Morphism). numberFor (join m (valueOf (f .before)) (valueOf (f .since)))) (shape-morphism (p .shape)));
     scratch = p .scratch;
   }

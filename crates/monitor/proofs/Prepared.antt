@@ -12,54 +12,16 @@ use Rattle.answer.specs.Checks.{Check, passed, refused, FirstFailure}
 use Rattle.answer.proofs.Order.{first-passes, first-fails, none-left, refused-before, passed-before, passed-first, passed-last, passes-head, passes-tail}
 use Rattle.table.specs.Table.{Table}
 use Rattle.format.specs.Format.{elementsOf, lettersOf}
-use Rattle.format.specs.RuleChecks.{ruleChecks, layoutChecks, contentChecks, scratchSize, bufferCheck}
 use Rattle.layout.specs.declared.Shape.{Shape}
-use Rattle.layout.specs.Answers.{IsShape}
-use Rattle.rulefile.specs.declared.Checked.{Checked}
 use Rattle.rulefile.specs.declared.Checked.the-variants.{Rule, Refused}
-use Rattle.rulefile.specs.Answers.{CheckPromise, RuleChecked, checkedChecks, afterRefusal}
-use Rattle.rulefile.proofs.Promise.{zeros-after}
-use Rattle.rulefile.proofs.Passed.{table-of}
+use Rattle.rulefile.specs.Answers.{CheckPromise, checkedChecks, afterRefusal}
+use Rattle.rulefile.proofs.Calls.{zeros-left, checked-length, called-good, shape-table}
 use Rattle.monitor.specs.declared.Monitor.{Monitor}
 use Rattle.monitor.specs.declared.Ready.{Ready}
 use Rattle.monitor.specs.declared.Ready.the-variants.{Rule as Ready-rule, Refused as Not-ready}
 use Rattle.monitor.specs.Monitor.{IsStray, StrayAt}
 use Rattle.monitor.specs.Promises.{GoodNumber, StrayAnswer, monitorChecks, ReadyPromise}
 use Rattle.monitor.proofs.Numbers.{not-stray, good-not-stray}
-
--- a rule that passed its checks
-module _ (bytes entry : List ℕ) (all : FirstFailure (checkedChecks 1 bytes entry) passed) where
-  -- scratch had its size
-  pub scratch-long : scratchSize ≤ length entry
-  scratch-long =
-      let f : length entry < scratchSize → ⊥ = λ h. passes-head all .nowhere 0 (record { short = h; is-place = refl }) in
-      omega arith
-
-  pub layout-passed : FirstFailure (layoutChecks 1 bytes) passed
-  unfolding ruleChecks
-  layout-passed = passed-first (layoutChecks 1 bytes) (contentChecks 1 bytes) (passes-tail all)
-
-  -- the table, by the counts that were read
-  pub table-read : {shape : Shape} → IsShape bytes shape → Table bytes (shape .elements) (shape .letters)
-  table-read {shape} s =
-      subst (λ (x : ℕ). Table bytes x (shape .letters)) (sym (s .elements))
-      (subst (λ (x : ℕ). Table bytes (elementsOf bytes) x) (sym (s .letters)) (table-of bytes layout-passed))
-
-  -- zeros over the whole length are what a call leaves
-  pub zeros-left : (mid exit : List ℕ) → length mid ≡ length entry → exit ≡ replicate (length mid) 0 → exit ≡ afterRefusal entry
-  zeros-left mid exit e z = z ∙ ap (λ (x : ℕ). replicate x 0) e ∙ zeros-after entry scratch-long
-
--- the check's answer, known by its case
-module _ (input : ℕ) (bytes entry exit : List ℕ) (answer : Checked) (known : CheckPromise input bytes entry exit answer) where
-  pub checked-rule : {shape : Shape} → answer ≡ Rule shape → CheckPromise input bytes entry exit (Rule shape)
-  checked-rule e = subst (CheckPromise input bytes entry exit) e known
-
-  pub checked-refused : {r : Refusal} {i place : ℕ} → answer ≡ Refused r i place → CheckPromise input bytes entry exit (Refused r i place)
-  checked-refused e = subst (CheckPromise input bytes entry exit) e known
-
--- the marks in scratch keep its length
-pub checked-length : {bytes entry exit : List ℕ} {shape : Shape} → RuleChecked bytes shape entry exit → length exit ≡ length entry
-checked-length {entry = entry} r = r .marks .same-length ∙ length-replicate (length entry) 0
 
 module _ (bytes : List ℕ) (f : Monitor) (entry : List ℕ) where
   abbrev stray-check : Check
@@ -71,7 +33,7 @@ module _ (bytes : List ℕ) (f : Monitor) (entry : List ℕ) where
 
   module _ {shape : Shape} (mid exit : List ℕ) (p : CheckPromise 1 bytes entry mid (Rule shape)) (z : exit ≡ replicate (length mid) 0) where
     left : exit ≡ afterRefusal entry
-    left = zeros-left bytes entry (p .verdict) mid exit (checked-length (p .scratch)) z
+    left = zeros-left 1 bytes entry (p .verdict) mid exit (checked-length (p .scratch)) z
 
     -- a value of the monitor is stray
     pub monitor-stray : IsStray (shape .elements) (f .before) ⊎ IsStray (shape .elements) (f .since) → ReadyPromise bytes f entry exit (Not-ready EntryOutOfRange 1 0)
@@ -109,7 +71,7 @@ module _ (bytes : List ℕ) (f : Monitor) (entry exit : List ℕ) {shape : Shape
   rule-passed = passed-first (checkedChecks 1 bytes entry) _ (p .verdict)
 
   pub ready-table : Table bytes (shape .elements) (shape .letters)
-  ready-table = table-read bytes entry rule-passed (p .shape)
+  ready-table = shape-table (p .shape) (called-good 1 bytes entry rule-passed .table)
 
   unstray : IsStray (elementsOf bytes) (f .before) ⊎ IsStray (elementsOf bytes) (f .since) → ⊥
   unstray s = passes-head (passed-last (checkedChecks 1 bytes entry) _ (p .verdict)) .nowhere 0 (record { stray = s; is-place = refl })

@@ -1,2 +1,4 @@
 pub mod Monitor
 pub mod Promises
+pub mod InPlace
+pub mod Histories

@@ -4,13 +4,11 @@ use mathlib.Core.Path.{_≡_}
 use mathlib.Core.Bool.{Bool, true, false}
 use mathlib.Core.Logic.{_⊎_}
 use mathlib.Core.List.{List, [], _∷_, _++_}
-use Rattle.answer.specs.declared.Refusal.{Refusal}
 use Rattle.answer.specs.declared.Refusal.the-variants.{EntryOutOfRange, UnknownLetter}
 use Rattle.answer.specs.Checks.{Check, Verdict, passed, refused, FirstFailure}
-use Rattle.theory.specs.Rules.{Morphism, join}
+use Rattle.theory.specs.Rules.{join}
 use Rattle.table.specs.Table.{morphismAt}
 use Rattle.format.specs.Format.{elementsOf, lettersOf, morphismOf}
-use Rattle.layout.specs.declared.Shape.{Shape}
 use Rattle.layout.specs.Answers.{IsShape}
 use Rattle.rulefile.specs.Answers.{checkedChecks, afterRefusal}
 use Rattle.monitor.specs.declared.Monitor.{Monitor}

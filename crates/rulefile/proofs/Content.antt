@@ -1,16 +1,16 @@
 -- The counts that a layout hands on, and what the checks of the contents say in terms of them. Assumes nothing.
 use Prim.Native.Nat.{ℕ, _+_, _*_, _≤_, _<_}
-use mathlib.Core.Path.{_≡_, refl, sym, ap, _∙_, subst}
-use mathlib.Core.List.{List, _++_}
+use mathlib.Core.Path.{_≡_, sym, ap, _∙_, subst}
+use mathlib.Core.List.{List}
 use native.Mathlib.Omega.{arith}
 use native.Mathlib.Nat.{mul-le-mul}
-use lib.ListN.{length, getD, replicate, getD-replicate}
+use lib.ListN.{length, getD, getD-replicate}
 use Rattle.answer.specs.declared.Refusal.{Refusal}
-use Rattle.answer.specs.Checks.{Check, passed, refused, FirstFailure}
+use Rattle.answer.specs.Checks.{passed, FirstFailure}
 use Rattle.theory.specs.Rules.{Morphism}
 use Rattle.table.specs.Table.{Table, morphismAt}
-use Rattle.format.specs.Format.{elementsOf, lettersAt, lettersOf, marksAt, marksOf, ruleEnd, morphismOf, markStart, markCycle, marksIn, markingOf}
-use Rattle.format.specs.RuleChecks.{layoutChecks, tableChecks, markChecks, powerChecks, contentChecks}
+use Rattle.format.specs.Format.{elementsOf, lettersAt, marksAt, marksOf, ruleEnd, morphismOf, markStart, markCycle, marksIn, markingOf}
+use Rattle.format.specs.RuleChecks.{layoutChecks, tableChecks, markChecks, powerChecks}
 use Rattle.layout.specs.declared.Shape.{Shape}
 use Rattle.layout.specs.Answers.{LayoutPassed}
 use Rattle.rulefile.specs.declared.Fault.{Fault}

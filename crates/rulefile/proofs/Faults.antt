@@ -1,16 +1,16 @@
 -- What each way through the checks of a rule file shows. Assumes nothing.
-use Prim.Native.Nat.{ℕ, _+_, _*_, _-_, _≤_, _<_}
-use mathlib.Core.Path.{_≡_, refl, sym, ap, _∙_, subst}
-use mathlib.Core.List.{List, [], _∷_, _++_}
+use Prim.Native.Nat.{ℕ, _+_, _*_, _≤_, _<_}
+use mathlib.Core.Path.{_≡_, subst}
+use mathlib.Core.List.{List, _++_}
 use native.Mathlib.Omega.{arith}
-use lib.ListN.{length, getD, drop, replicate, length-drop, length-replicate, getD-replicate}
+use lib.ListN.{length, drop, replicate, length-drop, length-replicate, getD-replicate}
 use Rattle.answer.specs.declared.Refusal.{Refusal}
 use Rattle.answer.specs.declared.Refusal.the-variants.{NotAssociative, Unreachable, TrailingBytes}
 use Rattle.answer.specs.Checks.{Check, Verdict, passed, refused, FirstFailure}
 use Rattle.answer.proofs.Order.{first-passes, first-fails, none-left, refused-before, passed-before}
 use Rattle.sections.specs.declared.Found.{Found}
 use Rattle.sections.specs.declared.Found.the-variants.{At, Nothing}
-use Rattle.theory.specs.Rules.{Morphism, Lawful}
+use Rattle.theory.specs.Rules.{Morphism}
 use Rattle.table.specs.declared.Triple.{Triple}
 use Rattle.table.specs.declared.Triple.the-variants.{At as Triple-at, Nothing as No-triple}
 use Rattle.table.specs.Table.{Table, morphismAt}
@@ -20,7 +20,7 @@ use Rattle.table.proofs.Facts.{table-lawful, first-triple-place, all-associate-
 use Rattle.reach.specs.Reach.{Empty, WordOrder, WithoutAnswer, placeAt}
 use Rattle.reach.proofs.Words.{first-unreached, none-without-absurd}
 use Rattle.format.specs.Format.{marksAt, marksOf, ruleEnd, morphismOf}
-use Rattle.format.specs.RuleChecks.{TrailingAt, trailingCheck, tableChecks, markChecks, powerChecks, contentChecks}
+use Rattle.format.specs.RuleChecks.{trailingCheck, tableChecks, markChecks, powerChecks, contentChecks}
 use Rattle.rulefile.specs.declared.Fault.{Fault}
 use Rattle.rulefile.specs.declared.Fault.the-variants.{Nothing as No-fault, Refused}
 use Rattle.rulefile.specs.Answers.{FaultAnswer, reachChecks}

@@ -1,8 +1,8 @@
 -- Marks laid out in a table of bytes, one for each pair, while the marks of a section are gone through. Assumes nothing.
-use Prim.Native.Nat.{ℕ, zero, suc, _+_, _*_, _≤_, _<_}
+use Prim.Native.Nat.{ℕ, _+_, _*_, _≤_, _<_}
 use mathlib.Core.Path.{_≡_, refl, sym, ap, _∙_, subst}
-use mathlib.Core.Bool.{Bool, true, false, _&&_, _||_}
-use mathlib.Core.Logic.{⊎-elim, by-cases}
+use mathlib.Core.Bool.{Bool, _||_}
+use mathlib.Core.Logic.{⊎-elim}
 use mathlib.Core.List.{List}
 use native.Mathlib.Omega.{arith}
 use native.Mathlib.Decide.{ℕ-discrete}
@@ -10,7 +10,7 @@ use lib.ListN.{length, getD, set, length-set}
 use lib.Seq.{getD-set-same, getD-set-other}
 use lib.Dec.{T, eqb}
 use mir.Facts.{eqb-yes, yes-eqb}
-use Rattle.finite.proofs.Tests.{T-and, T-and-left, T-and-right, T-dec, T-true, T-false, true-T}
+use Rattle.finite.proofs.Tests.{T-and, T-and-left, T-and-right, T-dec, T-true, T-false}
 use Rattle.finite.proofs.Search.{anyBelow, any-zero, any-add-one, any-intro, any-elim, Found}
 use Rattle.format.specs.Format.{markStart, markCycle, isMark, oneIf}
 use Rattle.rulefile.specs.Answers.{MarksRoom, MarksLaid, marksAmong}
@@ -30,7 +30,7 @@ pub record Stood (bytes : List ℕ) (at i : ℕ) : Type 0 where
   pub same-cycle : markCycle bytes at earlier ≡ markCycle bytes at i
 
 module _ (bytes : List ℕ) (at : ℕ) where
-  is-mark-elim : (s e i : ℕ) → T (isMark bytes at s e i) → (markStart bytes at i ≡ s) × (markCycle bytes at i ≡ e)
+  pub is-mark-elim : (s e i : ℕ) → T (isMark bytes at s e i) → (markStart bytes at i ≡ s) × (markCycle bytes at i ≡ e)
   unfolding isMark
   is-mark-elim s e i t = (
     eqb-yes (T-and-left (eqb (markStart bytes at i) s) (eqb (markCycle bytes at i) e) t),

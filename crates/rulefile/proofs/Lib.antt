@@ -2,6 +2,12 @@ pub mod MarkOrder
 pub mod Laid
 pub mod Settling
 pub mod Passed
+pub mod TablePassed
 pub mod Faults
 pub mod Content
 pub mod Promise
+pub mod MarksPassed
+pub mod CheckedRule
+pub mod OneVerdict
+pub mod Inspecting
+pub mod Calls

@@ -1,20 +1,32 @@
 -- What a rule file whose three sections pass is known to be: a table, and marks that name elements, all within the bytes.
 -- Assumes nothing.
-use Prim.Native.Nat.{ℕ, suc, _+_, _*_, _≤_, _<_}
-use mathlib.Core.Path.{_≡_, refl, sym, ap, _∙_, subst}
-use mathlib.Core.List.{List, _++_}
+use Prim.Native.Nat.{ℕ, _+_, _*_, _≤_, _<_}
+use mathlib.Core.Path.{_≡_, sym, ap, _∙_, subst}
+use mathlib.Core.List.{List}
 use native.Mathlib.Omega.{arith}
-use native.Mathlib.Nat.{add-zero, mul-le-mul}
+use native.Mathlib.Nat.{add-zero}
 use lib.Arith.{digits-lt}
 use lib.ListN.{length, getD, drop, length-drop}
 use lib.Seq.{getD-drop}
 use Rattle.answer.specs.Checks.{passed, FirstFailure}
-use Rattle.answer.proofs.Order.{passed-first, passed-last}
-use Rattle.sections.specs.Sections.{twoBytes, sectionChecks}
-use Rattle.sections.proofs.Laws.{SectionGood, passed-good}
+use Rattle.answer.proofs.Order.{passed-before, passed-first, passed-last}
+use Rattle.sections.specs.Sections.{Section, twoBytes, sectionChecks}
+use Rattle.sections.proofs.Laws.{SectionGood, passed-good, good-passes}
 use Rattle.table.specs.Table.{Table, productAt, imageAt}
 use Rattle.format.specs.Format.{elementsOf, lettersAt, lettersOf, marksAt, marksOf, ruleEnd, markStart, markCycle, elementsSection, lettersSection, marksSection}
 use Rattle.format.specs.RuleChecks.{layoutChecks}
+
+-- three sections that pass in one input pass in any
+pub layout-as : (bytes : List ℕ) (input other : ℕ) → FirstFailure (layoutChecks input bytes) passed → FirstFailure (layoutChecks other bytes) passed
+layout-as bytes input other all =
+    let after-first = passed-last (sectionChecks elementsSection input 0 bytes) _ all in
+    passed-before _ _ (again elementsSection 0 bytes (passed-first _ _ all))
+    (passed-before _ _ (again (lettersSection (elementsOf bytes)) (lettersAt bytes) (drop (lettersAt bytes) bytes) (passed-first _ _ after-first))
+    (again (marksSection (elementsOf bytes)) (marksAt bytes) (drop (marksAt bytes) bytes)
+    (passed-last (sectionChecks (lettersSection (elementsOf bytes)) input (lettersAt bytes) (drop (lettersAt bytes) bytes)) _ after-first)))
+  where
+    again : (s : Section) (at : ℕ) (rest : List ℕ) → FirstFailure (sectionChecks s input at rest) passed → FirstFailure (sectionChecks s other at rest) passed
+    again s at rest f = good-passes s other at rest (passed-good s input at rest f)
 
 module _ (bytes : List ℕ) (all : FirstFailure (layoutChecks 1 bytes) passed) where
   elements-good : SectionGood elementsSection bytes

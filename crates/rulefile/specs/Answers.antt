@@ -2,7 +2,7 @@
 use Prim.Native.Nat.{ℕ, _+_, _*_, _≤_, _<_}
 use mathlib.Core.Path.{_≡_}
 use mathlib.Core.Bool.{Bool, true, false, cond}
-use mathlib.Core.List.{List, [], _∷_, _++_}
+use mathlib.Core.List.{List, [], _∷_}
 use lib.ListN.{length, getD, replicate}
 use lib.Dec.{ltb}
 use Rattle.answer.specs.declared.Refusal.the-variants.{Unreachable}
@@ -11,7 +11,7 @@ use Rattle.answer.specs.Checks.{Check, Verdict, passed, refused, FirstFailure}
 use Rattle.finite.proofs.Search.{anyBelow}
 use Rattle.theory.specs.Rules.{Morphism}
 use Rattle.theory.specs.Pairs.{Linked}
-use Rattle.format.specs.Format.{elementsOf, markingOf, markStart, markCycle, isMark, oneIf}
+use Rattle.format.specs.Format.{elementsOf, lettersOf, marksOf, markingOf, markStart, markCycle, isMark, oneIf}
 use Rattle.format.specs.RuleChecks.{ruleChecks, bufferCheck, scratchSize}
 use Rattle.layout.specs.declared.Shape.{Shape}
 use Rattle.layout.specs.Answers.{IsShape}
@@ -19,6 +19,8 @@ use Rattle.rulefile.specs.declared.Fault.{Fault}
 use Rattle.rulefile.specs.declared.Fault.the-variants.{Nothing, Refused}
 use Rattle.rulefile.specs.declared.Checked.{Checked}
 use Rattle.rulefile.specs.declared.Checked.the-variants.{Rule, Refused as Checked-refused}
+use Rattle.rulefile.specs.declared.Inspected.{Inspected}
+use Rattle.rulefile.specs.declared.Inspected.the-variants.{Rule as Inspected-rule, Refused as Inspected-refused}
 
 -- checks that pass, or the first that fails, whatever the number of the input
 abbrev pub FaultAnswer : (ℕ → List Check) → Fault → Type 0
@@ -72,7 +74,7 @@ abbrev pub verdictOf : Checked → Verdict
 verdictOf (Rule shape) = passed
 verdictOf (Checked-refused refusal input place) = refused refusal input place
 
--- the scratch that a refused call leaves: as it came where it is short, else zeros over its whole length
+-- the scratch that a finished call leaves: as it came where it is short, else zeros over its whole length
 unfoldable pub afterRefusal : List ℕ → List ℕ
 afterRefusal scratch = cond (ltb (length scratch) scratchSize) scratch (replicate (length scratch) 0)
 
@@ -93,3 +95,25 @@ checkedChecks input bytes scratch = bufferCheck scratchSize scratch ∷ ruleChec
 pub record CheckPromise (input : ℕ) (bytes entry exit : List ℕ) (answer : Checked) : Type 0 where
   pub verdict : FirstFailure (checkedChecks input bytes entry) (verdictOf answer)
   pub scratch : ScratchAfter bytes entry exit answer
+
+-- document 01's number, input and place of an inspection: those of its verdict
+abbrev pub inspectedVerdict : Inspected → Verdict
+inspectedVerdict (Inspected-rule elements letters marks) = passed
+inspectedVerdict (Inspected-refused refusal input place) = refused refusal input place
+
+-- the counts that a rule file states
+pub record RuleCounts (bytes : List ℕ) (elements letters marks : ℕ) : Type 0 where
+  pub elements-are : elements ≡ elementsOf bytes
+  pub letters-are : letters ≡ lettersOf bytes
+  pub marks-are : marks ≡ marksOf bytes
+
+-- an inspection that finds a rule says its counts
+abbrev pub InspectedCounts : List ℕ → Inspected → Type 0
+InspectedCounts bytes (Inspected-rule elements letters marks) = RuleCounts bytes elements letters marks
+InspectedCounts bytes (Inspected-refused refusal input place) = Unit {0}
+
+-- the promise of an inspection: which refusal and when; else the rule's counts; and scratch as every call leaves it
+pub record InspectPromise (bytes entry exit : List ℕ) (answer : Inspected) : Type 0 where
+  pub verdict : FirstFailure (checkedChecks 1 bytes entry) (inspectedVerdict answer)
+  pub values : InspectedCounts bytes answer
+  pub scratch : exit ≡ afterRefusal entry

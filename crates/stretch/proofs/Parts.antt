@@ -8,7 +8,8 @@ use borrow.Author.Tests.{le-leb, lt-leb, lt-ltb, le-ltb}
 use lib.Dec.{leb}
 use lib.ListN.{length, take, drop, length-drop}
 use lib.Seq.{take-all}
-use Rattle.stretch.specs.Stretch.{longestWord, wordFits, unread, stretchOf}
+use Rattle.stretch.specs.Stretch.{wordFits, unread, stretchOf}
+use Rattle.words.specs.WordChecks.{longestWord}
 
 -- a length that refusal 11 names
 pub data Unfit (w : List ℕ) : Type 0 where

@@ -4,14 +4,11 @@ use mathlib.Core.Bool.{Bool, cond, _&&_}
 use mathlib.Core.List.{List, []}
 use lib.ListN.{length, drop}
 use lib.Dec.{ltb, leb}
-
--- "calls take 1 to 4,224 letters of each": the longest word of a call
-abbrev pub longestWord : ℕ
-longestWord = 4224
+use Rattle.words.specs.WordChecks.{shortestWord, longestWord}
 
 -- refusal 11 names every other length
 abbrev pub wordFits : List ℕ → Bool
-wordFits w = leb 1 (length w) && leb (length w) longestWord
+wordFits w = leb shortestWord (length w) && leb (length w) longestWord
 
 -- "the unread rest of u, or of v once u is used up; past u the place in v is the position less the length of u, modulo the
 -- length of v"

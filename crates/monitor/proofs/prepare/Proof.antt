@@ -1,6 +1,7 @@
 -- `monitor::prepare` meets its contract: the rule's checks decide, then the monitor's two values. Assumes nothing.
 use mathlib.Core.Logic.{inl, inr}
-use Rattle.monitor.proofs.Prepared.{checked-rule, checked-refused, rule-refused, monitor-stray, monitor-good, said-stray, said-good}
+use Rattle.rulefile.proofs.Calls.{checked-rule, checked-refused}
+use Rattle.monitor.proofs.Prepared.{rule-refused, monitor-stray, monitor-good, said-stray, said-good}
 use borrow.Author.Needs.{needs}
 use Rattle.monitor.proofs.prepare.Statement.{statement}
 use Rattle.monitor.proofs.prepare.Tie as tie

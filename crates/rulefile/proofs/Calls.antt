@@ -1,0 +1,56 @@
+-- What a call that checks a rule first knows of it afterwards. Assumes nothing.
+use Prim.Native.Nat.{ℕ, _≤_, _<_}
+use mathlib.Core.Path.{_≡_, refl, sym, ap, _∙_, subst}
+use mathlib.Core.List.{List}
+use native.Mathlib.Omega.{arith}
+use lib.ListN.{length, replicate, length-replicate}
+use Rattle.answer.specs.declared.Refusal.{Refusal}
+use Rattle.answer.specs.Checks.{passed, FirstFailure}
+use Rattle.answer.proofs.Order.{passes-head, passes-tail}
+use Rattle.table.specs.Table.{Table, morphismAt}
+use Rattle.theory.specs.Rules.{Morphism}
+use Rattle.format.specs.Format.{elementsOf, lettersOf, morphismOf}
+use Rattle.format.specs.RuleChecks.{scratchSize}
+use Rattle.layout.specs.declared.Shape.{Shape}
+use Rattle.layout.specs.Answers.{IsShape}
+use Rattle.rulefile.specs.declared.Checked.{Checked}
+use Rattle.rulefile.specs.declared.Checked.the-variants.{Rule, Refused}
+use Rattle.rulefile.specs.Answers.{CheckPromise, RuleChecked, checkedChecks, afterRefusal}
+use Rattle.rulefile.proofs.Promise.{zeros-after}
+use Rattle.rulefile.proofs.CheckedRule.{GoodRule, good-rule}
+
+module _ (input : ℕ) (bytes entry : List ℕ) (all : FirstFailure (checkedChecks input bytes entry) passed) where
+  -- scratch had its size
+  pub scratch-long : scratchSize ≤ length entry
+  scratch-long =
+      let f : length entry < scratchSize → ⊥ = λ h. passes-head all .nowhere 0 (record { short = h; is-place = refl }) in
+      omega arith
+
+  -- the rule is good
+  pub called-good : GoodRule bytes
+  called-good = good-rule input bytes (passes-tail all)
+
+  -- zeros over the whole length are what a call leaves
+  pub zeros-left : (mid exit : List ℕ) → length mid ≡ length entry → exit ≡ replicate (length mid) 0 → exit ≡ afterRefusal entry
+  zeros-left mid exit e z = z ∙ ap (λ (x : ℕ). replicate x 0) e ∙ zeros-after entry scratch-long
+
+-- the check's answer, known by its case
+module _ (input : ℕ) (bytes entry exit : List ℕ) (answer : Checked) (known : CheckPromise input bytes entry exit answer) where
+  pub checked-rule : {shape : Shape} → answer ≡ Rule shape → CheckPromise input bytes entry exit (Rule shape)
+  checked-rule e = subst (CheckPromise input bytes entry exit) e known
+
+  pub checked-refused : {r : Refusal} {i place : ℕ} → answer ≡ Refused r i place → CheckPromise input bytes entry exit (Refused r i place)
+  checked-refused e = subst (CheckPromise input bytes entry exit) e known
+
+-- the marks in scratch keep its length
+pub checked-length : {bytes entry exit : List ℕ} {shape : Shape} → RuleChecked bytes shape entry exit → length exit ≡ length entry
+checked-length {entry = entry} r = r .marks .same-length ∙ length-replicate (length entry) 0
+
+-- by the counts that were read: the file's morphism and its table
+module _ {bytes : List ℕ} {shape : Shape} (s : IsShape bytes shape) where
+  pub shape-morphism : morphismAt bytes (shape .elements) (shape .letters) ≡ morphismOf bytes
+  shape-morphism = ap (λ (x : ℕ). morphismAt bytes x (shape .letters)) (s .elements) ∙ ap (morphismAt bytes (elementsOf bytes)) (s .letters)
+
+  pub shape-table : Table bytes (elementsOf bytes) (lettersOf bytes) → Table bytes (shape .elements) (shape .letters)
+  shape-table t =
+      subst (λ (x : ℕ). Table bytes x (shape .letters)) (sym (s .elements)) (subst (λ (x : ℕ). Table bytes (elementsOf bytes) x) (sym (s .letters)) t)

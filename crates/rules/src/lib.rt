@@ -1,0 +1,17 @@
+// The library's public calls, in one place: each is passed on from the crate that has it, with the types of its answers. No
+// call asks anything of its caller: every input has its answer. A crate that calls these names the crates of the types among
+// its dependencies too, since a type is known there by the crate that declares it.
+pub use answer::Refusal;
+pub use answer::number;
+pub use lasso::Membership;
+pub use lasso::member;
+pub use monitor::Monitor;
+pub use monitor::Moved;
+pub use monitor::Told;
+pub use monitor::event;
+pub use monitor::event_in_place;
+pub use monitor::fresh;
+pub use monitor::mark;
+pub use rulefile::Inspected;
+pub use rulefile::inspect;
+pub use stretch::stretch;

@@ -1,0 +1,48 @@
+// A marks section that is an input of its own: a second marking, checked against the table of a rule. It is read by the code
+// that reads the marks of a rule file, with places that count from its own first byte.
+use answer::Refusal;
+use layout::marks_section;
+use rulefile::Fault;
+use rulefile::mark_fault;
+use sections::Counted;
+ghost use mathlib.Core.Path.{_≡_};
+ghost use Prim.Native.Nat.{_≤_};
+ghost use lib.ListN.{length, drop};
+ghost use Rattle.table.specs.Table.{Table};
+ghost use Rattle.format.specs.Format.{elementsOf, lettersOf};
+ghost use Rattle.format.specs.RuleChecks.{secondMarksChecks};
+ghost use Rattle.rulefile.specs.Answers.{FaultAnswer};
+ghost use Rattle.secondmarks.specs.SecondMarks.{MarksSpace, SecondAnswer};
+
+// What follows a section that ends at a byte.
+fn rest_after(bytes: &[u8], end: usize) -> &[u8]
+    requires { ⌜ end ≤ length (now bytes) ⌝ }
+    ensures { λ r. ⌜ now r ≡ drop end (now (bytes .entry)) ⌝ }
+{
+    &bytes[end..]
+}
+
+// Checks the section, and lays its marks out in the blank table, a byte for each pair.
+pub fn second_marks(rule: &[u8], n: usize, k: usize, bytes: &[u8], table: &mut [u8]) -> Fault
+    requires { ⌜ Table (now rule) n k ⌝ }
+    requires { ⌜ (n ≡ elementsOf (now rule)) × (k ≡ lettersOf (now rule)) ⌝ }
+    requires { ⌜ MarksSpace (now table) ⌝ }
+    ensures verdict { λ r. ⌜ FaultAnswer (λ input. secondMarksChecks input (now (rule .entry)) (now (bytes .entry))) r ⌝ }
+    ensures laid { λ r. ⌜ SecondAnswer (now (bytes .entry)) n (now (table .entry)) (now (table .exit)) r ⌝ }
+{
+    let count = match marks_section(bytes, 0, n) {
+        Counted::Read(count) => count,
+        Counted::Refused { refusal, place } => {
+            return Fault::Refused { refusal, place };
+        }
+    };
+    let end = 2 + 2 * count;
+    let rest = rest_after(bytes, end);
+    if 0 < rest.len() {
+        return Fault::Refused {
+            refusal: Refusal::TrailingBytes,
+            place: end,
+        };
+    }
+    mark_fault(rule, n, k, bytes, 0, count, table)
+}
