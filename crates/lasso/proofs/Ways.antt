@@ -20,7 +20,7 @@ use Rattle.format.specs.RuleChecks.{scratchSize}
 use Rattle.layout.specs.declared.Shape.{Shape}
 use Rattle.rulefile.specs.declared.Checked.the-variants.{Rule, Refused as Checked-refused}
 use Rattle.rulefile.specs.Answers.{CheckPromise, afterRefusal}
-use Rattle.rulefile.proofs.CheckedRule.{GoodRule}
+use Rattle.rulefile.specs.GoodRule.{GoodRule}
 use Rattle.rulefile.proofs.Calls.{scratch-long, called-good, zeros-left, checked-length, shape-morphism, shape-table}
 use Rattle.words.specs.declared.LassoFault.{LassoFault}
 use Rattle.words.specs.declared.LassoFault.the-variants.{Nothing, Refused as Lasso-refused}

@@ -17,7 +17,8 @@ use Rattle.rulefile.specs.declared.Checked.{Checked}
 use Rattle.rulefile.specs.declared.Checked.the-variants.{Rule, Refused}
 use Rattle.rulefile.specs.Answers.{CheckPromise, RuleChecked, checkedChecks, afterRefusal}
 use Rattle.rulefile.proofs.Promise.{zeros-after}
-use Rattle.rulefile.proofs.CheckedRule.{GoodRule, good-rule}
+use Rattle.rulefile.specs.GoodRule.{GoodRule}
+use Rattle.rulefile.proofs.CheckedRule.{good-rule}
 
 module _ (input : ℕ) (bytes entry : List ℕ) (all : FirstFailure (checkedChecks input bytes entry) passed) where
   -- scratch had its size

@@ -13,28 +13,11 @@ use Rattle.table.specs.Table.{Table}
 use Rattle.table.proofs.Facts.{table-lawful}
 use Rattle.format.specs.Format.{elementsOf, lettersOf, marksAt, marksOf, ruleEnd, morphismOf, markStart, markCycle, pairsOf}
 use Rattle.format.specs.RuleChecks.{layoutChecks, tableChecks, contentChecks, ruleChecks}
+use Rattle.rulefile.specs.GoodRule.{GoodRule}
 use Rattle.rulefile.proofs.Passed.{layout-as, letters-some, marks-small, end-inside, table-of}
 use Rattle.rulefile.proofs.TablePassed.{table-associates, table-reached}
 use Rattle.rulefile.proofs.MarksPassed.{passed-marks, marking-linked}
 use Rattle.rulefile.proofs.MarkOrder.{GoodMarks}
-
--- a rule file that passes every check
-pub record GoodRule (bytes : List ℕ) : Type 0 where
-  -- 1 to 3: the sections are there, their counts in range, and their entries name elements
-  pub table : Table bytes (elementsOf bytes) (lettersOf bytes)
-  pub letters-some : 1 ≤ lettersOf bytes
-  pub marks-small : marksOf bytes ≤ 4096
-  -- 4: nothing follows
-  pub end : ruleEnd bytes ≡ length bytes
-  -- 5 and 6
-  pub lawful : Lawful (morphismOf bytes)
-  pub reached : AllReached (morphismOf bytes)
-  -- 7 and 8, by the marks in file order
-  pub each-linked : (i : ℕ) → i < marksOf bytes → Linked (morphismOf bytes) (markStart bytes (marksAt bytes) i) (markCycle bytes (marksAt bytes) i)
-  pub distinct : (i j : ℕ) → i < j → j < marksOf bytes → markStart bytes (marksAt bytes) i ≡ markStart bytes (marksAt bytes) j
-      → markCycle bytes (marksAt bytes) i ≡ markCycle bytes (marksAt bytes) j → ⊥
-  -- 7, by the marked pairs
-  pub linked : LinkedOnly (morphismOf bytes) (pairsOf bytes)
 
 module _ (input : ℕ) (bytes : List ℕ) (all : FirstFailure (ruleChecks input bytes) passed) where
   -- its sections pass, as those of a first input

@@ -136,12 +136,12 @@ fn power_fault(rule: &[u8], n: usize, k: usize) -> Fault
     Fault::Nothing
 }
 
-// What follows the last section of a rule file.
-fn rest_after(rule: &[u8], end: usize) -> &[u8]
-    requires { ⌜ end ≤ length (now rule) ⌝ }
-    ensures { λ r. ⌜ now r ≡ drop end (now (rule .entry)) ⌝ }
+// What follows the last section of an input.
+pub fn rest_after(bytes: &[u8], end: usize) -> &[u8]
+    requires { ⌜ end ≤ length (now bytes) ⌝ }
+    ensures { λ r. ⌜ now r ≡ drop end (now (bytes .entry)) ⌝ }
 {
-    &rule[end..]
+    &bytes[end..]
 }
 
 // The checks of a file whose sections are there: nothing follows, the table, the marks, the powers.

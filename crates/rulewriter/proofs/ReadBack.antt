@@ -16,25 +16,12 @@ use Rattle.table.proofs.Facts.{all-associate-none}
 use Rattle.sections.specs.Sections.{sectionChecks}
 use Rattle.format.specs.Format.{elementsOf, lettersAt, lettersOf, marksAt, marksOf, markStart, markCycle, oneIf, markingOf, morphismOf, ruleEnd, lettersSection, marksSection}
 use Rattle.format.specs.RuleChecks.{layoutChecks, markChecks, ruleChecks, RepeatedAt}
+use Rattle.rulewriter.specs.ReadBack.{ReadsBack, FileShape}
 use Rattle.rulewriter.specs.File.{markNumbers, fileOf, FitsFormat}
 use Rattle.rulewriter.proofs.Agree.{Agree, agree-lawful, agree-linked, agree-reached, lawful-settles}
 use Rattle.rulewriter.proofs.Stands.{elements-are, letters-are, letters-from, marks-from, marks-are, ends-there, product-stands, image-stands, start-stands, cycle-stands}
 use Rattle.rulewriter.proofs.Marks.{number-marked, marking-stands, marks-apart}
 use Rattle.rulewriter.proofs.GoodSections.{NamesElements, lawful-names, elements-pass, letters-pass, marks-pass, file-short, file-over}
-
--- the bytes mean the morphism and the marked pairs
-pub record ReadsBack (m : Morphism) (marks : Marking) (bytes : List ℕ) : Type 0 where
-  pub elements : elementsOf bytes ≡ m .size
-  pub letters : lettersOf bytes ≡ m .letters
-  pub products : (a b : ℕ) → a < m .size → b < m .size → productAt bytes (m .size) a b ≡ m .product a b
-  pub images : (a : ℕ) → a < m .letters → imageAt bytes (m .size) a ≡ m .image a
-  pub marking : (s e : ℕ) → s < m .size → e < m .size → markingOf bytes s e ≡ oneIf (ltb 0 (marks s e))
-
--- the bytes end with the last section, are no more than the longest file has, and each is a byte
-pub record FileShape (bytes : List ℕ) : Type 0 where
-  pub ends : ruleEnd bytes ≡ length bytes
-  pub short : length bytes ≤ 12308
-  pub small : Over 256 bytes
 
 module _ (m : Morphism) (marks : Marking) where
   -- a written rule reads back

@@ -4,23 +4,14 @@ use answer::Refusal;
 use layout::marks_section;
 use rulefile::Fault;
 use rulefile::mark_fault;
+use rulefile::rest_after;
 use sections::Counted;
 ghost use mathlib.Core.Path.{_≡_};
-ghost use Prim.Native.Nat.{_≤_};
-ghost use lib.ListN.{length, drop};
 ghost use Rattle.table.specs.Table.{Table};
 ghost use Rattle.format.specs.Format.{elementsOf, lettersOf};
 ghost use Rattle.format.specs.RuleChecks.{secondMarksChecks};
 ghost use Rattle.rulefile.specs.Answers.{FaultAnswer};
 ghost use Rattle.secondmarks.specs.SecondMarks.{MarksSpace, SecondAnswer};
-
-// What follows a section that ends at a byte.
-fn rest_after(bytes: &[u8], end: usize) -> &[u8]
-    requires { ⌜ end ≤ length (now bytes) ⌝ }
-    ensures { λ r. ⌜ now r ≡ drop end (now (bytes .entry)) ⌝ }
-{
-    &bytes[end..]
-}
 
 // Checks the section, and lays its marks out in the blank table, a byte for each pair.
 pub fn second_marks(rule: &[u8], n: usize, k: usize, bytes: &[u8], table: &mut [u8]) -> Fault

@@ -14,7 +14,7 @@ part-result-end : tie.Need-part-result-end
 part-result-end c = search needs
 
 returns : tie.Need-returns
-returns c = rest-of (c .before .args .rule .now) (c .before .args .end)
+returns c = rest-of (c .before .args .bytes .now) (c .before .args .end)
 
 pub rest-after-spec : {M : Type 1} → statement M
 rest-after-spec = tie.close (tie.spec sub-result part-result-start part-result-end returns)
