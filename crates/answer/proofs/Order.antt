@@ -5,8 +5,8 @@ use native.Mathlib.Omega.{arith}
 use mathlib.Core.Path.{_≡_, refl, sym, ap, _∙_, subst}
 use mathlib.Core.Logic.{_⊎_, inl, inr, ⊎-elim, _↔_}
 use mathlib.Core.List.{List, [], _∷_, _++_}
-use Rattle.answer.specs.declared.Refusal.{Refusal}
-use Rattle.answer.specs.Checks.{Verdict, passed, refused, Check, Passes, Refuses, firstOf, FirstFailure}
+use Rattle.answer.specs.Refusals.{numberOf}
+use Rattle.answer.specs.Checks.{Verdict, passed, numbered, refused, Check, Passes, Refuses, firstOf, FirstFailure}
 
 -- a passing check hands on
 pub first-passes : {c : Check} {checks : List Check} {v : Verdict} → Passes c → FirstFailure checks v → FirstFailure (c ∷ checks) v
@@ -22,7 +22,7 @@ pub none-left : FirstFailure [] passed
 unfolding firstOf
 none-left = record { decided = refl }
 
-no-refusal : {r : Refusal} {input place : ℕ} → refused r input place ≡ passed → ⊥
+no-refusal : {number input place : ℕ} → numbered number input place ≡ passed → ⊥
 no-refusal e = let z : _≡_ {A = ℕ} 0 1 = cc in omega arith
 
 refuses-passed : {c : Check} → Refuses c passed → ⊥
@@ -43,14 +43,14 @@ first-again (decides-now r) = record { decided = inl r }
 first-again (hands-on p f) = first-passes p f
 
 -- a refusal by the first checks stays the verdict whatever follows
-pub refused-before : (before after : List Check) {r : Refusal} {input place : ℕ} → FirstFailure before (refused r input place)
-    → FirstFailure (before ++ after) (refused r input place)
+pub refused-before : (before after : List Check) {number input place : ℕ} → FirstFailure before (numbered number input place)
+    → FirstFailure (before ++ after) (numbered number input place)
 unfolding firstOf
 refused-before [] after f = absurd (no-refusal (f .decided))
-refused-before (c ∷ before) after {r} {input} {place} f = go (first-case f) (refused-before before after)
+refused-before (c ∷ before) after {number} {input} {place} f = go (first-case f) (refused-before before after)
   where
-    go : FirstCase c before (refused r input place) → (FirstFailure before (refused r input place) → FirstFailure (before ++ after) (refused r input place))
-        → FirstFailure (c ∷ before ++ after) (refused r input place)
+    go : FirstCase c before (numbered number input place) → (FirstFailure before (numbered number input place) → FirstFailure (before ++ after) (numbered number input place))
+        → FirstFailure (c ∷ before ++ after) (numbered number input place)
     go (decides-now q) more = first-again (decides-now q)
     go (hands-on p g) more = first-passes p (more g)
 
@@ -119,31 +119,31 @@ one-verdict {v = v} {w = w} (single-cons {c} {checks} s all) f g = go (first-cas
     go (hands-on p q) (decides-now r) more = absurd (p .nowhere (r .place) (r .fails))
     go (hands-on p f′) (hands-on q g′) more = more f′ g′
 
--- a check of the list that fails at the place while every earlier one passes
-pub data Decides : List Check → Refusal → ℕ → ℕ → Type 1 where
-  here : {c : Check} {checks : List Check} {place : ℕ} → c .Fails place → Decides (c ∷ checks) (c .refusal) (c .input) place
-  later : {c : Check} {checks : List Check} {r : Refusal} {input place : ℕ} → Passes c → Decides checks r input place → Decides (c ∷ checks) r input place
+-- a check of the list that fails at the place while every earlier one passes, and its number in the table
+pub data Decides : List Check → ℕ → ℕ → ℕ → Type 1 where
+  here : {c : Check} {checks : List Check} {place : ℕ} → c .Fails place → Decides (c ∷ checks) (numberOf (c .refusal)) (c .input) place
+  later : {c : Check} {checks : List Check} {number input place : ℕ} → Passes c → Decides checks number input place → Decides (c ∷ checks) number input place
 
 -- a refusal is the verdict exactly if its check fails there and no earlier one does
-pub decides-verdict : {checks : List Check} {r : Refusal} {input place : ℕ} → Decides checks r input place → FirstFailure checks (refused r input place)
+pub decides-verdict : {checks : List Check} {number input place : ℕ} → Decides checks number input place → FirstFailure checks (numbered number input place)
 decides-verdict (here {c} f) = first-fails c f
 decides-verdict (later p d) = first-passes p (decides-verdict d)
 
-at-head : {c : Check} {rest : List Check} {r : Refusal} {input place : ℕ} → Refuses c (refused r input place) → Decides (c ∷ rest) r input place
-at-head {c} {rest} {r} {input} {place} q =
+at-head : {c : Check} {rest : List Check} {number input place : ℕ} → Refuses c (numbered number input place) → Decides (c ∷ rest) number input place
+at-head {c} {rest} {number} {input} {place} q =
     let e = q .verdict in
-    let er : c .refusal ≡ r = cc in
+    let en : numberOf (c .refusal) ≡ number = cc in
     let ei : c .input ≡ input = cc in
     let ep : q .place ≡ place = cc in
-    subst (λ (x : Refusal). Decides (c ∷ rest) x input place) er
-    (subst (λ (x : ℕ). Decides (c ∷ rest) (c .refusal) x place) ei
-    (subst (λ (x : ℕ). Decides (c ∷ rest) (c .refusal) (c .input) x) ep (here (q .fails))))
+    subst (λ (x : ℕ). Decides (c ∷ rest) x input place) en
+    (subst (λ (x : ℕ). Decides (c ∷ rest) (numberOf (c .refusal)) x place) ei
+    (subst (λ (x : ℕ). Decides (c ∷ rest) (numberOf (c .refusal)) (c .input) x) ep (here (q .fails))))
 
-pub verdict-decides : (checks : List Check) {r : Refusal} {input place : ℕ} → FirstFailure checks (refused r input place) → Decides checks r input place
+pub verdict-decides : (checks : List Check) {number input place : ℕ} → FirstFailure checks (numbered number input place) → Decides checks number input place
 unfolding firstOf
 verdict-decides [] f = absurd (no-refusal (f .decided))
-verdict-decides (c ∷ rest) {r} {input} {place} f = cases (first-case f) (verdict-decides rest)
+verdict-decides (c ∷ rest) {number} {input} {place} f = cases (first-case f) (verdict-decides rest)
   where
-    cases : FirstCase c rest (refused r input place) → (FirstFailure rest (refused r input place) → Decides rest r input place) → Decides (c ∷ rest) r input place
+    cases : FirstCase c rest (numbered number input place) → (FirstFailure rest (numbered number input place) → Decides rest number input place) → Decides (c ∷ rest) number input place
     cases (decides-now q) more = at-head q
     cases (hands-on p g) more = later p (more g)

@@ -5,11 +5,16 @@ use mathlib.Core.Path.{_≡_}
 use mathlib.Core.Logic.{_⊎_}
 use mathlib.Core.List.{List, [], _∷_}
 use Rattle.answer.specs.declared.Refusal.{Refusal}
+use Rattle.answer.specs.Refusals.{numberOf}
 
 -- what the checks of a call come to: "a refusal carries its number, the input it lies in .. and its place"
 pub data Verdict : Type 0 where
   passed : Verdict
-  refused : Refusal → ℕ → ℕ → Verdict
+  numbered : ℕ → ℕ → ℕ → Verdict
+
+-- the verdict of a refusal: its number in the table, the input, the place
+abbrev pub refused : Refusal → ℕ → ℕ → Verdict
+refused refusal input place = numbered (numberOf refusal) input place
 
 -- a line of the table: the refusal, the input looked at, and when it fails at a place
 pub record Check : Type 1 where

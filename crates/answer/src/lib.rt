@@ -8,7 +8,8 @@ pub enum Refusal {
     Truncated,
     // Document 01: miscount. A count lies outside its range.
     CountOutOfRange,
-    // Document 01: off the table. An entry names no element, state, letter or state kind.
+    // Document 01: off the table. An entry names no element, state, letter or state kind, or a
+    // monitor's value no element.
     EntryOutOfRange,
     // Document 01: overrun. Bytes follow the last section.
     TrailingBytes,
@@ -24,7 +25,7 @@ pub enum Refusal {
     NoIdempotentPower,
     // Document 01: foreign letter.
     UnknownLetter,
-    // Document 01: word length.
+    // Document 01: word length. A word has no letter or too many, or a monitor has no value yet.
     WordLength,
     // Document 01: weak. The rule is not strong.
     NotStrong,

@@ -1,6 +1,6 @@
 -- Every check of a rule file, in document 01's order: "1 to 3 section by section .., then 4, 5 .., 6, then 7 before 8 pair by
 -- pair, then 9". Assumes nothing.
-use Prim.Native.Nat.{ℕ, zero, suc, _+_, _*_, _≤_, _<_}
+use Prim.Native.Nat.{ℕ, zero, suc, _+_, _*_, _<_}
 use mathlib.Core.Path.{_≡_}
 use mathlib.Core.List.{List, [], _∷_, _++_}
 use lib.ListN.{length, drop}

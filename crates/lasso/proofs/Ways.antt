@@ -19,7 +19,7 @@ use Rattle.format.specs.Format.{elementsOf, lettersOf, morphismOf, pairsOf, mar
 use Rattle.format.specs.RuleChecks.{scratchSize}
 use Rattle.layout.specs.declared.Shape.{Shape}
 use Rattle.rulefile.specs.declared.Checked.the-variants.{Rule, Refused as Checked-refused}
-use Rattle.rulefile.specs.Answers.{CheckPromise, afterRefusal}
+use Rattle.rulefile.specs.Answers.{CheckPromise, afterCall}
 use Rattle.rulefile.specs.GoodRule.{GoodRule}
 use Rattle.rulefile.proofs.Calls.{scratch-long, called-good, zeros-left, checked-length, shape-morphism, shape-table}
 use Rattle.words.specs.declared.LassoFault.{LassoFault}
@@ -72,7 +72,7 @@ module _ (bytes u v entry : List ℕ) where
     }
 
     -- zeros after the marks or after their use
-    left : (was exit : List ℕ) → length was ≡ length mid → exit ≡ replicate (length was) 0 → exit ≡ afterRefusal entry
+    left : (was exit : List ℕ) → length was ≡ length mid → exit ≡ replicate (length was) 0 → exit ≡ afterCall entry
     left was exit e z = zeros-left 1 bytes entry (p .verdict) was exit (e ∙ checked-length (p .scratch)) z
 
     -- a word is refused

@@ -5,7 +5,7 @@ use mathlib.Core.List.{List, _++_}
 use Rattle.answer.specs.Checks.{Check, Verdict, passed, refused, FirstFailure}
 use Rattle.theory.specs.Acceptance.{Accepts}
 use Rattle.format.specs.Format.{lettersOf, morphismOf, pairsOf}
-use Rattle.rulefile.specs.Answers.{checkedChecks, afterRefusal}
+use Rattle.rulefile.specs.Answers.{checkedChecks, afterCall}
 use Rattle.words.specs.WordChecks.{lassoChecks}
 use Rattle.lasso.specs.declared.Membership.{Membership}
 use Rattle.lasso.specs.declared.Membership.the-variants.{Accepted, NotAccepted, Refused}
@@ -29,4 +29,4 @@ MemberAnswer bytes u v (Refused refusal input place) = Unit {0}
 pub record MemberPromise (bytes u v entry exit : List ℕ) (answer : Membership) : Type 0 where
   pub verdict : FirstFailure (memberChecks bytes u v entry) (memberVerdict answer)
   pub answered : MemberAnswer bytes u v answer
-  pub scratch : exit ≡ afterRefusal entry
+  pub scratch : exit ≡ afterCall entry

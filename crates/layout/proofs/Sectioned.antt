@@ -3,7 +3,7 @@ use Prim.Native.Nat.{ℕ, _+_, _≤_, _<_}
 use mathlib.Core.Path.{_≡_, refl, sym, ap, _∙_, subst}
 use mathlib.Core.List.{List}
 use Rattle.answer.specs.declared.Refusal.{Refusal}
-use Rattle.answer.specs.Checks.{passed, refused, FirstFailure}
+use Rattle.answer.specs.Checks.{passed, numbered, refused, FirstFailure}
 use Rattle.sections.specs.declared.Counted.{Counted}
 use Rattle.sections.specs.declared.Counted.the-variants.{Read, Refused}
 use Rattle.sections.specs.Sections.{CountWidth, Section, countAt, countBytes, countChecks, entryChecks, sectionChecks}
@@ -22,8 +22,8 @@ module _ (width : CountWidth) (low high at : ℕ) (rest : List ℕ) (answer : Co
 
 module _ (s : Section) (at : ℕ) (rest : List ℕ) where
   -- a refusal of the count is the section's answer
-  pub by-count : {r : Refusal} {place : ℕ} → ((input : ℕ) → FirstFailure (countChecks (s .width) (s .low) (s .high) input at rest) (refused r input place))
-      → SectionAnswer s at rest (Refused r place)
+  pub by-count : {number place : ℕ} → ((input : ℕ) → FirstFailure (countChecks (s .width) (s .low) (s .high) input at rest) (numbered number input place))
+      → (input : ℕ) → FirstFailure (sectionChecks s input at rest) (numbered number input place)
   by-count f input = section-count-refused s input at rest (f input)
 
   -- after a good count the entries' answer is the section's

@@ -1,5 +1,5 @@
 -- Reduction in rounds: which elements of a rule stand together after each round. An outcome is a number for each pair of
--- elements; nothing here looks at what the numbers mean. Assumes nothing.
+-- elements; nothing here looks at what the numbers mean. The quoted words are of document 02, Job 9. Assumes nothing.
 use Prim.Native.Nat.{ℕ, zero, suc, _<_}
 use mathlib.Core.Path.{_≡_}
 use Rattle.theory.specs.Rules.{Morphism}

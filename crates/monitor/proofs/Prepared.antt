@@ -14,7 +14,7 @@ use Rattle.table.specs.Table.{Table}
 use Rattle.format.specs.Format.{elementsOf, lettersOf}
 use Rattle.layout.specs.declared.Shape.{Shape}
 use Rattle.rulefile.specs.declared.Checked.the-variants.{Rule, Refused}
-use Rattle.rulefile.specs.Answers.{CheckPromise, checkedChecks, afterRefusal}
+use Rattle.rulefile.specs.Answers.{CheckPromise, checkedChecks, afterCall}
 use Rattle.rulefile.proofs.Calls.{zeros-left, checked-length, called-good, shape-table}
 use Rattle.monitor.specs.declared.Monitor.{Monitor}
 use Rattle.monitor.specs.declared.Ready.{Ready}
@@ -32,7 +32,7 @@ module _ (bytes : List ℕ) (f : Monitor) (entry : List ℕ) where
   rule-refused p = record { verdict = refused-before _ _ (p .verdict); shape = tt; scratch = p .scratch }
 
   module _ {shape : Shape} (mid exit : List ℕ) (p : CheckPromise 1 bytes entry mid (Rule shape)) (z : exit ≡ replicate (length mid) 0) where
-    left : exit ≡ afterRefusal entry
+    left : exit ≡ afterCall entry
     left = zeros-left 1 bytes entry (p .verdict) mid exit (checked-length (p .scratch)) z
 
     -- a value of the monitor is stray

@@ -4,7 +4,7 @@ use mathlib.Core.Path.{_≡_}
 use mathlib.Core.List.{List}
 use Rattle.answer.specs.Checks.{Verdict, passed, refused, FirstFailure}
 use Rattle.format.specs.Format.{morphismOf}
-use Rattle.rulefile.specs.Answers.{afterRefusal}
+use Rattle.rulefile.specs.Answers.{afterCall}
 use Rattle.monitor.specs.declared.Monitor.{Monitor}
 use Rattle.monitor.specs.declared.Moved.{Moved}
 use Rattle.monitor.specs.declared.Moved.the-variants.{To, Refused}
@@ -37,4 +37,4 @@ Leaves f next g (Told-refused refusal input place) = g ≡ f
 pub record EventInPlace (bytes : List ℕ) (f : Monitor) (letter : ℕ) (entry exit : List ℕ) (g : Monitor) (answer : Told) : Type 0 where
   pub verdict : FirstFailure (eventChecks bytes f letter entry) (toldVerdict answer)
   pub monitor : Leaves f (afterEvent (morphismOf bytes) f letter) g answer
-  pub scratch : exit ≡ afterRefusal entry
+  pub scratch : exit ≡ afterCall entry

@@ -10,7 +10,7 @@ use Rattle.theory.specs.Rules.{join}
 use Rattle.table.specs.Table.{morphismAt}
 use Rattle.format.specs.Format.{elementsOf, lettersOf, morphismOf}
 use Rattle.layout.specs.Answers.{IsShape}
-use Rattle.rulefile.specs.Answers.{checkedChecks, afterRefusal}
+use Rattle.rulefile.specs.Answers.{checkedChecks, afterCall}
 use Rattle.monitor.specs.declared.Monitor.{Monitor}
 use Rattle.monitor.specs.declared.Moved.{Moved}
 use Rattle.monitor.specs.declared.Moved.the-variants.{To, Refused}
@@ -52,7 +52,7 @@ ReadyShape bytes (Not-ready refusal input place) = Unit {0}
 pub record ReadyPromise (bytes : List ℕ) (f : Monitor) (entry exit : List ℕ) (answer : Ready) : Type 0 where
   pub verdict : FirstFailure (monitorChecks bytes f entry) (readyVerdict answer)
   pub shape : ReadyShape bytes answer
-  pub scratch : exit ≡ afterRefusal entry
+  pub scratch : exit ≡ afterCall entry
 
 -- document 01's number, input and place of a call on a monitor
 abbrev pub movedVerdict : Moved → Verdict
@@ -67,9 +67,9 @@ HandsBack f next (Refused g refusal input place) = g ≡ f
 pub record EventPromise (bytes : List ℕ) (f : Monitor) (letter : ℕ) (entry exit : List ℕ) (answer : Moved) : Type 0 where
   pub verdict : FirstFailure (eventChecks bytes f letter entry) (movedVerdict answer)
   pub monitor : HandsBack f (afterEvent (morphismOf bytes) f letter) answer
-  pub scratch : exit ≡ afterRefusal entry
+  pub scratch : exit ≡ afterCall entry
 
 pub record MarkPromise (bytes : List ℕ) (f : Monitor) (entry exit : List ℕ) (answer : Moved) : Type 0 where
   pub verdict : FirstFailure (monitorChecks bytes f entry) (movedVerdict answer)
   pub monitor : HandsBack f (afterMark (morphismOf bytes) f) answer
-  pub scratch : exit ≡ afterRefusal entry
+  pub scratch : exit ≡ afterCall entry

@@ -9,7 +9,7 @@ use table::image;
 use table::product;
 ghost use mathlib.Core.Path.{_≡_};
 ghost use Prim.Native.Nat.{_<_};
-ghost use Rattle.table.specs.Table.{Table, productAt};
+ghost use Rattle.table.specs.Table.{Table};
 ghost use Rattle.monitor.specs.Monitor.{freshMonitor};
 ghost use Rattle.monitor.specs.Promises.{GoodNumber, joinAt, StrayAnswer, ReadyPromise, EventPromise, MarkPromise};
 ghost use Rattle.monitor.specs.InPlace.{sinceOf, toldOf, EventInPlace};

@@ -15,7 +15,7 @@ use Rattle.layout.specs.declared.Shape.{Shape}
 use Rattle.layout.specs.Answers.{IsShape}
 use Rattle.rulefile.specs.declared.Checked.{Checked}
 use Rattle.rulefile.specs.declared.Checked.the-variants.{Rule, Refused}
-use Rattle.rulefile.specs.Answers.{CheckPromise, RuleChecked, checkedChecks, afterRefusal}
+use Rattle.rulefile.specs.Answers.{CheckPromise, RuleChecked, checkedChecks, afterCall}
 use Rattle.rulefile.proofs.Promise.{zeros-after}
 use Rattle.rulefile.specs.GoodRule.{GoodRule}
 use Rattle.rulefile.proofs.CheckedRule.{good-rule}
@@ -32,7 +32,7 @@ module _ (input : ℕ) (bytes entry : List ℕ) (all : FirstFailure (checkedChec
   called-good = good-rule input bytes (passes-tail all)
 
   -- zeros over the whole length are what a call leaves
-  pub zeros-left : (mid exit : List ℕ) → length mid ≡ length entry → exit ≡ replicate (length mid) 0 → exit ≡ afterRefusal entry
+  pub zeros-left : (mid exit : List ℕ) → length mid ≡ length entry → exit ≡ replicate (length mid) 0 → exit ≡ afterCall entry
   zeros-left mid exit e z = z ∙ ap (λ (x : ℕ). replicate x 0) e ∙ zeros-after entry scratch-long
 
 -- the check's answer, known by its case

@@ -6,7 +6,7 @@ use native.Mathlib.Omega.{arith}
 use lib.ListN.{length, drop, replicate, length-drop, length-replicate, getD-replicate}
 use Rattle.answer.specs.declared.Refusal.{Refusal}
 use Rattle.answer.specs.declared.Refusal.the-variants.{NotAssociative, Unreachable, TrailingBytes}
-use Rattle.answer.specs.Checks.{Check, Verdict, passed, refused, FirstFailure}
+use Rattle.answer.specs.Checks.{Check, Verdict, passed, numbered, refused, FirstFailure}
 use Rattle.answer.proofs.Order.{first-passes, first-fails, none-left, refused-before, passed-before}
 use Rattle.sections.specs.declared.Found.{Found}
 use Rattle.sections.specs.declared.Found.the-variants.{At, Nothing}
@@ -80,13 +80,13 @@ module _ (bytes : List ℕ) where
     nothing-follows input f =
         first-passes (record { nowhere = λ place t. omega (arith, length-drop end bytes, e, t .longer) }) f
 
-    pub table-refuses : {r : Refusal} {place : ℕ} → ((input : ℕ) → FirstFailure (tableChecks input (morphismOf bytes)) (refused r input place))
-        → (input : ℕ) → FirstFailure (contentChecks input bytes) (refused r input place)
+    pub table-refuses : {number place : ℕ} → ((input : ℕ) → FirstFailure (tableChecks input (morphismOf bytes)) (numbered number input place))
+        → (input : ℕ) → FirstFailure (contentChecks input bytes) (numbered number input place)
     table-refuses f input = nothing-follows input (refused-before _ _ (f input))
 
     module _ (table : (input : ℕ) → FirstFailure (tableChecks input (morphismOf bytes)) passed) where
-      pub marks-refuse : {r : Refusal} {place : ℕ} → ((input : ℕ) → FirstFailure (markChecks input (morphismOf bytes) bytes (marksAt bytes) 0 (marksOf bytes)) (refused r input place))
-          → (input : ℕ) → FirstFailure (contentChecks input bytes) (refused r input place)
+      pub marks-refuse : {number place : ℕ} → ((input : ℕ) → FirstFailure (markChecks input (morphismOf bytes) bytes (marksAt bytes) 0 (marksOf bytes)) (numbered number input place))
+          → (input : ℕ) → FirstFailure (contentChecks input bytes) (numbered number input place)
       marks-refuse f input = nothing-follows input (passed-before _ _ (table input) (refused-before _ _ (f input)))
 
       pub powers-decide : ((input : ℕ) → FirstFailure (markChecks input (morphismOf bytes) bytes (marksAt bytes) 0 (marksOf bytes)) passed)

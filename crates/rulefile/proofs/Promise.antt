@@ -18,18 +18,18 @@ use Rattle.layout.specs.Answers.{LayoutAnswer, LayoutPassed}
 use Rattle.rulefile.specs.declared.Fault.{Fault}
 use Rattle.rulefile.specs.declared.Fault.the-variants.{Nothing, Refused as Fault-refused}
 use Rattle.rulefile.specs.declared.Checked.the-variants.{Rule, Refused}
-use Rattle.rulefile.specs.Answers.{afterRefusal, MarksLaid, Blank, ContentAnswer, CheckPromise, checkedChecks}
+use Rattle.rulefile.specs.Answers.{afterCall, MarksLaid, Blank, ContentAnswer, CheckPromise, checkedChecks}
 
 -- a short scratch is left as it came
 pub short-scratch : (input : ℕ) (bytes scratch : List ℕ) → length scratch < scratchSize → CheckPromise input bytes scratch scratch (Refused BufferTooShort 1 0)
-unfolding afterRefusal
+unfolding afterCall
 short-scratch input bytes scratch h = record {
   verdict = first-fails (bufferCheck scratchSize scratch) (record { short = h; is-place = refl });
   scratch = sym (simp (lt-ltb (length scratch) scratchSize h));
 }
 
-pub zeros-after : (scratch : List ℕ) → scratchSize ≤ length scratch → replicate (length scratch) 0 ≡ afterRefusal scratch
-unfolding afterRefusal
+pub zeros-after : (scratch : List ℕ) → scratchSize ≤ length scratch → replicate (length scratch) 0 ≡ afterCall scratch
+unfolding afterCall
 zeros-after scratch h = sym (simp (le-ltb (length scratch) scratchSize h))
 
 module _ (bytes : List ℕ) (answer : Layout) (known : LayoutAnswer bytes answer) where

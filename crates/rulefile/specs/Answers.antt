@@ -75,8 +75,8 @@ verdictOf (Rule shape) = passed
 verdictOf (Checked-refused refusal input place) = refused refusal input place
 
 -- the scratch that a finished call leaves: as it came where it is short, else zeros over its whole length
-unfoldable pub afterRefusal : List ℕ → List ℕ
-afterRefusal scratch = cond (ltb (length scratch) scratchSize) scratch (replicate (length scratch) 0)
+unfoldable pub afterCall : List ℕ → List ℕ
+afterCall scratch = cond (ltb (length scratch) scratchSize) scratch (replicate (length scratch) 0)
 
 -- a checked rule: its counts, and scratch holds the marks, a byte for each pair, and nothing else
 pub record RuleChecked (bytes : List ℕ) (shape : Shape) (entry exit : List ℕ) : Type 0 where
@@ -85,7 +85,7 @@ pub record RuleChecked (bytes : List ℕ) (shape : Shape) (entry exit : List ℕ
 
 abbrev pub ScratchAfter : List ℕ → List ℕ → List ℕ → Checked → Type 0
 ScratchAfter bytes entry exit (Rule shape) = RuleChecked bytes shape entry exit
-ScratchAfter bytes entry exit (Checked-refused refusal input place) = exit ≡ afterRefusal entry
+ScratchAfter bytes entry exit (Checked-refused refusal input place) = exit ≡ afterCall entry
 
 -- "First 13", then the rule's own checks
 abbrev pub checkedChecks : ℕ → List ℕ → List ℕ → List Check
@@ -116,4 +116,4 @@ InspectedCounts bytes (Inspected-refused refusal input place) = Unit {0}
 pub record InspectPromise (bytes entry exit : List ℕ) (answer : Inspected) : Type 0 where
   pub verdict : FirstFailure (checkedChecks 1 bytes entry) (inspectedVerdict answer)
   pub values : InspectedCounts bytes answer
-  pub scratch : exit ≡ afterRefusal entry
+  pub scratch : exit ≡ afterCall entry

@@ -18,7 +18,6 @@ ghost use Prim.Native.Nat.{_<_, _≤_};
 ghost use lib.ListN.{length, drop};
 ghost use Rattle.table.specs.Table.{Table, morphismAt};
 ghost use Rattle.table.specs.Answers.{AllAssociate};
-ghost use Rattle.format.specs.Format.{ruleEnd};
 ghost use Rattle.format.specs.RuleChecks.{tableChecks, markChecks, powerChecks, contentChecks};
 ghost use Rattle.layout.specs.Answers.{LayoutPassed};
 ghost use Rattle.rulefile.specs.Answers.{FaultAnswer, LinkedAnswer, MarksRoom, MarksAnswer, reachChecks, Blank, ContentAnswer, CheckPromise, InspectPromise};

@@ -3,6 +3,8 @@
 // its dependencies too, since a type is known there by the crate that declares it.
 pub use answer::Refusal;
 pub use answer::number;
+pub use classes::Listed;
+pub use classes::list_classes;
 pub use lasso::Membership;
 pub use lasso::member;
 pub use monitor::Monitor;

@@ -6,7 +6,7 @@ use native.Mathlib.Omega.{arith}
 use lib.ListN.{length, getD, drop, length-drop}
 use Rattle.answer.specs.declared.Refusal.{Refusal}
 use Rattle.answer.specs.declared.Refusal.the-variants.{TrailingBytes}
-use Rattle.answer.specs.Checks.{Verdict, passed, refused, FirstFailure}
+use Rattle.answer.specs.Checks.{Verdict, passed, numbered, refused, FirstFailure}
 use Rattle.answer.proofs.Order.{first-passes, first-fails, refused-before, passed-before}
 use Rattle.sections.specs.Sections.{twoBytes, sectionChecks}
 use Rattle.sections.specs.declared.Counted.{Counted}
@@ -56,11 +56,11 @@ module _ {n c : ℕ} {bytes : List ℕ} (p : SectionPassed (marksSection n) 0 by
 
 module _ (rule bytes : List ℕ) {n k : ℕ} (en : n ≡ elementsOf rule) (ek : k ≡ lettersOf rule) where
   -- the count's own checks refuse
-  pub second-cut : {r : Refusal} {place : ℕ} → ((input : ℕ) → FirstFailure (sectionChecks (marksSection n) input 0 bytes) (refused r input place))
-      → (input : ℕ) → FirstFailure (secondMarksChecks input rule bytes) (refused r input place)
+  pub second-cut : {number place : ℕ} → ((input : ℕ) → FirstFailure (sectionChecks (marksSection n) input 0 bytes) (numbered number input place))
+      → (input : ℕ) → FirstFailure (secondMarksChecks input rule bytes) (numbered number input place)
   unfolding secondMarksChecks
-  second-cut {r} {place} f input =
-      refused-before _ _ (subst (λ (x : ℕ). FirstFailure (sectionChecks (marksSection x) input 0 bytes) (refused r input place)) en (f input))
+  second-cut {number} {place} f input =
+      refused-before _ _ (subst (λ (x : ℕ). FirstFailure (sectionChecks (marksSection x) input 0 bytes) (numbered number input place)) en (f input))
 
   module _ {c : ℕ} (p : SectionPassed (marksSection n) 0 bytes c) where
     after-section : (input : ℕ) {v : Verdict} → FirstFailure (trailingCheck input (2 + 2 * twoBytes bytes 0) bytes ∷ markChecks input (morphismOf rule) bytes 0 0 (twoBytes bytes 0)) v

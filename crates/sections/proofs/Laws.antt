@@ -8,9 +8,8 @@ use native.Mathlib.Omega.{arith}
 use native.Mathlib.Decide.{decLt}
 use borrow.Author.Count.{below-more}
 use lib.ListN.{length, getD}
-use Rattle.answer.specs.declared.Refusal.{Refusal}
 use Rattle.answer.specs.declared.Refusal.the-variants.{Truncated, CountOutOfRange, EntryOutOfRange}
-use Rattle.answer.specs.Checks.{Verdict, passed, refused, FirstFailure}
+use Rattle.answer.specs.Checks.{Verdict, passed, numbered, refused, FirstFailure}
 use Rattle.answer.proofs.Order.{first-passes, first-fails, none-left, refused-before, passed-before, passes-head, passes-tail, AllSingle, single-nil, single-cons}
 use Rattle.sections.specs.Sections.{CountWidth, Section, countBytes, countAt, TruncatedAt, CountOutAt, EntryOutAt, countChecks, entryChecks, sectionChecks}
 use Rattle.sections.specs.declared.Found.{Found}
@@ -156,8 +155,8 @@ pub record SectionGood (s : Section) (rest : List ℕ) : Type 0 where
 
 module _ (s : Section) (input at : ℕ) (rest : List ℕ) where
   -- a refusal of the count refuses the section
-  pub section-count-refused : {r : Refusal} {p : ℕ} → FirstFailure (countChecks (s .width) (s .low) (s .high) input at rest) (refused r input p)
-      → FirstFailure (sectionChecks s input at rest) (refused r input p)
+  pub section-count-refused : {number p : ℕ} → FirstFailure (countChecks (s .width) (s .low) (s .high) input at rest) (numbered number input p)
+      → FirstFailure (sectionChecks s input at rest) (numbered number input p)
   unfolding sectionChecks
   section-count-refused f = refused-before _ _ f
 
@@ -171,9 +170,9 @@ module _ (s : Section) (input at : ℕ) (rest : List ℕ) where
       (subst (λ (n : ℕ). FirstFailure (entryChecks (countBytes (s .width)) (s .entries n) (s .bound n) input at rest) v) (g .is-count) f)
 
   -- an entry missing or out of its range refuses the section
-  pub section-entries-refused : {count p : ℕ} {r : Refusal} → CountGood (s .width) (s .low) (s .high) rest count
-      → FirstFailure (entryChecks (countBytes (s .width)) (s .entries count) (s .bound count) input at rest) (refused r input p)
-      → FirstFailure (sectionChecks s input at rest) (refused r input p)
+  pub section-entries-refused : {count number p : ℕ} → CountGood (s .width) (s .low) (s .high) rest count
+      → FirstFailure (entryChecks (countBytes (s .width)) (s .entries count) (s .bound count) input at rest) (numbered number input p)
+      → FirstFailure (sectionChecks s input at rest) (numbered number input p)
   section-entries-refused g f = section-entries-decide g f
 
   -- good entries under one bound pass it

@@ -1,7 +1,6 @@
 -- The lines 5, 6 and 9 of document 01's table of refusals, for any morphism. Assumes nothing.
 use Prim.Native.Nat.{ℕ, _+_, _*_, _<_}
 use mathlib.Core.Path.{_≡_}
-use mathlib.Core.Logic.{_⊎_}
 use Rattle.theory.specs.Rules.{Morphism, WordOf}
 use Rattle.theory.specs.Pairs.{Idempotent, power}
 

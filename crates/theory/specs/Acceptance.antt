@@ -6,7 +6,7 @@ use mathlib.Core.List.{List}
 use lib.ListN.{length}
 use lib.Dec.{T}
 use Rattle.theory.specs.Words.{Over, Lasso, endless}
-use Rattle.theory.specs.Rules.{Morphism, Pairs, Rule, Value, element, value, marked}
+use Rattle.theory.specs.Rules.{Morphism, Pairs, Rule, element, value, marked}
 
 -- "A rule accepts it if the same endless word can also be written as p followed by w for ever, p and w non-empty, with
 -- (value of p, value of w) marked." A word whose value is an element is not empty. Nothing is accepted with no cycle.

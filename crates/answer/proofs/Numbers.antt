@@ -1,0 +1,38 @@
+-- No two refusals have one number: the number names the refusal. Assumes nothing.
+use Prim.Native.Nat.{ℕ, zero, suc}
+use mathlib.Core.Path.{_≡_, refl, sym, ap, _∙_}
+use mathlib.Core.List.{List, [], _∷_}
+use Rattle.answer.specs.declared.Refusal.{Refusal}
+use Rattle.answer.specs.declared.Refusal.the-variants.{Truncated, CountOutOfRange, EntryOutOfRange, TrailingBytes, NotAssociative, Unreachable, NotLinked, Duplicate, NoIdempotentPower, UnknownLetter, WordLength, NotStrong, BufferTooShort, TooManyMatrices}
+use Rattle.answer.specs.Refusals.{numberOf}
+
+-- the place of a number in a list, the last refusal where the list ends
+unfoldable at : List Refusal → ℕ → Refusal
+at [] n = TooManyMatrices
+at (r ∷ rs) zero = r
+at (r ∷ rs) (suc n) = at rs n
+
+-- the refusal of a number
+unfoldable refusalOf : ℕ → Refusal
+unfolding at
+refusalOf n = at (TooManyMatrices ∷ Truncated ∷ CountOutOfRange ∷ EntryOutOfRange ∷ TrailingBytes ∷ NotAssociative ∷ Unreachable ∷ NotLinked ∷ Duplicate ∷ NoIdempotentPower ∷ UnknownLetter ∷ WordLength ∷ NotStrong ∷ BufferTooShort ∷ []) n
+
+back : (r : Refusal) → refusalOf (numberOf r) ≡ r
+unfolding refusalOf at
+back Truncated = refl
+back CountOutOfRange = refl
+back EntryOutOfRange = refl
+back TrailingBytes = refl
+back NotAssociative = refl
+back Unreachable = refl
+back NotLinked = refl
+back Duplicate = refl
+back NoIdempotentPower = refl
+back UnknownLetter = refl
+back WordLength = refl
+back NotStrong = refl
+back BufferTooShort = refl
+back TooManyMatrices = refl
+
+pub same-number : (r r′ : Refusal) → numberOf r ≡ numberOf r′ → r ≡ r′
+same-number r r′ e = sym (back r) ∙ ap refusalOf e ∙ back r′

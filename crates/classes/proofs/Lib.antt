@@ -1,0 +1,5 @@
+pub mod Bytes
+pub mod Factors
+pub mod Passes
+pub mod Counting
+pub mod Listing
