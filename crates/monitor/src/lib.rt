@@ -1,5 +1,5 @@
 // The monitor (document 01: follower) of a station: it keeps the value of the letters before the last mark and of those since.
-// No event is counted, so nothing can wrap however long a station runs. Every call checks the whole rule.
+// It holds two values and no count, so its state has the same few forms after years. Every call checks the whole rule.
 use answer::Refusal;
 use layout::Shape;
 use rulefile::Checked;

@@ -2,7 +2,7 @@
 ghost use mathlib.Core.Path.{_≡_};
 ghost use Rattle.stretch.specs.Stretch.{stretchOf};
 
-// A part of u, or of v once u is used up. Where a word has no letter or more than 4,224 it is the empty part of u.
+// What is left of u, or of the turn of v that the position lies in. Words that are no words of a call have nothing left.
 pub fn stretch<'a>(u: &'a [u8], v: &'a [u8], position: usize) -> &'a [u8]
     ensures { λ r. ⌜ now r ≡ stretchOf (now (u .entry)) (now (v .entry)) position ⌝ }
 {

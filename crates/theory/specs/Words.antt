@@ -14,7 +14,6 @@ pub record Lasso (k : ℕ) (u v : List ℕ) : Type 0 where
   pub start-some : 0 < length u
   pub cycle-some : 0 < length v
 
--- "u followed by v for ever", position by position: u's letter inside u; past u the place in v is the position
--- less the length of u, modulo the length of v
+-- "u followed by v for ever", position by position: first the letters of u, then those of v over and over
 unfoldable pub endless : List ℕ → List ℕ → ℕ → ℕ
 endless u v i = cond (ltb i (length u)) (getD u i 0) (getD v ((i - length u) % length v) 0)
