@@ -71,35 +71,34 @@ module _ {m : Morphism} (law : Lawful m) {P P′ : Pairs} (linked : LinkedOnly m
   }
 
   -- where no cycle escapes, each accepted lasso is accepted by the second marking too
-  pub included-elim : T (included-test m P P′) → Included m P P′
-  unfolding included-test
-  included-elim t = record { accepted-too = λ u v l a. go u v l a }
+  pub none-included : ((s : ℕ) → s < m .size → (v : List ℕ) → Escapes m P P′ s v → ⊥) → Included m P P′
+  none-included none = record { accepted-too = λ u v l a. go u v l a }
     where
       go : (u v : List ℕ) → Lasso (m .letters) u v → Accepts m P u v → Accepts m P′ u v
       go u v l a =
           by-cases (accepts-dec law linked′ (a .start-over) (a .cycle-over) (value-some m (a .cycle) (a .cycle-element) (a .cycle-value)))
           (λ b. accepts-same (l .cycle-some) (a .same) b)
-          (λ f. absurd (not-T (anyBelow (m .size) (escapes-test m P P′)) t
-          (any-intro (m .size) (escapes-test m P P′) (a .start-element) (inside-of law (a .start-over) (a .start-value))
-          (escapes-intro law (refused-escapes (a .start-over) (a .cycle-over) (a .start-value) (a .cycle-value) (a .is-marked) f)))))
+          (λ f. absurd (none (a .start-element) (inside-of law (a .start-over) (a .start-value)) (a .cycle)
+          (refused-escapes (a .start-over) (a .cycle-over) (a .start-value) (a .cycle-value) (a .is-marked) f)))
+
+  pub included-elim : T (included-test m P P′) → Included m P P′
+  unfolding included-test
+  included-elim t = none-included (λ s h v e. not-T (anyBelow (m .size) (escapes-test m P P′)) t
+      (any-intro (m .size) (escapes-test m P P′) s h (escapes-intro law e)))
 
   -- a short word of s and a short cycle that escapes there are a witness
-  escape-witness : {s : ℕ} → ShortWord m s → ShortEscape m P P′ s → FoundWitness m P P′
+  pub escape-witness : {s : ℕ} (u : ShortWord m s) (v : ShortEscape m P P′ s) → Witness m P P′ (u .word) (v .cycle)
   escape-witness {s} u v =
       let e = v .escapes in
       record {
-        start = u .word;
-        cycle = v .cycle;
-        witness = record {
-          lasso = lasso-of m (u .over) (e .over) (u .its-value) (e .cycle-value);
-          start-short = omega (arith, u .short);
-          cycle-short = omega (arith, v .short);
-          accepted-first = marked-accepted (u .over) (e .over) (u .its-value) (e .cycle-value) (e .is-marked);
-          refused-second = λ a. e .no-split
-              (accepted-splits law
-              (linked .linked s (e .cycle-element) (inside-of law (u .over) (u .its-value)) (inside-of law (e .over) (e .cycle-value)) (e .is-marked))
-              linked′ (u .over) (e .over) (u .its-value) (e .cycle-value) a);
-        };
+        lasso = lasso-of m (u .over) (e .over) (u .its-value) (e .cycle-value);
+        start-short = omega (arith, u .short);
+        cycle-short = omega (arith, v .short);
+        accepted-first = marked-accepted (u .over) (e .over) (u .its-value) (e .cycle-value) (e .is-marked);
+        refused-second = λ a. e .no-split
+            (accepted-splits law
+            (linked .linked s (e .cycle-element) (inside-of law (u .over) (u .its-value)) (inside-of law (e .over) (e .cycle-value)) (e .is-marked))
+            linked′ (u .over) (e .over) (u .its-value) (e .cycle-value) a);
       }
 
   module _ (reached : AllReached m) where
@@ -111,7 +110,10 @@ module _ {m : Morphism} (law : Lawful m) {P P′ : Pairs} (linked : LinkedOnly m
         (λ none. absurd (f (T-not (anyBelow (m .size) (escapes-test m P P′)) none))) (T-dec (anyBelow (m .size) (escapes-test m P P′)))
       where
         found : Found (m .size) (escapes-test m P P′) → FoundWitness m P P′
-        found k = escape-witness (short-word law (reached .word-of (k .at) (k .below))) (escapes-elim law P P′ (k .at) (k .holds))
+        found k =
+            let u = short-word law (reached .word-of (k .at) (k .below)) in
+            let v = escapes-elim law P P′ (k .at) (k .holds) in
+            record { start = u .word; cycle = v .cycle; witness = escape-witness u v }
 
     -- the first marking is included in the second, or a witness is found
     pub included-or-witness : Included m P P′ ⊎ FoundWitness m P P′
@@ -144,17 +146,25 @@ module _ {m : Morphism} (law : Lawful m) {P : Pairs} (linked : LinkedOnly m P) w
     accepted = λ {s} {e} c ou ov eu ev. marked-accepted ou ov eu ev (f s e (inside-of law ou eu) (inside-of law ov ev) (closure-intro c));
   })
 
+  -- a marking that includes its closure is strong
+  pub included-strong : Included m (closure-test m P) P → Strong m P
+  included-strong i = all-strong law linked (included-all i)
+
+  -- and a strong one includes it
+  pub strong-included : AllReached m → Strong m P → Included m (closure-test m P) P
+  strong-included reached strong = all-included law linked (strong-all law linked reached strong)
+
   -- a marking that passes is strong
   pub strong-test-elim : T (strong-test m P) → Strong m P
   unfolding strong-test
-  strong-test-elim t = all-strong law linked (included-all (included-elim law (closure-linked m P) linked t))
+  strong-test-elim t = included-strong (included-elim law (closure-linked m P) linked t)
 
   module _ (reached : AllReached m) where
     -- and a strong marking passes
     pub strong-test-intro : Strong m P → T (strong-test m P)
     unfolding strong-test
     strong-test-intro strong =
-        included-iff law (closure-linked m P) linked reached .1 (all-included law linked (strong-all law linked reached strong))
+        included-iff law (closure-linked m P) linked reached .1 (strong-included reached strong)
 
     pub strong-iff : T (strong-test m P) ↔ Strong m P
     strong-iff = (strong-test-elim, strong-test-intro)

@@ -1,0 +1,176 @@
+-- The rule of an automaton. Its elements are the matrices of words: every element is some word's value, and the product of
+-- elements is that of their matrices. Acceptance by the automaton depends on the values only. Marked as document 01 says, the
+-- rule is strong, accepts exactly the lassos with an accepting run, and marks every linked pair whose lassos are accepted.
+-- Assumes nothing.
+use Prim.Native.Nat.{ℕ, _<_}
+use mathlib.Core.Path.{_≡_, sym, ap, subst, _∙_}
+use mathlib.Core.Bool.{_&&_}
+use mathlib.Core.List.{List}
+use mathlib.Core.Logic.{_↔_}
+use lib.Dec.{T}
+use Rattle.finite.proofs.Tests.{T-and, T-and-left, T-and-right}
+use Rattle.theory.specs.Words.{Over, Lasso}
+use Rattle.theory.specs.Rules.{Morphism, Lawful, Pairs, element, value, WordOf, AllReached}
+use Rattle.theory.specs.Acceptance.{Accepts, Strong}
+use Rattle.theory.specs.Pairs.{Linked, LinkedOnly}
+use Rattle.theory.specs.Smallest.{LinkedAccepted, MarksAccepted}
+use Rattle.theory.proofs.Words.{over-append}
+use Rattle.theory.proofs.Values.{value-element, value-some, inside-of}
+use Rattle.theory.proofs.Strength.{lasso-of, value-two, settled-cycle, settled-start, settled-linked, Settled, settle}
+use Rattle.theory.proofs.Closure.{linked-test, linked-intro, linked-elim}
+use Rattle.buchi.specs.Automata.{Automaton, AcceptedBy}
+use Rattle.buchi.specs.Matrices.{Matrix, IsMatrix, SameEntries}
+use Rattle.buchi.specs.Rule.{MatrixWord, MatricesOf, Recurs, MarkedBy, AcceptsRuns}
+use Rattle.buchi.proofs.Products.{product, equal-numbers}
+use Rattle.buchi.proofs.WordMatrices.{matrix-unique, matrix-append}
+use Rattle.buchi.proofs.Recurrence.{recurrence, recurs-accepted}
+use Rattle.buchi.proofs.LassoRuns.{accepted-same}
+use Rattle.buchi.proofs.MatrixTests.{recurs-test, recurs-intro, recurs-elim}
+
+-- ---- the elements are matrices
+
+module _ {a : Automaton} {m : Morphism} {matrix : ℕ → Matrix} (law : Lawful m) (mats : MatricesOf a m matrix) where
+  -- a word has the matrix of its value
+  pub value-matrix : {w : List ℕ} {s : ℕ} → Over (m .letters) w → value m w ≡ element s → IsMatrix a w (matrix s)
+  value-matrix {w} {s} o e = mats .each-word w s (subst (λ k. Over k w) (mats .same-letters) o) e
+
+  -- elements whose matrices have the same entries are equal
+  pub matrix-injective : {s t : ℕ} → s < m .size → t < m .size → SameEntries (a .states) (matrix s) (matrix t) → s ≡ t
+  matrix-injective {s} {t} hs ht = equal-numbers (mats .apart s t hs ht)
+
+  -- every element is the value of the word that it is the matrix of
+  word-of : (s : ℕ) → s < m .size → MatrixWord a (matrix s) → WordOf m s
+  word-of s h w =
+      let over : Over (m .letters) (w .word) = subst (λ k. Over k (w .word)) (sym (mats .same-letters)) (w .over) in
+      let v = value-element law over (w .some) in
+      let e : v .the ≡ s = matrix-injective (v .inside) h (matrix-unique (value-matrix over (v .is)) (w .is-matrix)) in
+      record { word = w .word; over = over; its-value = v .is ∙ ap element e }
+
+  pub elements-reached : AllReached m
+  elements-reached = record { word-of = λ s h. word-of s h (mats .some-word s h) }
+
+  -- the product of elements is the product of their matrices
+  pub element-product : {s t : ℕ} → s < m .size → t < m .size → SameEntries (a .states) (product (a .states) (matrix s) (matrix t)) (matrix (m .product s t))
+  element-product {s} {t} hs ht =
+      let x = elements-reached .word-of s hs in
+      let y = elements-reached .word-of t ht in
+      matrix-unique (matrix-append (value-matrix (x .over) (x .its-value)) (value-matrix (y .over) (y .its-value)))
+      (value-matrix (over-append (x .over) (y .over)) (value-two law (x .over) (y .over) (x .its-value) (y .its-value)))
+
+  product-is : {s t r : ℕ} → s < m .size → t < m .size → m .product s t ≡ r → SameEntries (a .states) (product (a .states) (matrix s) (matrix t)) (matrix r)
+  product-is {s} {t} hs ht e = subst (λ r. SameEntries (a .states) (product (a .states) (matrix s) (matrix t)) (matrix r)) e (element-product hs ht)
+
+  -- ---- runs and values
+
+  -- a lasso whose values are linked
+  pub linked-recurrence : {x y : List ℕ} {s e : ℕ} → Linked m s e → Over (m .letters) x → Over (m .letters) y → value m x ≡ element s → value m y ≡ element e
+      → AcceptedBy a x y ↔ Recurs a (matrix s) (matrix e)
+  linked-recurrence {x} {y} {s} {e} l ox oy ex ey =
+      recurrence (value-some m y e ey) (value-matrix ox ex) (value-matrix oy ey)
+      (product-is (l .idempotent .inside) (l .idempotent .inside) (l .idempotent .square))
+      (product-is (l .inside) (l .idempotent .inside) (l .stays))
+
+  -- any lasso: its values decide
+  pub value-recurrence : {u v : List ℕ} {s z : ℕ} → Over (m .letters) u → Over (m .letters) v → value m u ≡ element s → value m v ≡ element z
+      → AcceptedBy a u v ↔ Recurs a (matrix (settled-start m s z)) (matrix (settled-cycle m z))
+  value-recurrence {u} {v} {s} {z} ou ov eu ev =
+      let t : Settled m u v s z = settle law ou ov eu ev in
+      let both = linked-recurrence (settled-linked law (inside-of law ou eu) (inside-of law ov ev)) (t .start-over) (t .cycle-over) (t .start-value) (t .cycle-value) in
+      (λ k. both .0 (accepted-same (λ i. sym (t .same i)) k), λ k. accepted-same (t .same) (both .1 k))
+
+  -- lassos whose starts have equal values and whose cycles have equal values are both accepted or both not
+  pub same-values : {u v u′ v′ : List ℕ} → Lasso (m .letters) u v → Lasso (m .letters) u′ v′ → value m u ≡ value m u′ → value m v ≡ value m v′
+      → AcceptedBy a u v → AcceptedBy a u′ v′
+  same-values l l′ eu ev k =
+      let s = value-element law (l .start-over) (l .start-some) in
+      let z = value-element law (l .cycle-over) (l .cycle-some) in
+      value-recurrence (l′ .start-over) (l′ .cycle-over) (sym eu ∙ s .is) (sym ev ∙ z .is) .1
+      (value-recurrence (l .start-over) (l .cycle-over) (s .is) (z .is) .0 k)
+
+  -- ---- the marking
+
+  module _ {P : Pairs} (marking : MarkedBy a m matrix P) where
+    -- only linked pairs are marked
+    pub marked-linked : LinkedOnly m P
+    marked-linked = record { linked = λ s e hs he t. marking .marks s e hs he .0 t .0 }
+
+    accepts-run : {u v : List ℕ} → Accepts m P u v → AcceptedBy a u v
+    accepts-run k =
+        let hs = inside-of law (k .start-over) (k .start-value) in
+        let he = inside-of law (k .cycle-over) (k .cycle-value) in
+        accepted-same (k .same)
+        (recurs-accepted (value-some m (k .cycle) (k .cycle-element) (k .cycle-value)) (value-matrix (k .start-over) (k .start-value)) (value-matrix (k .cycle-over) (k .cycle-value))
+        (marking .marks (k .start-element) (k .cycle-element) hs he .0 (k .is-marked) .1))
+
+    run-accepts : {u v : List ℕ} → Lasso (m .letters) u v → AcceptedBy a u v → Accepts m P u v
+    run-accepts {u} {v} l k =
+        let s = value-element law (l .start-over) (l .start-some) in
+        let z = value-element law (l .cycle-over) (l .cycle-some) in
+        let t : Settled m u v (s .the) (z .the) = settle law (l .start-over) (l .cycle-over) (s .is) (z .is) in
+        let pair = settled-linked law (s .inside) (z .inside) in
+        record {
+          cycle-some = l .cycle-some;
+          start = t .start;
+          cycle = t .cycle;
+          start-over = t .start-over;
+          cycle-over = t .cycle-over;
+          same = t .same;
+          start-element = settled-start m (s .the) (z .the);
+          cycle-element = settled-cycle m (z .the);
+          start-value = t .start-value;
+          cycle-value = t .cycle-value;
+          is-marked =
+              marking .marks (settled-start m (s .the) (z .the)) (settled-cycle m (z .the)) (pair .inside) (pair .idempotent .inside) .1
+              (pair, value-recurrence (l .start-over) (l .cycle-over) (s .is) (z .is) .0 k);
+        }
+
+    -- "The rule accepts exactly the lassos on which some run from an initial state meets a final state again and again."
+    pub rule-accepts-runs : AcceptsRuns a m P
+    rule-accepts-runs = record { accepts = λ u v l. (accepts-run, run-accepts l) }
+
+    -- the rule is strong
+    pub rule-strong : Strong m P
+    rule-strong = record {
+      both-or-neither = λ u v u′ v′ l l′ eu ev.
+          (λ k. run-accepts l′ (same-values l l′ eu ev (accepts-run k)), λ k. run-accepts l (same-values l′ l (sym eu) (sym ev) (accepts-run k)));
+    }
+
+    marked-accepted : (s e : ℕ) → s < m .size → e < m .size → T (P s e) → LinkedAccepted m P s e
+    marked-accepted s e hs he t =
+        let k = marking .marks s e hs he .0 t in
+        record {
+          linked = k .0;
+          start = elements-reached .word-of s hs;
+          cycle = elements-reached .word-of e he;
+          accepted = λ u v l eu ev. run-accepts l (linked-recurrence (k .0) (l .start-over) (l .cycle-over) eu ev .1 (k .1));
+        }
+
+    accepted-marked : (s e : ℕ) → s < m .size → e < m .size → LinkedAccepted m P s e → T (P s e)
+    accepted-marked s e hs he k =
+        let x = k .start in
+        let y = k .cycle in
+        let l : Lasso (m .letters) (x .word) (y .word) = lasso-of m (x .over) (y .over) (x .its-value) (y .its-value) in
+        marking .marks s e hs he .1
+        (k .linked, linked-recurrence (k .linked) (x .over) (y .over) (x .its-value) (y .its-value) .0 (accepts-run (k .accepted (x .word) (y .word) l (x .its-value) (y .its-value))))
+
+    -- it marks every linked pair whose lassos are accepted
+    pub rule-marks-accepted : MarksAccepted m P
+    rule-marks-accepted = record { marks = λ s e hs he. (marked-accepted s e hs he, accepted-marked s e hs he) }
+
+-- ---- the marking computed
+
+-- the pair is linked, and for some initial p and some q entry (p, q) of its first matrix is not 0 and entry (q, q) of its
+-- second is 2
+unfoldable pub run-marks : Automaton → Morphism → (ℕ → Matrix) → Pairs
+run-marks a m matrix s e =
+    let found = recurs-test a (matrix s) (matrix e) in
+    linked-test m s e && found
+
+pub run-marked : (a : Automaton) (m : Morphism) (matrix : ℕ → Matrix) → MarkedBy a m matrix (run-marks a m matrix)
+unfolding run-marks
+run-marked a m matrix = record {
+  marks = λ s e hs he. (
+    λ t. (linked-elim m s e (T-and-left (linked-test m s e) _ t), recurs-elim a (matrix s) (matrix e) (T-and-right (linked-test m s e) _ t)),
+    λ k. T-and (linked-test m s e) _ (linked-intro (k .0)) (recurs-intro a (matrix s) (matrix e) (k .1)),
+  );
+}

@@ -1,0 +1,6 @@
+pub mod Tables
+pub mod Columns
+pub mod Factors
+pub mod Passes
+pub mod Answers
+pub mod Agreement

@@ -1,0 +1,3 @@
+pub mod LastBelow
+pub mod Letters
+pub mod Listing

@@ -1,0 +1,52 @@
+-- Which values a letter takes to an element, listed once for each letter: from the last one back to the first. A value is
+-- known by its number: an element by its own, the empty word's by the size of the table. Assumes nothing.
+use Prim.Native.Nat.{ℕ, _+_, _*_, _≤_, _<_}
+use mathlib.Core.Path.{_≡_}
+use mathlib.Core.Bool.{cond}
+use mathlib.Core.List.{List}
+use lib.ListN.{length, getD}
+use lib.Dec.{ltb}
+use Rattle.theory.specs.Rules.{Morphism}
+
+-- the element of the value with number c and then the letter a
+unfoldable pub afterLetter : Morphism → ℕ → ℕ → ℕ
+afterLetter m a c = cond (ltb c (m .size)) (m .product c (m .image a)) (m .image a)
+
+-- r is one more than the last number below c with the property, and 0 where none has it
+pub record LastBelow (P : ℕ → Type 0) (c r : ℕ) : Type 0 where
+  pub within : r ≤ c
+  pub holds : (i : ℕ) → r ≡ i + 1 → P i
+  pub later : (i : ℕ) → r ≤ i → i < c → P i → ⊥
+
+-- byte 57344 + (a·65 + x): the last value that the letter a takes to x
+unfoldable pub firstAt : List ℕ → ℕ → ℕ → ℕ
+firstAt scratch a x = getD scratch (57344 + (a * 65 + x)) 0
+
+-- byte 59392 + (a·65 + c): the last value below c that the letter a takes to where it takes c
+unfoldable pub nextAt : List ℕ → ℕ → ℕ → ℕ
+nextAt scratch a c = getD scratch (59392 + (a * 65 + c)) 0
+
+-- the lists of one letter, of the values below a number
+pub record Listed (m : Morphism) (a below : ℕ) (scratch : List ℕ) : Type 0 where
+  pub firsts : (x : ℕ) → x < m .size → LastBelow (λ c. afterLetter m a c ≡ x) below (firstAt scratch a x)
+  pub nexts : (c : ℕ) → c < below → LastBelow (λ d. afterLetter m a d ≡ afterLetter m a c) c (nextAt scratch a c)
+
+-- the lists of every letter
+pub record Preimages (m : Morphism) (scratch : List ℕ) : Type 0 where
+  pub listed : (a : ℕ) → a < m .letters → Listed m a (m .size + 1) scratch
+
+-- room for the lists, and no value listed yet
+pub record PreimagesRoom (scratch : List ℕ) : Type 0 where
+  pub room : 61440 ≤ length scratch
+  pub blank : (i : ℕ) → 57344 ≤ i → i < 59392 → getD scratch i 0 ≡ 0
+
+-- only the bytes of the lists may differ
+pub record KeptBut (entry exit : List ℕ) : Type 0 where
+  pub same-length : length exit ≡ length entry
+  pub before : (i : ℕ) → i < 57344 → getD exit i 0 ≡ getD entry i 0
+  pub after : (i : ℕ) → 61440 ≤ i → getD exit i 0 ≡ getD entry i 0
+
+-- the lists of every letter, and nothing else changed
+pub record PreimagesListed (m : Morphism) (entry exit : List ℕ) : Type 0 where
+  pub preimages : Preimages m exit
+  pub kept : KeptBut entry exit
