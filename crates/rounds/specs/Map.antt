@@ -1,0 +1,39 @@
+-- The map of scratch while a rule is reduced: where the marks, the outcomes and the blocks stand. Assumes nothing.
+--
+--    4096  the closure of the rule's marks, a byte for each pair (s, e), at s·64 + e; read only here
+--    8192  the outcomes, a byte for each pair of values (s, z), at s·64 + z: 1 for accepted, else 0
+--   12288  the blocks, a byte for each element: the least element of its block
+--   12352  the blocks after the round that is being worked out, laid out alike; they end at 12416
+use Prim.Native.Nat.{ℕ, _+_, _*_, _≤_, _<_}
+use mathlib.Core.Path.{_≡_}
+use mathlib.Core.List.{List}
+use lib.ListN.{length, getD}
+use Rattle.finite.proofs.Search.{bit}
+use Rattle.theory.specs.Rules.{Morphism}
+use Rattle.theory.proofs.Strength.{settled-start, settled-cycle}
+use Rattle.scratch.specs.Map.{pairsFrom}
+
+-- what lassos with the values (s, z) come to, by a table of marks from 4096 on: 1 if it has the pair (s·f, f), f the
+-- idempotent power of z, else 0
+unfoldable pub outcomeOf : Morphism → List ℕ → ℕ → ℕ → ℕ
+outcomeOf m scratch s z = bit (pairsFrom scratch 4096 (settled-start m s z) (settled-cycle m z))
+
+-- the byte of the outcome of (s, z)
+unfoldable pub outcomeAt : List ℕ → ℕ → ℕ → ℕ
+outcomeAt scratch s z = getD scratch (8192 + (s * 64 + z)) 0
+
+-- s and t have the same byte from 12288 on
+unfoldable pub InOneBlock : List ℕ → ℕ → ℕ → Type 0
+InOneBlock scratch s t = getD scratch (12288 + s) 0 ≡ getD scratch (12288 + t) 0
+
+-- the bytes from a base on have for each of n elements the least that is related to it
+pub record BlocksAt (n : ℕ) (R : ℕ → ℕ → Type 0) (scratch : List ℕ) (base : ℕ) : Type 0 where
+  pub at-most : (s : ℕ) → s < n → getD scratch (base + s) 0 ≤ s
+  pub related : (s : ℕ) → s < n → R (getD scratch (base + s) 0) s
+  pub least : (s t : ℕ) → s < n → t < getD scratch (base + s) 0 → R t s → ⊥
+
+-- only the bytes from `from` up to `to` may differ
+pub record KeptOutside (from to : ℕ) (entry exit : List ℕ) : Type 0 where
+  pub same-length : length exit ≡ length entry
+  pub before : (i : ℕ) → i < from → getD exit i 0 ≡ getD entry i 0
+  pub after : (i : ℕ) → to ≤ i → getD exit i 0 ≡ getD entry i 0
