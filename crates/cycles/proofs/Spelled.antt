@@ -101,15 +101,18 @@ module _ {m : Morphism} (law : Lawful m) {P P′ : Pairs} {s : ℕ} {scratch : L
     long = h;
   }
 
-  -- the letters of an entry with nothing in front are a short cycle that escapes
-  pub spelled-escapes : {w : List ℕ} → Spells (m .size) scratch i w → length w ≤ i → ShortEscape m P P′ s
+  -- the letters of an entry with nothing in front are a cycle that escapes
+  pub spelled-escapes : {w : List ℕ} → Spells (m .size) scratch i w → Escapes m P P′ s w
   unfolding stateAt
-  spelled-escapes {w} r h = record {
-    cycle = w;
-    escapes = ends-escapes law (spelled-reached law (k .entries) (k .below) r) (value-at-none (m .size) (frontAt scratch i) (omega (arith, k .no-front)));
-    short = let b = queue-bound (k .entries .queue) in omega (arith, k .below);
-  }
+  spelled-escapes {w} r =
+      ends-escapes law (spelled-reached law (k .entries) (k .below) r) (value-at-none (m .size) (frontAt scratch i) (omega (arith, k .no-front)))
+
+  -- and a short one
+  pub ended-short : (l : ℕ) → l ≤ i → l ≤ (m .size + 1) * (m .size + 1) - 1
+  ended-short l h = let b = queue-bound (k .entries .queue) in omega (arith, k .below)
 
   -- so there is one
   pub ended-escapes : ShortEscape m P P′ s
-  ended-escapes = let r = entry-spelled law (k .entries) i (k .below) in spelled-escapes (r .spells) (r .short)
+  ended-escapes =
+      let r = entry-spelled law (k .entries) i (k .below) in
+      record { cycle = r .word; escapes = spelled-escapes (r .spells); short = ended-short (length (r .word)) (r .short) }
