@@ -1,0 +1,55 @@
+-- What a call that reads an automaton first knows of it afterwards. Assumes nothing.
+use Prim.Native.Nat.{ℕ, _≤_, _<_}
+use mathlib.Core.Path.{_≡_, refl, ap, _∙_, subst}
+use mathlib.Core.Bool.{Bool}
+use mathlib.Core.List.{List}
+use native.Mathlib.Omega.{arith}
+use lib.ListN.{length, getD, replicate}
+use Rattle.answer.specs.declared.Refusal.{Refusal}
+use Rattle.answer.specs.Checks.{passed, FirstFailure}
+use Rattle.answer.proofs.Order.{passes-head, passes-tail}
+use Rattle.format.specs.RuleChecks.{scratchSize}
+use Rattle.rulefile.specs.Answers.{afterCall}
+use Rattle.rulefile.proofs.Promise.{zeros-after}
+use Rattle.automatonformat.specs.AutomatonChecks.{readChecks}
+use Rattle.automatonformat.specs.GoodAutomaton.{GoodAutomaton}
+use Rattle.automatonfile.specs.declared.AutomatonRead.{AutomatonRead}
+use Rattle.automatonfile.specs.declared.AutomatonRead.the-variants.{Automaton, Refused}
+use Rattle.automatonfile.specs.Answers.{tripleIndex, TransitionsLaid, ReadPromise}
+use Rattle.automatonfile.proofs.Laid.{index-apart}
+use Rattle.automatonfile.proofs.CheckedAutomaton.{good-automaton}
+
+module _ (input : ℕ) (bytes entry : List ℕ) (all : FirstFailure (readChecks input bytes entry) passed) where
+  -- scratch had its size
+  pub scratch-long : scratchSize ≤ length entry
+  scratch-long =
+      let f : length entry < scratchSize → ⊥ = λ h. passes-head all .nowhere 0 (record { short = h; is-place = refl }) in
+      omega arith
+
+  -- the automaton is good
+  pub called-good : GoodAutomaton bytes
+  called-good = good-automaton input bytes (passes-tail all)
+
+  -- zeros over the whole length are what a call leaves
+  pub zeros-left : (mid exit : List ℕ) → length mid ≡ length entry → exit ≡ replicate (length mid) 0 → exit ≡ afterCall entry
+  zeros-left mid exit e z = z ∙ ap (λ (x : ℕ). replicate x 0) e ∙ zeros-after entry scratch-long
+
+-- the reading's answer, known by its case
+module _ (input : ℕ) (bytes entry exit : List ℕ) (answer : AutomatonRead) (known : ReadPromise input bytes entry exit answer) where
+  pub was-read : {m k t : ℕ} → answer ≡ Automaton m k t → ReadPromise input bytes entry exit (Automaton m k t)
+  was-read e = subst (ReadPromise input bytes entry exit) e known
+
+  pub was-refused : {r : Refusal} {i place : ℕ} → answer ≡ Refused r i place → ReadPromise input bytes entry exit (Refused r i place)
+  was-refused e = subst (ReadPromise input bytes entry exit) e known
+
+-- a triple out of range has the byte 0
+pub laid-outside : {present : ℕ → ℕ → ℕ → Bool} {m k size : ℕ} {exit : List ℕ} → m ≤ 6 → k ≤ 16 → TransitionsLaid present m k size exit
+    → (p a q : ℕ) → a < 16 → q < 6 → ((p < m) × (a < k) × (q < m) → ⊥) → getD exit (tripleIndex p a q) 0 ≡ 0
+laid-outside hm hk l p a q ha hq f =
+    l .other (tripleIndex p a q)
+    (λ p′ a′ q′ gp ga gq e.
+    let d = index-apart p a q p′ a′ q′ ha hq (omega arith) (omega arith) e in
+    let ep : p ≡ p′ = d .0 in
+    let ea : a ≡ a′ = d .1 in
+    let eq : q ≡ q′ = d .2 in
+    f (omega arith, omega arith, omega arith))

@@ -1,0 +1,81 @@
+-- The counts that were read, and what the checks after the sections say in terms of them. Assumes nothing.
+use Prim.Native.Nat.{ℕ, _+_, _*_, _≤_, _<_}
+use mathlib.Core.Path.{_≡_, sym, ap, _∙_, subst}
+use mathlib.Core.Logic.{⊎-elim}
+use mathlib.Core.List.{List}
+use native.Mathlib.Omega.{arith}
+use lib.ListN.{length, getD, drop, replicate, length-drop, length-replicate, getD-replicate, List·getD-eq-default}
+use Rattle.answer.specs.declared.Refusal.the-variants.{TrailingBytes}
+use Rattle.answer.specs.Checks.{Verdict, refused, FirstFailure}
+use Rattle.answer.proofs.Order.{first-passes, first-fails}
+use Rattle.finite.proofs.Numbers.{le-or-lt}
+use Rattle.format.specs.RuleChecks.{trailingCheck}
+use Rattle.rulefile.specs.declared.Fault.{Fault}
+use Rattle.rulefile.specs.declared.Fault.the-variants.{Nothing, Refused}
+use Rattle.rulefile.specs.Answers.{FaultAnswer, Blank}
+use Rattle.automatonformat.specs.Format.{lettersAt, transitionsAt, transitionsOf, automatonEnd}
+use Rattle.automatonformat.specs.AutomatonChecks.{repeatedChecks, contentChecks}
+use Rattle.automatonformat.specs.GoodAutomaton.{GoodSections}
+use Rattle.automatonfile.specs.declared.Counts.{Counts}
+use Rattle.automatonfile.specs.Answers.{LayoutPassed, TransitionsPlace, BlankRoom}
+use Rattle.automatonfile.proofs.Passed.{good-sections}
+
+-- zeros are 0 wherever they are read
+zero-at : (n i : ℕ) → _≡_ {A = ℕ} (getD (replicate n 0) i 0) 0
+zero-at n i =
+    ⊎-elim (λ (h : n ≤ i). List·getD-eq-default (replicate n 0) 0 (omega (arith, length-replicate {A = ℕ} n 0))) (λ h. getD-replicate n i 0 0 h) (le-or-lt n i)
+
+-- a blank scratch has room for the transitions
+pub blank-room : {scratch : List ℕ} → Blank scratch → BlankRoom scratch
+blank-room {scratch} b = record {
+  room = omega (arith, b .room);
+  blank = λ i. subst (λ (l : List ℕ). getD l i 0 ≡ 0) (sym (b .zeros)) (zero-at (length scratch) i);
+}
+
+module _ (bytes : List ℕ) (counts : Counts) (p : LayoutPassed bytes counts) where
+  abbrev m : ℕ
+  m = counts .states
+
+  abbrev count : ℕ
+  count = counts .transitions
+
+  sections : GoodSections bytes
+  sections = good-sections 1 bytes (p .verdict 1)
+
+  pub m-small : m ≤ 6
+  m-small = omega (arith, sections .states-small, p .counts-are .states-are)
+
+  pub count-small : count ≤ 576
+  count-small = omega (arith, sections .transitions-small, p .counts-are .transitions-are)
+
+  -- where the transitions' section stands
+  pub transitions-place : TransitionsPlace bytes (1 + m + 1) count
+  unfolding transitionsAt lettersAt
+  transitions-place = record { sections = sections; is-place = ap (λ (x : ℕ). 1 + x + 1) (p .counts-are .states-are); is-count = p .counts-are .transitions-are }
+
+  -- and where it ends
+  end-is : 1 + m + 1 + (2 + 3 * count) ≡ automatonEnd bytes
+  unfolding automatonEnd
+  end-is = ap (λ (x : ℕ). x + (2 + 3 * count)) (transitions-place .is-place) ∙ ap (λ (x : ℕ). transitionsAt bytes + (2 + 3 * x)) (transitions-place .is-count)
+
+  pub end-in : 1 + m + 1 + (2 + 3 * count) ≤ length bytes
+  end-in = omega (arith, sections .long, end-is)
+
+  module _ {rest : List ℕ} (e : rest ≡ drop (1 + m + 1 + (2 + 3 * count)) bytes) where
+    rest-long : length rest + automatonEnd bytes ≡ length bytes
+    rest-long = omega (arith, ap length e, length-drop (1 + m + 1 + (2 + 3 * count)) bytes, end-is, end-in)
+
+    -- bytes follow
+    pub trailing : 0 < length rest → (input : ℕ) → FirstFailure (contentChecks input bytes) (refused TrailingBytes input (1 + m + 1 + (2 + 3 * count)))
+    trailing h input =
+        first-fails (trailingCheck input (automatonEnd bytes) bytes) (record { longer = omega (arith, rest-long); is-place = end-is })
+
+    follows-none : length rest ≤ 0 → (input : ℕ) {v : Verdict} → FirstFailure (repeatedChecks input bytes 0 (transitionsOf bytes)) v
+        → FirstFailure (contentChecks input bytes) v
+    follows-none h input f = first-passes (record { nowhere = λ place t. omega (arith, rest-long, t .longer) }) f
+
+    -- no byte follows, and the transitions decide
+    pub transitions-decide : length rest ≤ 0 → (answer : Fault) → FaultAnswer (λ input. repeatedChecks input bytes 0 (transitionsOf bytes)) answer
+        → FaultAnswer (λ input. contentChecks input bytes) answer
+    transitions-decide h Nothing f = λ input. follows-none h input (f input)
+    transitions-decide h (Refused r place) f = λ input. follows-none h input (f input)

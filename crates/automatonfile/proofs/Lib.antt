@@ -1,0 +1,12 @@
+pub mod TripleBytes
+pub mod Sectioned
+pub mod Rows
+pub mod Passed
+pub mod RepeatedOrder
+pub mod Laid
+pub mod Places
+pub mod Content
+pub mod Promise
+pub mod CheckedAutomaton
+pub mod Calls
+pub mod OneVerdict

@@ -1,0 +1,83 @@
+-- What each way through the reading promises. Assumes nothing.
+use Prim.Native.Nat.{ℕ, _≤_, _<_}
+use mathlib.Core.Path.{_≡_, refl, sym, ap, _∙_, subst}
+use mathlib.Core.List.{List}
+use native.Mathlib.Omega.{arith}
+use borrow.Author.Tests.{lt-ltb}
+use lib.ListN.{length, replicate, length-replicate}
+use Rattle.answer.specs.declared.Refusal.{Refusal}
+use Rattle.answer.specs.declared.Refusal.the-variants.{BufferTooShort}
+use Rattle.answer.specs.Checks.{Verdict, passed, refused, FirstFailure}
+use Rattle.answer.proofs.Order.{first-passes, first-fails, refused-before, passed-before}
+use Rattle.format.specs.RuleChecks.{bufferCheck, scratchSize}
+use Rattle.rulefile.specs.declared.Fault.{Fault}
+use Rattle.rulefile.specs.declared.Fault.the-variants.{Nothing, Refused as Fault-refused}
+use Rattle.rulefile.specs.Answers.{afterCall}
+use Rattle.rulefile.proofs.Promise.{zeros-after}
+use Rattle.automatonformat.specs.Format.{statesOf, lettersOf, hasTransition}
+use Rattle.automatonformat.specs.AutomatonChecks.{layoutChecks, contentChecks, automatonChecks, readChecks}
+use Rattle.automatonfile.specs.declared.Counts.{Counts}
+use Rattle.automatonfile.specs.declared.Layout.{Layout}
+use Rattle.automatonfile.specs.declared.Layout.the-variants.{Read, Refused as Layout-refused}
+use Rattle.automatonfile.specs.declared.AutomatonRead.the-variants.{Automaton, Refused}
+use Rattle.automatonfile.specs.Answers.{LayoutAnswer, LayoutPassed, LaidAnswer, TransitionsLaid, ReadPromise}
+
+-- a short scratch is left as it came
+pub short-scratch : (input : ℕ) (bytes scratch : List ℕ) → length scratch < scratchSize → ReadPromise input bytes scratch scratch (Refused BufferTooShort 1 0)
+unfolding afterCall
+short-scratch input bytes scratch h = record {
+  verdict = first-fails (bufferCheck scratchSize scratch) (record { short = h; is-place = refl });
+  scratch = sym (simp (lt-ltb (length scratch) scratchSize h));
+}
+
+module _ (bytes : List ℕ) (answer : Layout) (known : LayoutAnswer bytes answer) where
+  pub layout-said : {counts : Counts} → answer ≡ Read counts → LayoutPassed bytes counts
+  layout-said e = subst (LayoutAnswer bytes) e known
+
+  pub layout-refused : {r : Refusal} {place : ℕ} → answer ≡ Layout-refused r place → (input : ℕ) → FirstFailure (layoutChecks input bytes) (refused r input place)
+  layout-refused e = subst (LayoutAnswer bytes) e known
+
+module _ (input : ℕ) (bytes entry : List ℕ) (h : scratchSize ≤ length entry) where
+  after-buffer : {v : Verdict} → FirstFailure (automatonChecks input bytes) v → FirstFailure (readChecks input bytes entry) v
+  after-buffer f = first-passes (record { nowhere = λ place s. omega (arith, s .short) }) f
+
+  -- a section refuses
+  pub layout-promise : {exit : List ℕ} {r : Refusal} {place : ℕ} → exit ≡ replicate (length entry) 0
+      → ((input : ℕ) → FirstFailure (layoutChecks input bytes) (refused r input place)) → ReadPromise input bytes entry exit (Refused r input place)
+  unfolding automatonChecks
+  layout-promise z f = record { verdict = after-buffer (refused-before _ _ (f input)); scratch = z ∙ zeros-after entry h }
+
+  module _ {counts : Counts} (p : LayoutPassed bytes counts) where
+    -- what follows the sections refuses
+    pub content-promise : {exit : List ℕ} {r : Refusal} {place : ℕ} → exit ≡ replicate (length entry) 0
+        → ((input : ℕ) → FirstFailure (contentChecks input bytes) (refused r input place)) → ReadPromise input bytes entry exit (Refused r input place)
+    unfolding automatonChecks
+    content-promise z f = record { verdict = after-buffer (passed-before _ _ (p .verdict input) (f input)); scratch = z ∙ zeros-after entry h }
+
+    -- every check passes
+    pub automaton-promise : {zeros exit : List ℕ} → zeros ≡ replicate (length entry) 0 → ((input : ℕ) → FirstFailure (contentChecks input bytes) passed)
+        → TransitionsLaid (hasTransition bytes) (statesOf bytes) (lettersOf bytes) (length zeros) exit
+        → ReadPromise input bytes entry exit (Automaton (counts .states) (counts .letters) (counts .transitions))
+    unfolding automatonChecks
+    automaton-promise {zeros} {exit} z f l = record {
+      verdict = after-buffer (passed-before _ _ (p .verdict input) (f input));
+      scratch = record {
+        counts-are = p .counts-are;
+        laid =
+            subst (λ (n : ℕ). TransitionsLaid (hasTransition bytes) (statesOf bytes) (lettersOf bytes) n exit)
+            (ap length z ∙ length-replicate (length entry) 0) l;
+      };
+    }
+
+-- what the checks after the sections leave, known by their answer
+module _ (bytes entry exit : List ℕ) (answer : Fault) (known : LaidAnswer bytes entry exit answer) where
+  pub laid-said : answer ≡ Nothing → TransitionsLaid (hasTransition bytes) (statesOf bytes) (lettersOf bytes) (length entry) exit
+  laid-said e = subst (LaidAnswer bytes entry exit) e known
+
+  pub kept-said : {r : Refusal} {place : ℕ} → answer ≡ Fault-refused r place → length exit ≡ length entry
+  kept-said e = subst (LaidAnswer bytes entry exit) e known
+
+-- a scratch that kept its length from zeros on, made zeros again
+pub zeros-again : (entry zeros : List ℕ) {size : ℕ} {exit : List ℕ} → zeros ≡ replicate (length entry) 0 → size ≡ length zeros → exit ≡ replicate size 0
+    → exit ≡ replicate (length entry) 0
+zeros-again entry zeros z k e = e ∙ ap (λ (n : ℕ). replicate n 0) (k ∙ ap length z ∙ length-replicate (length entry) 0)

@@ -1,0 +1,3 @@
+pub mod Format
+pub mod AutomatonChecks
+pub mod GoodAutomaton
