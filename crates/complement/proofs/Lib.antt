@@ -1,2 +1,4 @@
 pub mod Turned
 pub mod Complements
+pub mod Writing
+pub mod Calling

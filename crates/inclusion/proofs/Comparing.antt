@@ -32,7 +32,7 @@ use Rattle.cycles.specs.Cycles.{CyclePlace, CycleWritten}
 use Rattle.cycles.proofs.Spelled.{cycle-place, spelled-escapes, ended-short}
 use Rattle.inclusion.specs.Comparing.{SecondRoom, SecondLaid, LaidAnswer, StartPlace, StartWritten, ComparePlace, Within, Apart, InclusionAnswer, Answered, answered-included, answered-apart, Compared}
 use Rattle.inclusion.specs.declared.Inclusion.the-variants.{Included as Is-included, NotIncluded}
-use Rattle.inclusion.proofs.Parts.{part-length, part-byte, before-part, in-part}
+use Rattle.scratch.proofs.Parts.{part-length, part-byte, before-part, in-part}
 
 module _ {scratch : List ℕ} (place : SecondRoom scratch) where
   inside : 4096 ≤ length scratch

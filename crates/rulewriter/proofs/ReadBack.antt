@@ -2,10 +2,10 @@
 -- check, and the bytes mean the rule that was written. Assumes nothing.
 use Prim.Native.Nat.{ℕ, zero, suc, _+_, _≤_, _<_}
 use mathlib.Core.Path.{_≡_, sym, ap, subst₂, _∙_}
-use mathlib.Core.List.{List}
+use mathlib.Core.List.{List, _++_}
 use native.Mathlib.Omega.{arith}
 use lib.Dec.{ltb}
-use lib.ListN.{length}
+use lib.ListN.{length, drop}
 use Rattle.answer.specs.Checks.{passed, FirstFailure}
 use Rattle.answer.proofs.Order.{first-passes, none-left, passed-before}
 use Rattle.theory.specs.Words.{Over}
@@ -16,7 +16,7 @@ use Rattle.table.proofs.Facts.{all-associate-none}
 use Rattle.sections.specs.Sections.{sectionChecks}
 use Rattle.format.specs.Format.{elementsOf, lettersAt, lettersOf, marksAt, marksOf, markStart, markCycle, oneIf, markingOf, morphismOf, ruleEnd, lettersSection, marksSection}
 use Rattle.format.specs.RuleChecks.{layoutChecks, markChecks, ruleChecks, RepeatedAt}
-use Rattle.rulewriter.specs.ReadBack.{ReadsBack, FileShape}
+use Rattle.rulewriter.specs.ReadBack.{ReadsBack, FileShape, WrittenRule}
 use Rattle.rulewriter.specs.File.{markNumbers, fileOf, FitsFormat}
 use Rattle.rulewriter.proofs.Agree.{Agree, agree-lawful, agree-linked, agree-reached, lawful-settles}
 use Rattle.rulewriter.proofs.Stands.{elements-are, letters-are, letters-from, marks-from, marks-are, ends-there, product-stands, image-stands, start-stands, cycle-stands}
@@ -100,3 +100,14 @@ module _ (m : Morphism) (marks : Marking) (fits : FitsFormat m) (law : Lawful m)
       (first-passes (record { nowhere = λ place f. f .no-word (agree-reached agrees law reached .word-of place (f .inside)) })
       (passed-before _ _ (marks-checked input 0 (marksOf (fileOf m marks)) (omega (arith, marks-are m marks)))
       (first-passes (record { nowhere = λ place f. f .unsettled (lawful-settles (agree-lawful agrees law) (f .inside)) }) none-left)))))
+
+  -- so a written rule keeps what its file promises
+  pub written-rule : {entry exit : List ℕ} {r : ℕ} → AllReached m → r ≡ length (fileOf m marks)
+      → exit ≡ fileOf m marks ++ drop (length (fileOf m marks)) entry → WrittenRule m marks entry exit r
+  written-rule reached e h = record {
+    holds = h;
+    counts = e;
+    passes = file-passes reached;
+    reads-back = reads-back m marks;
+    shape = file-shape m marks fits (lawful-names law);
+  }

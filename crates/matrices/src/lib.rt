@@ -1,0 +1,189 @@
+// The matrices of an automaton's words: six rows of six entries by value, their product, the matrix of a letter, and how a
+// matrix stands in lent bytes.
+ghost use mathlib.Core.Path.{_≡_};
+ghost use Prim.Native.Nat.{max, _+_, _≤_, _<_};
+ghost use lib.ListN.{length};
+ghost use Rattle.buchi.proofs.Products.{through, product};
+ghost use Rattle.buchi.proofs.MatrixTests.{same-test};
+ghost use Rattle.matrices.specs.Arrays.{entryIn, MatrixShape, RowOf, sameRow, IsProduct};
+ghost use Rattle.matrices.specs.Bytes.{LetterPlace, EntryPlace, letterEntry, IsLetter, MatrixPlace, bytesFrom, Loaded, Stored, RowStored};
+
+// The greater of two entries.
+fn greater(x: u8, y: u8) -> u8
+    ensures { λ r. ⌜ r ≡ max x y ⌝ }
+{
+    if x < y {
+        return y;
+    }
+    x
+}
+
+// The greater of two entries, 0 where one of them is 0.
+fn through(x: u8, y: u8) -> u8
+    ensures { λ r. ⌜ r ≡ through x y ⌝ }
+{
+    if x == 0 {
+        return 0;
+    }
+    if y == 0 {
+        return 0;
+    }
+    greater(x, y)
+}
+
+// An entry of the product.
+fn product_entry(n: usize, left: [[u8; 6]; 6], right: [[u8; 6]; 6], p: usize, q: usize) -> u8
+    requires { ⌜ (n ≤ 6) × (p < 6) × (q < 6) ⌝ }
+    ensures { λ r. ⌜ r ≡ product n (entryIn left) (entryIn right) p q ⌝ }
+{
+    let mut best = 0u8;
+    for r in 0..n {
+        let x = left[p][r];
+        let y = right[r][q];
+        let z = through(x, y);
+        best = greater(z, best);
+    }
+    best
+}
+
+// A row of the product.
+fn product_row(n: usize, left: [[u8; 6]; 6], right: [[u8; 6]; 6], p: usize) -> [u8; 6]
+    requires { ⌜ (n ≤ 6) × (p < 6) ⌝ }
+    ensures { λ r. ⌜ RowOf (product n (entryIn left) (entryIn right) p) n r ⌝ }
+{
+    let mut row = [0u8; 6];
+    for q in 0..n {
+        row[q] = product_entry(n, left, right, p, q);
+    }
+    row
+}
+
+// The product of two matrices over n states.
+pub fn matrix_product(n: usize, left: [[u8; 6]; 6], right: [[u8; 6]; 6]) -> [[u8; 6]; 6]
+    requires { ⌜ n ≤ 6 ⌝ }
+    requires { ⌜ (MatrixShape n left) × (MatrixShape n right) ⌝ }
+    ensures { λ r. ⌜ IsProduct n left right r ⌝ }
+{
+    let mut out = [[0u8; 6]; 6];
+    for p in 0..n {
+        out[p] = product_row(n, left, right, p);
+    }
+    out
+}
+
+// An entry of the matrix of a letter: 2 where a transition has a final end, 1 for another transition, 0 where there is none.
+fn letter_entry(kinds: &[u8], steps: &[u8], letter: usize, p: usize, q: usize) -> u8
+    requires { ⌜ EntryPlace (now kinds) (now steps) letter p q ⌝ }
+    ensures { λ r. ⌜ r ≡ letterEntry (now (kinds .entry)) (now (steps .entry)) letter p q ⌝ }
+{
+    if steps[p * 96 + (letter * 6 + q)] == 0 {
+        return 0;
+    }
+    if 1 < kinds[p] {
+        return 2;
+    }
+    if 1 < kinds[q] {
+        return 2;
+    }
+    1
+}
+
+// A row of the matrix of a letter.
+fn letter_row(kinds: &[u8], n: usize, steps: &[u8], letter: usize, p: usize) -> [u8; 6]
+    requires { ⌜ LetterPlace (now kinds) n (now steps) letter ⌝ }
+    requires { ⌜ p < n ⌝ }
+    ensures { λ r. ⌜ RowOf (letterEntry (now (kinds .entry)) (now (steps .entry)) letter p) n r ⌝ }
+{
+    let mut row = [0u8; 6];
+    for q in 0..n {
+        row[q] = letter_entry(kinds, steps, letter, p, q);
+    }
+    row
+}
+
+// The matrix of a letter. The byte of `steps` at p · 96 + (letter · 6 + q) is not 0 where there is a transition from p to q.
+pub fn letter_matrix(kinds: &[u8], n: usize, steps: &[u8], letter: usize) -> [[u8; 6]; 6]
+    requires { ⌜ LetterPlace (now kinds) n (now steps) letter ⌝ }
+    ensures { λ r. ⌜ IsLetter (now (kinds .entry)) n (now (steps .entry)) letter r ⌝ }
+{
+    let mut out = [[0u8; 6]; 6];
+    for p in 0..n {
+        out[p] = letter_row(kinds, n, steps, letter, p);
+    }
+    out
+}
+
+// Whether two rows have the same first n entries.
+fn same_row(n: usize, left: [u8; 6], right: [u8; 6]) -> bool
+    requires { ⌜ n ≤ 6 ⌝ }
+    ensures { λ r. ⌜ r ≡ sameRow n left right ⌝ }
+{
+    for q in 0..n {
+        let x = left[q];
+        let y = right[q];
+        if x != y {
+            return false;
+        }
+    }
+    true
+}
+
+// Whether two matrices over n states have the same entries.
+pub fn same_matrix(n: usize, left: [[u8; 6]; 6], right: [[u8; 6]; 6]) -> bool
+    requires { ⌜ n ≤ 6 ⌝ }
+    ensures { λ r. ⌜ r ≡ same-test n (entryIn left) (entryIn right) ⌝ }
+{
+    for p in 0..n {
+        let x = left[p];
+        let y = right[p];
+        if !same_row(n, x, y) {
+            return false;
+        }
+    }
+    true
+}
+
+// Six bytes as a row.
+fn load_row(scratch: &[u8], at: usize) -> [u8; 6]
+    requires { ⌜ at + 6 ≤ length (now scratch) ⌝ }
+    ensures { λ r. ⌜ RowOf (bytesFrom (now (scratch .entry)) at) 6 r ⌝ }
+{
+    let mut row = [0u8; 6];
+    for q in 0..6 {
+        row[q] = scratch[at + q];
+    }
+    row
+}
+
+// Matrix i of the list that begins at a byte: 64 bytes a matrix, the entry (p, q) at p · 6 + q.
+pub fn load_matrix(scratch: &[u8], base: usize, i: usize) -> [[u8; 6]; 6]
+    requires { ⌜ MatrixPlace (now scratch) base i ⌝ }
+    ensures { λ r. ⌜ Loaded (now (scratch .entry)) base i r ⌝ }
+{
+    let mut out = [[0u8; 6]; 6];
+    for p in 0..6 {
+        out[p] = load_row(scratch, base + (i * 64 + p * 6));
+    }
+    out
+}
+
+// Writes a row to six bytes.
+fn store_row(scratch: &mut [u8], at: usize, row: [u8; 6])
+    requires { ⌜ at + 6 ≤ length (now scratch) ⌝ }
+    ensures { λ _. ⌜ RowStored (now (scratch .entry)) (now (scratch .exit)) at row 6 ⌝ }
+{
+    for q in 0..6 {
+        scratch[at + q] = row[q];
+    }
+}
+
+// Writes matrix i of the list that begins at a byte.
+pub fn store_matrix(scratch: &mut [u8], base: usize, i: usize, m: [[u8; 6]; 6])
+    requires { ⌜ MatrixPlace (now scratch) base i ⌝ }
+    ensures { λ _. ⌜ Stored (now (scratch .entry)) (now (scratch .exit)) base i m 6 ⌝ }
+{
+    for p in 0..6 {
+        let row = m[p];
+        store_row(scratch, base + (i * 64 + p * 6), row);
+    }
+}

@@ -1,0 +1,7 @@
+pub mod Finding
+pub mod Growing
+pub mod Adding
+pub mod Words
+pub mod Letters
+pub mod Multiplying
+pub mod Closing

@@ -1,0 +1,139 @@
+// All matrices of an automaton's non-empty words: a worklist from the letters' matrices, each matrix of the list multiplied with
+// those of the letters.
+//
+// The bytes of the transitions stand in scratch up to byte 576. The list begins at byte 8192 and takes 64 bytes a matrix, so that
+// 64 matrices end at byte 12288.
+use matrices::letter_matrix;
+use matrices::load_matrix;
+use matrices::matrix_product;
+use matrices::same_matrix;
+use matrices::store_matrix;
+ghost use mathlib.Core.Path.{_≡_};
+ghost use Prim.Native.Nat.{_≤_, _<_};
+ghost use Rattle.buchi.proofs.MatrixLists.{number-of};
+ghost use Rattle.matrices.specs.Arrays.{entryIn, MatrixShape};
+ghost use Rattle.matrixlist.specs.Lists.{matrixAt, ListPlace, MatrixList, MatricesAnswer};
+ghost use Rattle.matrixlist.specs.Steps.{Added, WordList, LettersListed, LettersAdded, ProductsAdded};
+
+// How many matrices there are, or that there are more than 64.
+pub enum MatrixCount {
+    Listed(usize),
+    TooMany,
+}
+
+// The number of a matrix in the list, or how many it has where the matrix is none of them.
+pub fn find_matrix(scratch: &[u8], n: usize, count: usize, m: [[u8; 6]; 6]) -> usize
+    requires { ⌜ MatrixList n (now scratch) count ⌝ }
+    ensures { λ r. ⌜ r ≡ number-of n count (matrixAt (now (scratch .entry))) (entryIn m) ⌝ }
+{
+    for i in 0..count {
+        let x = load_matrix(scratch, 8192, i);
+        if same_matrix(n, m, x) {
+            return i;
+        }
+    }
+    count
+}
+
+// Adds a matrix, unless it is there.
+fn add_matrix(scratch: &mut [u8], n: usize, count: usize, m: [[u8; 6]; 6]) -> MatrixCount
+    requires { ⌜ MatrixList n (now scratch) count ⌝ }
+    requires { ⌜ MatrixShape n m ⌝ }
+    ensures { λ r. ⌜ Added n (now (scratch .entry)) count m (now (scratch .exit)) r ⌝ }
+{
+    let at = find_matrix(scratch, n, count, m);
+    if at < count {
+        return MatrixCount::Listed(count);
+    }
+    if count == 64 {
+        return MatrixCount::TooMany;
+    }
+    store_matrix(scratch, 8192, count, m);
+    MatrixCount::Listed(count + 1)
+}
+
+// Adds the matrix of every letter.
+fn add_letters(kinds: &[u8], n: usize, k: usize, scratch: &mut [u8]) -> MatrixCount
+    requires { ⌜ ListPlace (now kinds) n k (now scratch) ⌝ }
+    ensures { λ r. ⌜ LettersAdded (now (kinds .entry)) n k (now (scratch .entry)) (now (scratch .exit)) r ⌝ }
+{
+    let mut total = 0;
+    for letter in 0..k {
+        let m = letter_matrix(kinds, n, scratch, letter);
+        let next = match add_matrix(scratch, n, total, m) {
+            MatrixCount::Listed(c) => c,
+            MatrixCount::TooMany => {
+                return MatrixCount::TooMany;
+            }
+        };
+        total = next;
+    }
+    MatrixCount::Listed(total)
+}
+
+// Adds the product of one matrix of the list with the matrix of every letter.
+fn add_products(
+    kinds: &[u8],
+    n: usize,
+    k: usize,
+    scratch: &mut [u8],
+    count: usize,
+    from: usize,
+) -> MatrixCount
+    requires { ⌜ ListPlace (now kinds) n k (now scratch) ⌝ }
+    requires { ⌜ WordList (now kinds) n k (now scratch) count ⌝ }
+    requires { ⌜ from < count ⌝ }
+    ensures { λ r. ⌜ ProductsAdded (now (kinds .entry)) n k (now (scratch .entry)) count from (now (scratch .exit)) r ⌝ }
+{
+    let left = load_matrix(scratch, 8192, from);
+    let mut total = count;
+    for letter in 0..k {
+        let right = letter_matrix(kinds, n, scratch, letter);
+        let m = matrix_product(n, left, right);
+        let next = match add_matrix(scratch, n, total, m) {
+            MatrixCount::Listed(c) => c,
+            MatrixCount::TooMany => {
+                return MatrixCount::TooMany;
+            }
+        };
+        total = next;
+    }
+    MatrixCount::Listed(total)
+}
+
+// Goes through the list, from its first matrix to those that are added.
+fn close_list(kinds: &[u8], n: usize, k: usize, scratch: &mut [u8], begun: usize) -> MatrixCount
+    requires { ⌜ ListPlace (now kinds) n k (now scratch) ⌝ }
+    requires { ⌜ LettersListed (now kinds) n k (now scratch) (now scratch) begun k ⌝ }
+    requires { ⌜ 1 ≤ k ⌝ }
+    ensures { λ r. ⌜ MatricesAnswer (now (kinds .entry)) n k (now (scratch .entry)) (now (scratch .exit)) r ⌝ }
+{
+    let mut count = begun;
+    let mut from = 0;
+    while from < count {
+        let next = match add_products(kinds, n, k, scratch, count, from) {
+            MatrixCount::Listed(c) => c,
+            MatrixCount::TooMany => {
+                return MatrixCount::TooMany;
+            }
+        };
+        count = next;
+        from += 1;
+    }
+    MatrixCount::Listed(count)
+}
+
+// The matrices of all non-empty words, each once, or that there are more than 64.
+pub fn list_matrices(kinds: &[u8], n: usize, k: usize, scratch: &mut [u8]) -> MatrixCount
+    requires { ⌜ ListPlace (now kinds) n k (now scratch) ⌝ }
+    requires { ⌜ 1 ≤ k ⌝ }
+    ensures { λ r. ⌜ MatricesAnswer (now (kinds .entry)) n k (now (scratch .entry)) (now (scratch .exit)) r ⌝ }
+{
+    let begun = match add_letters(kinds, n, k, scratch) {
+        MatrixCount::Listed(c) => c,
+        MatrixCount::TooMany => {
+            return MatrixCount::TooMany;
+        }
+    };
+    close_list(kinds, n, k, scratch, begun)
+}
