@@ -3,3 +3,4 @@ pub mod Factors
 pub mod Passes
 pub mod Counting
 pub mod Listing
+pub mod OneAnswer

@@ -3,3 +3,4 @@ pub mod Prepared
 pub mod Moves
 pub mod InPlace
 pub mod Histories
+pub mod OneAnswer

@@ -3,6 +3,8 @@
 // its dependencies too, since a type is known there by the crate that declares it.
 pub use answer::Refusal;
 pub use answer::number;
+pub use automaton::Translated;
+pub use automaton::automaton_rule;
 pub use classes::Listed;
 pub use classes::list_classes;
 pub use complement::Complemented;
@@ -18,8 +20,12 @@ pub use monitor::event;
 pub use monitor::event_in_place;
 pub use monitor::fresh;
 pub use monitor::mark;
+pub use reduction::Reduced;
+pub use reduction::reduce;
 pub use rulefile::Inspected;
 pub use rulefile::inspect;
 pub use strength::Strength;
 pub use strength::strong;
 pub use stretch::stretch;
+pub use verdict::Judged;
+pub use verdict::verdict;

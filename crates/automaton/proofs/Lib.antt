@@ -1,0 +1,13 @@
+pub mod Filling
+pub mod Staying
+pub mod Numbers
+pub mod Tests
+pub mod Marks
+pub mod Rows
+pub mod Writing
+pub mod Laid
+pub mod Reading
+pub mod Made
+pub mod Making
+pub mod Calling
+pub mod OneAnswer

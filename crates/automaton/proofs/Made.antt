@@ -1,0 +1,145 @@
+-- The rule that is laid out behind the list of an automaton's matrices is the automaton's: its elements are the matrices, its
+-- products and images theirs, and its marks those of document 01. Assumes nothing.
+use Prim.Native.Nat.{ℕ, _<_}
+use mathlib.Core.Path.{sym, subst}
+use mathlib.Core.List.{List}
+use native.Mathlib.Omega.{arith}
+use lib.Dec.{T, leb→le, le→leb}
+use Rattle.theory.specs.Rules.{Morphism, Lawful, level, marked}
+use Rattle.theory.specs.Pairs.{Linked}
+use Rattle.buchi.specs.Automata.{Automaton}
+use Rattle.buchi.specs.Matrices.{Matrix, SameEntries}
+use Rattle.buchi.specs.Rule.{MatricesOf, Recurs, MarkedBy, MoreMatrices}
+use Rattle.buchi.proofs.Products.{product, same-sym, same-trans}
+use Rattle.buchi.proofs.WordMatrices.{letter-matrix}
+use Rattle.buchi.proofs.MatrixLists.{Among, ClosedList, every-product}
+use Rattle.buchi.proofs.MatrixTables.{TableOf, table-lawful, table-matrices}
+use Rattle.buchi.proofs.Numberings.{more-matrices}
+use Rattle.matrices.specs.Bytes.{letterEntry}
+use Rattle.matrices.proofs.Letters.{stands-letter}
+use Rattle.matrixlist.specs.Lists.{matrixAt, ListPlace, StandsHere, Kept, AllListed}
+use Rattle.matrixlist.proofs.Growing.{among-same, here-kept, place-kept}
+use Rattle.automaton.specs.Laying.{laidRule, laidMarks, initialStates, ProductList, LetterList, ProductNumber, LetterNumber, RuleLaid}
+use Rattle.automaton.proofs.Filling.{kept-sym}
+use Rattle.automaton.proofs.Staying.{matrix-stays, product-number-stays, letter-number-stays}
+use Rattle.automaton.proofs.Marks.{recurs-same}
+
+-- ---- the list of an automaton's matrices
+
+module _ {t : Automaton} {kinds : List ℕ} {n k count : ℕ} {entry listed : List ℕ} (here : StandsHere t kinds n k entry) (place : ListPlace kinds n k entry)
+    (kept : Kept entry listed) (all : AllListed kinds n k entry listed count) where
+  closed : ClosedList t count (matrixAt listed)
+  closed = all .closed t here
+
+  pub product-list : ProductList n listed count
+  product-list = record {
+    list = all .list;
+    products = λ i j hi hj.
+        subst (λ (m : ℕ). Among m count (matrixAt listed) (product m (matrixAt listed i) (matrixAt listed j))) (here .states) (every-product closed i j hi hj);
+  }
+
+  -- a letter's matrix is the one that stands in the bytes
+  letter-same : (x : ℕ) → x < k → SameEntries n (letter-matrix t x) (letterEntry kinds listed x)
+  letter-same x h =
+      let now = here-kept kept here in
+      subst (λ (m : ℕ). SameEntries m (letter-matrix t x) (letterEntry kinds listed x)) (here .states)
+      (stands-letter (now .stands) x (subst (λ (m : ℕ). x < m) (sym (here .letters)) h))
+
+  pub letter-list : LetterList kinds n k listed count
+  letter-list = record {
+    place = place-kept kept place;
+    list = all .list;
+    letters = λ x h.
+        among-same (letter-same x h)
+        (subst (λ (m : ℕ). Among m count (matrixAt listed) (letter-matrix t x)) (here .states)
+        (closed .letters x (subst (λ (m : ℕ). x < m) (sym (here .letters)) h)));
+  }
+
+  -- ---- the rule
+
+  module _ {laid : List ℕ} (r : RuleLaid kinds n k count listed laid) where
+    abbrev m : Morphism
+    m = laidRule laid count k
+
+    product-number : (i j : ℕ) → i < count → j < count → ProductNumber n count listed i j (m .product i j)
+    product-number i j hi hj = product-number-stays (kept-sym (r .kept)) (all .list .few-states) (all .list .few) hi hj (r .products i j hi hj)
+
+    letter-number : (x : ℕ) → x < k → LetterNumber kinds n count listed x (m .image x)
+    letter-number x h = let few = place .few-letters in letter-number-stays (kept-sym (r .kept)) (all .list .few-states) (all .list .few) (omega arith) (r .letters x h)
+
+    over-states : {M N : Matrix} → SameEntries n M N → SameEntries (t .states) M N
+    over-states {M} {N} e = subst (λ (c : ℕ). SameEntries c M N) (sym (here .states)) e
+
+    table : TableOf t (laidRule laid count k) (matrixAt listed)
+    table = record {
+      same-letters = sym (here .letters);
+      images = λ x h. letter-number x h .below;
+      closed = λ i j hi hj. product-number i j hi hj .below;
+      letters = λ x h. over-states (same-trans (letter-same x h) (letter-number x h .same));
+      products = λ i j hi hj.
+          subst (λ (c : ℕ). SameEntries c (product c (matrixAt listed i) (matrixAt listed j)) (matrixAt listed (m .product i j))) (sym (here .states))
+          (product-number i j hi hj .same);
+      apart = closed .apart;
+    }
+
+    pub laid-lawful : Lawful (laidRule laid count k)
+    laid-lawful = table-lawful table
+
+    pub laid-matrices : MatricesOf t (laidRule laid count k) (matrixAt listed)
+    laid-matrices = table-matrices table (closed .words)
+
+    -- ---- its marks
+
+    -- the letters play no part in being linked
+    linked-more : {s e : ℕ} → Linked (laidRule laid count 0) s e → Linked (laidRule laid count k) s e
+    linked-more l = record { inside = l .inside; idempotent = record { inside = l .idempotent .inside; square = l .idempotent .square }; stays = l .stays }
+
+    linked-less : {s e : ℕ} → Linked (laidRule laid count k) s e → Linked (laidRule laid count 0) s e
+    linked-less l = record { inside = l .inside; idempotent = record { inside = l .idempotent .inside; square = l .idempotent .square }; stays = l .stays }
+
+    -- the automaton's initial states are those of the bytes
+    recurs-here : {R E : Matrix} → Recurs (initialStates kinds n) R E → Recurs t R E
+    recurs-here k =
+        let h = k .p-inside in
+        let hp = subst (λ (c : ℕ). k .p < c) (sym (here .states)) (k .p-inside) in
+        record {
+          p = k .p;
+          q = k .q;
+          p-inside = hp;
+          q-inside = subst (λ (c : ℕ). k .q < c) (sym (here .states)) (k .q-inside);
+          p-initial = subst T (sym (here .stands .initials (k .p) hp)) (k .p-initial);
+          reached = k .reached;
+          returns = k .returns;
+        }
+
+    recurs-bytes : {R E : Matrix} → Recurs t R E → Recurs (initialStates kinds n) R E
+    recurs-bytes k = record {
+      p = k .p;
+      q = k .q;
+      p-inside = subst (λ (c : ℕ). k .p < c) (here .states) (k .p-inside);
+      q-inside = subst (λ (c : ℕ). k .q < c) (here .states) (k .q-inside);
+      p-initial = subst T (here .stands .initials (k .p) (k .p-inside)) (k .p-initial);
+      reached = k .reached;
+      returns = k .returns;
+    }
+
+    -- the matrices are those of the list
+    matrix-same : {i : ℕ} → i < count → SameEntries (t .states) (matrixAt listed i) (matrixAt laid i)
+    matrix-same h = let few = all .list .few in over-states (matrix-stays (r .kept) (all .list .few-states) (omega arith))
+
+    pub laid-marking : MarkedBy t (laidRule laid count k) (matrixAt listed) (marked (laidMarks laid))
+    unfolding marked level
+    laid-marking = record {
+      marks = λ s e hs he.
+          let b = r .marks s e hs he in (
+            λ u. (
+              linked-more (b .linked (leb→le 1 _ u)),
+              recurs-same (same-sym (matrix-same hs)) (same-sym (matrix-same he)) (recurs-here (b .recurs (leb→le 1 _ u))),
+            ),
+            λ k. le→leb 1 _ (b .marked (linked-less (k .0)) (recurs-bytes (recurs-same (matrix-same hs) (matrix-same he) (k .1)))),
+          );
+    }
+
+    -- there are no more than 64 matrices
+    pub not-rich : MoreMatrices t 64 → ⊥
+    not-rich k = let few = all .list .few in omega (arith, more-matrices laid-lawful laid-matrices 64 .0 k)

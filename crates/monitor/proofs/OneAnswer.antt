@@ -1,0 +1,121 @@
+-- Two answers of a call on a monitor, for the same rule, monitor, letter and scratch, are one, and leave scratch and a lent monitor
+-- alike. Assumes nothing.
+use Prim.Native.Nat.{ℕ}
+use native.Mathlib.Omega.{arith}
+use mathlib.Core.Path.{_≡_, refl, sym, ap, _∙_}
+use mathlib.Core.List.{List}
+use Rattle.answer.specs.declared.Refusal.{Refusal}
+use Rattle.answer.specs.Refusals.{numberOf}
+use Rattle.answer.specs.Checks.{passed, numbered, refused}
+use Rattle.answer.proofs.Numbers.{same-number}
+use Rattle.answer.proofs.Order.{AllSingle, single-nil, single-cons, single-append, one-verdict}
+use Rattle.format.specs.Format.{morphismOf}
+use Rattle.rulefile.proofs.OneVerdict.{checked-single}
+use Rattle.monitor.specs.declared.Monitor.{Monitor}
+use Rattle.monitor.specs.declared.Moved.{Moved}
+use Rattle.monitor.specs.declared.Moved.the-variants.{To, Refused}
+use Rattle.monitor.specs.declared.Ready.{Ready}
+use Rattle.monitor.specs.declared.Ready.the-variants.{Rule, Refused as Not-ready}
+use Rattle.monitor.specs.declared.Told.{Told}
+use Rattle.monitor.specs.declared.Told.the-variants.{Done, Refused as Told-refused}
+use Rattle.monitor.specs.Monitor.{StrayAt, LoneForeignAt, afterEvent, afterMark}
+use Rattle.monitor.specs.Promises.{monitorChecks, eventChecks, readyVerdict, ReadyShape, ReadyPromise, movedVerdict, HandsBack, EventPromise, MarkPromise}
+use Rattle.monitor.specs.InPlace.{toldVerdict, Leaves, EventInPlace}
+
+-- stray values and a lone letter have one place each
+stray-place : {n : ℕ} {f : Monitor} (p q : ℕ) → StrayAt n f p → StrayAt n f q → p ≡ q
+stray-place p q a b = a .is-place ∙ sym (b .is-place)
+
+letter-place : {k letter : ℕ} (p q : ℕ) → LoneForeignAt k letter p → LoneForeignAt k letter q → p ≡ q
+letter-place p q a b = a .is-place ∙ sym (b .is-place)
+
+-- each check of a call on a monitor fails at one place at most
+pub monitor-single : (bytes : List ℕ) (f : Monitor) (entry : List ℕ) → AllSingle (monitorChecks bytes f entry)
+monitor-single bytes f entry = single-append (checked-single 1 bytes entry) (single-cons (record { one-place = stray-place }) single-nil)
+
+event-single : (bytes : List ℕ) (f : Monitor) (letter : ℕ) (entry : List ℕ) → AllSingle (eventChecks bytes f letter entry)
+event-single bytes f letter entry = single-append (monitor-single bytes f entry) (single-cons (record { one-place = letter-place }) single-nil)
+
+-- a refusal is known by its verdict
+pub same-refusal : {A : Type 0} (answer : Refusal → ℕ → ℕ → A) (r r′ : Refusal) (i i′ place place′ : ℕ) → refused r i place ≡ refused r′ i′ place′
+    → answer r i place ≡ answer r′ i′ place′
+same-refusal answer r r′ i i′ place place′ e =
+    let number : numberOf r ≡ numberOf r′ = cc in
+    let kind = same-number r r′ number in
+    let there : i ≡ i′ = cc in
+    let here : place ≡ place′ = cc in
+    cc (kind, there, here)
+
+-- and is no other answer
+pub not-passed : {number input place : ℕ} → numbered number input place ≡ passed → ⊥
+not-passed e = let z : _≡_ {A = ℕ} 0 1 = cc in omega arith
+
+-- answers with one verdict that hand back one monitor
+same-moved : (f next : Monitor) (a b : Moved) → HandsBack f next a → HandsBack f next b → movedVerdict a ≡ movedVerdict b → a ≡ b
+same-moved f next (To g) (To h) p q e = ap To (p ∙ sym q)
+same-moved f next (To g) (Refused h r i place) p q e = absurd (not-passed (sym e))
+same-moved f next (Refused g r i place) (To h) p q e = absurd (not-passed e)
+same-moved f next (Refused g r i place) (Refused h r′ i′ place′) p q e =
+    same-refusal (Refused g) r r′ i i′ place place′ e ∙ ap (λ (x : Monitor). Refused x r′ i′ place′) (p ∙ sym q)
+
+-- and answers with one verdict that leave a lent monitor
+same-told : (a b : Told) → toldVerdict a ≡ toldVerdict b → a ≡ b
+same-told Done Done e = refl
+same-told Done (Told-refused r i place) e = absurd (not-passed (sym e))
+same-told (Told-refused r i place) Done e = absurd (not-passed e)
+same-told (Told-refused r i place) (Told-refused r′ i′ place′) e = same-refusal Told-refused r r′ i i′ place place′ e
+
+same-left : (f next : Monitor) (a b : Told) {g h : Monitor} → Leaves f next g a → Leaves f next h b → toldVerdict a ≡ toldVerdict b → g ≡ h
+same-left f next Done Done p q e = p ∙ sym q
+same-left f next Done (Told-refused r i place) p q e = absurd (not-passed (sym e))
+same-left f next (Told-refused r i place) Done p q e = absurd (not-passed e)
+same-left f next (Told-refused r i place) (Told-refused r′ i′ place′) p q e = p ∙ sym q
+
+module _ {bytes : List ℕ} {f : Monitor} {entry exit exit′ : List ℕ} where
+  pub one-mark : {answer answer′ : Moved} → MarkPromise bytes f entry exit answer → MarkPromise bytes f entry exit′ answer′ → answer ≡ answer′
+  one-mark {answer} {answer′} p q =
+      same-moved f (afterMark (morphismOf bytes) f) answer answer′ (p .monitor) (q .monitor) (one-verdict (monitor-single bytes f entry) (p .verdict) (q .verdict))
+
+  pub one-mark-scratch : {answer answer′ : Moved} → MarkPromise bytes f entry exit answer → MarkPromise bytes f entry exit′ answer′ → exit ≡ exit′
+  one-mark-scratch p q = p .scratch ∙ sym (q .scratch)
+
+  -- a rule that is ready has one shape
+  pub one-ready : (answer answer′ : Ready) → ReadyPromise bytes f entry exit answer → ReadyPromise bytes f entry exit′ answer′ → answer ≡ answer′
+  one-ready answer answer′ p q = same answer answer′ (p .shape) (q .shape) (one-verdict (monitor-single bytes f entry) (p .verdict) (q .verdict))
+    where
+      same : (a b : Ready) → ReadyShape bytes a → ReadyShape bytes b → readyVerdict a ≡ readyVerdict b → a ≡ b
+      same (Rule x) (Rule y) p q e =
+          ap Rule (λ i. record {
+            elements = (p .elements ∙ sym (q .elements)) i;
+            letters = (p .letters ∙ sym (q .letters)) i;
+            marks = (p .marks ∙ sym (q .marks)) i;
+          })
+      same (Rule x) (Not-ready r i place) p q e = absurd (not-passed (sym e))
+      same (Not-ready r i place) (Rule x) p q e = absurd (not-passed e)
+      same (Not-ready r i place) (Not-ready r′ i′ place′) p q e = same-refusal Not-ready r r′ i i′ place place′ e
+
+  pub one-ready-scratch : {answer answer′ : Ready} → ReadyPromise bytes f entry exit answer → ReadyPromise bytes f entry exit′ answer′ → exit ≡ exit′
+  one-ready-scratch p q = p .scratch ∙ sym (q .scratch)
+
+  module _ {letter : ℕ} where
+    pub one-event : {answer answer′ : Moved} → EventPromise bytes f letter entry exit answer → EventPromise bytes f letter entry exit′ answer′ → answer ≡ answer′
+    one-event {answer} {answer′} p q =
+        same-moved f (afterEvent (morphismOf bytes) f letter) answer answer′ (p .monitor) (q .monitor)
+        (one-verdict (event-single bytes f letter entry) (p .verdict) (q .verdict))
+
+    pub one-event-scratch : {answer answer′ : Moved} → EventPromise bytes f letter entry exit answer → EventPromise bytes f letter entry exit′ answer′ → exit ≡ exit′
+    one-event-scratch p q = p .scratch ∙ sym (q .scratch)
+
+    -- on a lent monitor
+    pub one-told : {g h : Monitor} {answer answer′ : Told} → EventInPlace bytes f letter entry exit g answer → EventInPlace bytes f letter entry exit′ h answer′
+        → answer ≡ answer′
+    one-told {answer = answer} {answer′ = answer′} p q = same-told answer answer′ (one-verdict (event-single bytes f letter entry) (p .verdict) (q .verdict))
+
+    pub one-left : {g h : Monitor} {answer answer′ : Told} → EventInPlace bytes f letter entry exit g answer → EventInPlace bytes f letter entry exit′ h answer′ → g ≡ h
+    one-left {answer = answer} {answer′ = answer′} p q =
+        same-left f (afterEvent (morphismOf bytes) f letter) answer answer′ (p .monitor) (q .monitor)
+        (one-verdict (event-single bytes f letter entry) (p .verdict) (q .verdict))
+
+    pub one-told-scratch : {g h : Monitor} {answer answer′ : Told} → EventInPlace bytes f letter entry exit g answer → EventInPlace bytes f letter entry exit′ h answer′
+        → exit ≡ exit′
+    one-told-scratch p q = p .scratch ∙ sym (q .scratch)

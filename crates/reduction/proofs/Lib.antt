@@ -1,0 +1,5 @@
+pub mod Cells
+pub mod Blocks
+pub mod Laid
+pub mod Reducing
+pub mod Calling
