@@ -25,7 +25,7 @@ pub enum Refusal {
     NoIdempotentPower,
     // Document 01: foreign letter.
     UnknownLetter,
-    // Document 01: word length. A word has no letter or too many, or a monitor has no value yet.
+    // Document 01: word length. A word has no letter or too many, or a monitor has no value.
     WordLength,
     // Document 01: weak. The rule is not strong.
     NotStrong,

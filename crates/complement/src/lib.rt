@@ -43,7 +43,7 @@ fn turn_row(rule: &[u8], n: usize, k: usize, scratch: &mut [u8], s: usize)
 }
 
 // Turns the second table, the closure of a rule's marks, into the marks of the complement, in place.
-pub fn complement_marks(rule: &[u8], n: usize, k: usize, scratch: &mut [u8])
+fn complement_marks(rule: &[u8], n: usize, k: usize, scratch: &mut [u8])
     requires { ⌜ Table (now rule) n k ⌝ }
     requires { ⌜ 8192 ≤ length (now scratch) ⌝ }
     ensures { λ r. ⌜ ComplementLaid (morphismAt (now (rule .entry)) n k) (now (scratch .entry)) (now (scratch .exit)) ⌝ }

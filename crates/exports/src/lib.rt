@@ -1,5 +1,6 @@
 // The library's calls for C and Rust: one function a call, slices as pointer and length, and one number back, packed as
-// specs/Packing says.
+// specs/Packing says. A caller in another language owes what Rust's references owe: each pointer is good for its length, and a
+// buffer that is written overlaps no other.
 use answer::Refusal;
 use answer::number;
 use automaton::Translated;
@@ -186,7 +187,7 @@ pub extern "C" fn duknavet_member(rule: &[u8], u: &[u8], v: &[u8], scratch: &mut
     pack_membership(rules::member(rule, u, v, scratch))
 }
 
-// The bytes of the complement, which stands in `out`.
+// How many bytes the complement has, which stands in `out`.
 #[no_mangle]
 pub extern "C" fn duknavet_complement(rule: &[u8], out: &mut [u8], scratch: &mut [u8]) -> u64
     ensures { λ r. ⌜ ExportedComplement (now (rule .entry)) (now (out .entry)) (now (out .exit)) (now (scratch .entry)) (now (scratch .exit)) r ⌝ }
@@ -194,7 +195,7 @@ pub extern "C" fn duknavet_complement(rule: &[u8], out: &mut [u8], scratch: &mut
     pack_complemented(rules::complement(rule, out, scratch))
 }
 
-// 1 for an inclusion; else 0 and the letters of the lasso in u and v.
+// 1 for an inclusion; else 0 and how many letters the lasso has in u and in v.
 #[no_mangle]
 pub extern "C" fn duknavet_included(
     rule: &[u8],
@@ -252,7 +253,7 @@ pub extern "C" fn duknavet_verdict(
     pack_judged(rules::verdict(rule, Monitor { before, since }, scratch))
 }
 
-// The bytes of the reduction, which stands in `out`.
+// How many bytes the reduction has, which stands in `out`.
 #[no_mangle]
 pub extern "C" fn duknavet_reduce(rule: &[u8], out: &mut [u8], scratch: &mut [u8]) -> u64
     ensures { λ r. ⌜ ExportedReduction (now (rule .entry)) (now (out .entry)) (now (out .exit)) (now (scratch .entry)) (now (scratch .exit)) r ⌝ }
@@ -260,7 +261,7 @@ pub extern "C" fn duknavet_reduce(rule: &[u8], out: &mut [u8], scratch: &mut [u8
     pack_reduced(rules::reduce(rule, out, scratch))
 }
 
-// The bytes of the rule made from an automaton, which stands in `out`.
+// How many bytes the rule made from an automaton has, which stands in `out`.
 #[no_mangle]
 pub extern "C" fn duknavet_automaton_rule(
     automaton: &[u8],

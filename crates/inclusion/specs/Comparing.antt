@@ -17,7 +17,7 @@ use Rattle.cycles.specs.Cycles.{CycleWritten, CyclePlace}
 use Rattle.inclusion.specs.declared.Inclusion.{Inclusion}
 use Rattle.inclusion.specs.declared.Inclusion.the-variants.{Included as Is-included, NotIncluded, Refused}
 
--- the marks of a checked rule, and zeros behind them
+-- room, and zeros behind the first table of marks
 pub record SecondRoom (scratch : List ℕ) : Type 0 where
   pub room : 65536 ≤ length scratch
   pub blank : (i : ℕ) → 4096 ≤ i → getD scratch i 0 ≡ 0
@@ -45,7 +45,7 @@ pub record StartWritten (m : Morphism) (s : ℕ) (entry exit : List ℕ) (r : �
   pub found : ShortWord m s
   pub written : WordWritten (found .word) entry exit r
 
--- both tables of marks, and zeros behind them
+-- a lawful table whose elements are all reached, room, and zeros behind both tables of marks
 pub record ComparePlace (m : Morphism) (scratch : List ℕ) : Type 0 where
   pub lawful : Lawful m
   pub reached : AllReached m

@@ -1,9 +1,11 @@
-// Runs the calls on a rule's marks, `rules::list_classes`, `rules::strong`, `rules::complement` and `rules::included`, over
-// document 01's small rules and over the largest, and writes a line for each.
+// Runs the calls on a rule's marks, `rules::list_classes`, `rules::strong`, `rules::complement`, `rules::included` and
+// `rules::verdict`, over document 01's small rules and over the largest, and writes a line for each.
 use libc::STDOUT_FILENO;
 use rules::Complemented;
 use rules::Inclusion;
+use rules::Judged;
 use rules::Listed;
+use rules::Monitor;
 use rules::Refusal;
 use rules::Strength;
 ghost use mathlib.Core.Path.{_≡_};
@@ -148,7 +150,44 @@ fn inclusion(
     io::write_all(STDOUT_FILENO, b"\n");
 }
 
-// The classes, the verdict and the complement of a rule.
+// The verdict on the lassos with two values.
+fn judge(label: &[u8], rule: &[u8], before: usize, since: usize, scratch: &mut [u8]) {
+    name(label);
+    word_and(b"before ", before);
+    word_and(b" since ", since);
+    match rules::verdict(rule, Monitor { before, since }, scratch) {
+        Judged::Accepted => {
+            io::write_all(STDOUT_FILENO, b" accepted");
+        }
+        Judged::NotAccepted => {
+            io::write_all(STDOUT_FILENO, b" not accepted");
+        }
+        Judged::Refused {
+            refusal,
+            input,
+            place,
+        } => {
+            io::write_all(STDOUT_FILENO, b" ");
+            refused(refusal, input, place);
+        }
+    }
+    io::write_all(STDOUT_FILENO, b"\n");
+}
+
+fn verdicts(scratch: &mut [u8]) {
+    let w = [2, 0, 0, 0, 1, 2, 0, 1, 1, 0, 0, 0];
+    judge(b"W", &w, 1, 0, scratch);
+    judge(b"W", &w, 0, 1, scratch);
+    judge(b"W", &w, 0, 64, scratch);
+    judge(b"W", &w, 2, 0, scratch);
+}
+
+fn weak_verdict(scratch: &mut [u8]) {
+    let z = [2, 0, 1, 1, 0, 2, 1, 0, 1, 0, 0, 0];
+    judge(b"Z", &z, 0, 0, scratch);
+}
+
+// The classes, the strong verdict and the complement of a rule.
 fn tell(label: &[u8], rule: &[u8], out: &mut [u8], scratch: &mut [u8]) {
     classes(label, rule, out, scratch);
     strength(label, rule, scratch);
@@ -299,6 +338,7 @@ fn sixteen_letters(out: &mut [u8], scratch: &mut [u8]) {
     let mut rule = large(false, 0);
     images(false, &mut rule);
     tell(b"cyclic group of 64, 16 letters", &rule, out, scratch);
+    judge(b"cyclic group of 64, 16 letters", &rule, 5, 7, scratch);
 }
 
 fn word_pairs(out: &mut [u8], u: &mut [u8], v: &mut [u8], scratch: &mut [u8]) {
@@ -323,6 +363,8 @@ fn main() {
     small_rules(&mut out, &mut scratch);
     small_inclusions(&mut u, &mut v, &mut scratch);
     second_faults(&mut u, &mut v, &mut scratch);
+    verdicts(&mut scratch);
+    weak_verdict(&mut scratch);
     cyclic_group(&mut out, &mut u, &mut v, &mut scratch);
     sixteen_letters(&mut out, &mut scratch);
     word_pairs(&mut out, &mut u, &mut v, &mut scratch);

@@ -156,7 +156,7 @@ fn write_laid(scratch: &[u8], c: usize, k: usize, out: &mut [u8]) -> usize
 }
 
 // Writes the rule whose elements are the c blocks, and answers its length.
-pub fn write_quotient(
+fn write_quotient(
     rule: &[u8],
     n: usize,
     k: usize,
@@ -175,7 +175,7 @@ pub fn write_quotient(
 }
 
 // Writes the reduction of a strong rule, from the closure of its marks in scratch.
-pub fn write_reduced(rule: &[u8], n: usize, k: usize, scratch: &mut [u8], out: &mut [u8]) -> usize
+fn write_reduced(rule: &[u8], n: usize, k: usize, scratch: &mut [u8], out: &mut [u8]) -> usize
     requires { ⌜ Table (now rule) n k ⌝ }
     requires { ⌜ ReducePlace (morphismAt (now rule) n k) (now scratch) (now out) ⌝ }
     ensures { λ r. ⌜ ReducedWritten (morphismAt (now (rule .entry)) n k) (now (scratch .entry)) (now (scratch .exit)) (now (out .entry)) (now (out .exit)) r ⌝ }

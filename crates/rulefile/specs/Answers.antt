@@ -50,7 +50,7 @@ pub record MarksLaid (marks : ℕ → ℕ → ℕ) (n : ℕ) (entry exit : List 
 unfoldable pub marksAmong : List ℕ → ℕ → ℕ → ℕ → ℕ → ℕ
 marksAmong bytes at count s e = oneIf (anyBelow count (isMark bytes at s e))
 
--- the marks of a section are good, and laid out; or the first check of them that fails
+-- the marks of a section are good, and laid out; or one is not, and only the length is known
 abbrev pub MarksAnswer : Morphism → List ℕ → ℕ → ℕ → List ℕ → List ℕ → Fault → Type 0
 MarksAnswer m bytes at count entry exit Nothing = MarksLaid (marksAmong bytes at count) (m .size) entry exit
 MarksAnswer m bytes at count entry exit (Refused refusal place) = length exit ≡ length entry

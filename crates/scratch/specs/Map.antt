@@ -8,8 +8,8 @@
 --   32768  the entry that each was found from, its low byte
 --   40960  and its high byte
 --   49152  the start value for which a state was last found, and 1; a byte for each state
---   57344  for each letter, 65 bytes a letter: the last value that the letter takes to an element
---   59392  for each letter likewise: the value before this one that the letter takes to the same element
+--   57344  for each letter, 65 bytes a letter: one more than the last value that the letter takes to an element, 0 for none
+--   59392  for each letter likewise: one more than the value before this one that the letter takes to the same element
 use Prim.Native.Nat.{ℕ, _+_, _*_}
 use mathlib.Core.Bool.{Bool}
 use mathlib.Core.List.{List}

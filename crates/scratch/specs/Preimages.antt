@@ -18,11 +18,11 @@ pub record LastBelow (P : ℕ → Type 0) (c r : ℕ) : Type 0 where
   pub holds : (i : ℕ) → r ≡ i + 1 → P i
   pub later : (i : ℕ) → r ≤ i → i < c → P i → ⊥
 
--- byte 57344 + (a·65 + x): the last value that the letter a takes to x
+-- byte 57344 + (a·65 + x): one more than the last value that the letter a takes to x, where a list begins
 unfoldable pub firstAt : List ℕ → ℕ → ℕ → ℕ
 firstAt scratch a x = getD scratch (57344 + (a * 65 + x)) 0
 
--- byte 59392 + (a·65 + c): the last value below c that the letter a takes to where it takes c
+-- byte 59392 + (a·65 + c): one more than the last value below c that the letter a takes to where it takes c
 unfoldable pub nextAt : List ℕ → ℕ → ℕ → ℕ
 nextAt scratch a c = getD scratch (59392 + (a * 65 + c)) 0
 

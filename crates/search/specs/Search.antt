@@ -105,7 +105,7 @@ pub record EscapedAt (m : Morphism) (P P′ : Pairs) (s : ℕ) (scratch : List �
   pub start-inside : s < m .size
   pub ended : EndedAt m P P′ s scratch i
 
--- the first start value with a cycle that escapes, and the entry that ends its search; or there is none
+-- a start value with a cycle that escapes, and the entry that ends its search; or there is none
 abbrev pub EscapeAnswer : Morphism → Pairs → Pairs → List ℕ → Escape → Type 0
 EscapeAnswer m P P′ scratch (Escape-at s i) = EscapedAt m P P′ s scratch i
 EscapeAnswer m P P′ scratch No-escape = (s : ℕ) → s < m .size → (v : List ℕ) → Escapes m P P′ s v → ⊥

@@ -283,7 +283,7 @@ fn search_all(
     Escape::Nothing
 }
 
-// Compares the marking whose table begins at `first` with the one whose table begins at `second`: the first start value with a
+// Compares the marking whose table begins at `first` with the one whose table begins at `second`: a start value with a
 // cycle that the first marking has and the second does not accept after it.
 pub fn first_escape(
     rule: &[u8],
