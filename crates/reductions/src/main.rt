@@ -172,8 +172,7 @@ fn counts(rule: &mut [u8], end: usize) {
     }
 }
 
-// A set of letters occurs again and again: accepted where it is even. No two of the 64 sets can stand for each other, and it takes
-// five rounds to tell them all apart.
+// A set of letters occurs again and again: accepted where it is even. No two of the 64 sets can stand for each other.
 fn letter_sets(file: &mut [u8], out: &mut [u8], scratch: &mut [u8]) {
     products(true, file);
     images(true, file);
