@@ -7,6 +7,7 @@ pub mod Rows
 pub mod Writing
 pub mod Laid
 pub mod Reading
+pub mod Order
 pub mod Made
 pub mod Making
 pub mod Calling

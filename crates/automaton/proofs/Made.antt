@@ -20,7 +20,9 @@ use Rattle.matrices.proofs.Letters.{stands-letter}
 use Rattle.matrixlist.specs.Lists.{matrixAt, ListPlace, StandsHere, Kept, AllListed}
 use Rattle.matrixlist.proofs.Growing.{among-same, here-kept, place-kept}
 use Rattle.automaton.specs.Laying.{laidRule, laidMarks, initialStates, ProductList, LetterList, ProductNumber, LetterNumber, RuleLaid}
+use Rattle.firstwords.specs.FirstWords.{ByFirstWords}
 use Rattle.automaton.proofs.Filling.{kept-sym}
+use Rattle.automaton.proofs.Order.{table-by-first-words}
 use Rattle.automaton.proofs.Staying.{matrix-stays, product-number-stays, letter-number-stays}
 use Rattle.automaton.proofs.Marks.{recurs-same}
 
@@ -87,6 +89,10 @@ module _ {t : Automaton} {kinds : List ℕ} {n k count : ℕ} {entry listed : Li
 
     pub laid-matrices : MatricesOf t (laidRule laid count k) (matrixAt listed)
     laid-matrices = table-matrices table (closed .words)
+
+    -- its elements are numbered in the order of the list
+    pub laid-order : ByFirstWords (laidRule laid count k)
+    laid-order = table-by-first-words table (all .in-order t here)
 
     -- ---- its marks
 

@@ -16,7 +16,7 @@ use Rattle.automaton.specs.Laying.{laidRule, laidMarks, ProductList, Let
 use Rattle.automaton.specs.Promise.{ReadHere, MadePromise}
 use Rattle.automaton.specs.declared.Translated.the-variants.{Rule, Refused}
 use Rattle.automaton.proofs.Reading.{read-stands, read-place, read-letters}
-use Rattle.automaton.proofs.Made.{product-list, letter-list, laid-lawful, laid-matrices, laid-marking, not-rich}
+use Rattle.automaton.proofs.Made.{product-list, letter-list, laid-lawful, laid-matrices, laid-order, laid-marking, not-rich}
 
 -- the bytes of the states
 abbrev kinds : List ℕ → List ℕ
@@ -72,6 +72,7 @@ module _ {bytes : List ℕ} {n k : ℕ} {out scratch listed : List ℕ} (r : Rea
               marks = laidMarks laid;
               lawful = law;
               elements = elements;
+              numbered = laid-order (read-stands r) (read-place r) (a .kept) all l;
               marking = marking;
               accepts = rule-accepts-runs law elements marking;
               strong = rule-strong law elements marking;

@@ -9,6 +9,7 @@ use Rattle.answer.specs.Checks.{Check, Verdict, passed, refused, FirstFailure}
 use Rattle.theory.specs.Rules.{Morphism, Lawful, Marking, marked}
 use Rattle.theory.specs.Acceptance.{Strong}
 use Rattle.theory.specs.Smallest.{MarksAccepted}
+use Rattle.firstwords.specs.FirstWords.{ByFirstWords}
 use Rattle.format.specs.RuleChecks.{bufferCheck}
 use Rattle.rulefile.specs.Answers.{afterCall}
 use Rattle.automatonformat.specs.Format.{statesOf, lettersOf, hasTransition}
@@ -36,14 +37,15 @@ pub record ReadHere (bytes : List ℕ) (n k : ℕ) (out scratch : List ℕ) : Ty
   pub out-room : ruleSize ≤ length out
 
 -- "The elements are the matrices of all non-empty words. The rule accepts exactly the lassos on which some run from an initial
--- state meets a final state again and again. A linked pair (R, E) is marked if .."; the file of that rule was written, its marks
--- by s, then by e
+-- state meets a final state again and again. A linked pair (R, E) is marked if .."; elements are numbered by first words; the file
+-- of that rule was written, its marks by s, then by e
 pub record RuleOf (bytes entry exit : List ℕ) (r : ℕ) : Type 0 where
   pub morphism : Morphism
   pub matrix : ℕ → Matrix
   pub marks : Marking
   pub lawful : Lawful morphism
   pub elements : MatricesOf (automatonOf bytes) morphism matrix
+  pub numbered : ByFirstWords morphism
   pub marking : MarkedBy (automatonOf bytes) morphism matrix (marked marks)
   pub accepts : AcceptsRuns (automatonOf bytes) morphism (marked marks)
   pub strong : Strong morphism (marked marks)

@@ -1,11 +1,12 @@
 -- A list of different matrices of words that has the matrix of each letter and, with each of its matrices, the products of it
 -- with the letters' matrices, has the matrix of every non-empty word. Numbered in its order it is a rule's table, whose product
 -- and images are found by searching the list. Assumes nothing.
-use Prim.Native.Nat.{ℕ, _<_}
+use Prim.Native.Nat.{ℕ, zero, suc, _≤_, _<_}
 use mathlib.Core.Path.{_≡_, refl, sym, subst}
 use mathlib.Core.List.{List, [], _∷_, _++_, append-nil, append-assoc}
 use native.Mathlib.Omega.{arith}
 use Rattle.finite.proofs.Search.{leastBelow, least-bound, least-holds}
+use Rattle.finite.proofs.FirstWords.{Sooner}
 use Rattle.theory.specs.Words.{Over, over-nil, over-cons}
 use Rattle.theory.specs.Rules.{Morphism, Lawful}
 use Rattle.buchi.specs.Automata.{Automaton}
@@ -48,6 +49,29 @@ pub record ClosedList (a : Automaton) (c : ℕ) (matrix : ℕ → Matrix) : Type
   pub apart : (i j : ℕ) → i < c → j < c → ¬ (i ≡ j) → OtherEntry (a .states) (matrix i) (matrix j)
   pub letters : (x : ℕ) → x < a .letters → Among (a .states) c matrix (letter-matrix a x)
   pub steps : (i x : ℕ) → i < c → x < a .letters → Among (a .states) c matrix (product (a .states) (matrix i) (letter-matrix a x))
+
+-- what letter x makes of entry p of the search: of entry 0, the empty word, the letter's own matrix, and of entry i + 1 the
+-- product of matrix i with it
+unfoldable pub step-matrix : Automaton → (ℕ → Matrix) → ℕ → ℕ → Matrix
+step-matrix a matrix zero x = letter-matrix a x
+step-matrix a matrix (suc i) x = product (a .states) (matrix i) (letter-matrix a x)
+
+-- matrix j was found from entry p by letter x, and whatever is found sooner stands before it
+pub record FoundFrom (a : Automaton) (matrix : ℕ → Matrix) (j p x : ℕ) : Type 0 where
+  pub parent-before : p ≤ j
+  pub letter-lt : x < a .letters
+  pub same : SameEntries (a .states) (step-matrix a matrix p x) (matrix j)
+  pub sooner : (q y : ℕ) → Sooner q y p x → y < a .letters → Among (a .states) j matrix (step-matrix a matrix q y)
+
+-- matrix j was found from some entry by some letter
+pub record FoundMatrix (a : Automaton) (matrix : ℕ → Matrix) (j : ℕ) : Type 0 where
+  pub parent : ℕ
+  pub letter : ℕ
+  pub found : FoundFrom a matrix j parent letter
+
+-- the first c matrices stand in the order in which a search in breadth finds them
+pub record FoundInOrder (a : Automaton) (c : ℕ) (matrix : ℕ → Matrix) : Type 0 where
+  pub found : (j : ℕ) → j < c → FoundMatrix a matrix j
 
 -- the matrix of w is among them
 pub record WordAmong (a : Automaton) (c : ℕ) (matrix : ℕ → Matrix) (w : List ℕ) : Type 0 where

@@ -1,24 +1,27 @@
 -- The list while its matrices are multiplied with the letters' one after the other: when the last one was, the list has the matrices of all
 -- non-empty words. Assumes nothing.
-use Prim.Native.Nat.{ℕ, _+_, _≤_, _<_}
+use Prim.Native.Nat.{ℕ, zero, suc, _+_, _≤_, _<_}
 use mathlib.Core.Path.{_≡_, sym, subst}
+use mathlib.Core.Logic.{_⊎_, inl, inr}
 use mathlib.Core.List.{List}
 use native.Mathlib.Omega.{arith}
 use borrow.Author.Count.{below-more}
+use Rattle.finite.proofs.Numbers.{le-or-lt}
+use Rattle.finite.proofs.FirstWords.{Sooner, sooner-parent, sooner-letter}
 use Rattle.buchi.specs.Automata.{Automaton}
 use Rattle.buchi.specs.Matrices.{Matrix, SameEntries, OtherEntry}
-use Rattle.buchi.proofs.Products.{product, product-same, same-refl, same-sym}
+use Rattle.buchi.proofs.Products.{product, product-same, same-refl, same-sym, same-trans}
 use Rattle.buchi.proofs.WordMatrices.{letter-matrix}
-use Rattle.buchi.proofs.MatrixLists.{Among, ClosedList}
+use Rattle.buchi.proofs.MatrixLists.{Among, ClosedList, step-matrix, FoundInOrder}
 use Rattle.matrices.specs.Bytes.{letterEntry}
 use Rattle.matrices.proofs.Letters.{stands-letter}
 use Rattle.matrixlist.specs.Lists.{matrixAt, ListPlace, StandsHere, MatricesAnswer}
-use Rattle.matrixlist.specs.Steps.{LettersListed, LettersAnswer, LettersAdded, ProductsListed, ProductsAnswer, ProductsAdded}
+use Rattle.matrixlist.specs.Steps.{stepEntry, FoundMatrix, LettersListed, LettersAnswer, LettersAdded, ProductsListed, ProductsAnswer, ProductsAdded}
 use Rattle.matrixlist.specs.declared.MatrixCount.{MatrixCount}
 use Rattle.matrixlist.specs.declared.MatrixCount.the-variants.{Listed, TooMany}
 use Rattle.matrixlist.proofs.Growing.{among-same, kept-refl, kept-trans, here-kept, grown-trans, among-grown, letter-grown}
 use Rattle.matrixlist.proofs.Letters.{rich-kept}
-use Rattle.matrixlist.proofs.Multiplying.{product-grown}
+use Rattle.matrixlist.proofs.Order.{among-more, among-within, product-grown, found-grown}
 
 -- the letters' matrices are in the list, and so are the products of its first `from` matrices with them
 pub record Closing (kinds : List ℕ) (n k : ℕ) (entry now : List ℕ) (count from : ℕ) : Type 0 where
@@ -34,6 +37,35 @@ module _ {kinds : List ℕ} {n k : ℕ} {entry : List ℕ} (place : ListPlace ki
     pub closing-few : from ≤ 64
     closing-few = let h = s .within in omega (arith, s .listed .grown .list .few)
 
+    -- what was found sooner than by a letter from the matrix that is multiplied
+    before-product : {next : List ℕ} {total j x : ℕ} → ProductsListed kinds n k now count from next total k → from < count → count ≤ j
+        → ((y : ℕ) → y < x → Among n j (matrixAt next) (product n (matrixAt next from) (letterEntry kinds next y)))
+        → (q y : ℕ) → Sooner q y (suc from) x → y < k → Among n j (matrixAt next) (stepEntry kinds n next q y)
+    unfolding stepEntry
+    before-product r h c earlier zero y (sooner-parent e) b =
+        let few = place .few-letters in
+        among-same (letter-grown (r .grown) kinds y (omega arith)) (among-more c (among-within (r .grown) (omega arith) (s .listed .letters y b)))
+    before-product r h c earlier (suc q) y (sooner-parent e) b =
+        let few = place .few-letters in
+        among-same (product-grown (r .grown) kinds q y (omega arith) (omega arith)) (among-more c (among-within (r .grown) (omega arith) (s .steps q y (omega arith) b)))
+    before-product r h c earlier zero y (sooner-letter e l) b = absurd (omega arith)
+    before-product {next} {j = j} r h c earlier (suc q) y (sooner-letter e l) b =
+        let d : from ≡ q = omega arith in
+        subst (λ i. Among n j (matrixAt next) (product n (matrixAt next i) (letterEntry kinds next y))) d (earlier y l)
+
+    -- where each matrix was found
+    products-found : {next : List ℕ} {total : ℕ} → ProductsListed kinds n k now count from next total k → from < count → (j : ℕ) → j < total → (count ≤ j) ⊎ (j < count)
+        → FoundMatrix kinds n k next j
+    unfolding stepEntry
+    products-found r h j b (inr c) = found-grown (r .grown) (place .few-letters) c (s .listed .found j c)
+    products-found r h j b (inl c) =
+        let p = r .new j c b in
+        record {
+          parent = suc from;
+          letter = p .letter;
+          found = record { parent-before = omega arith; letter-lt = p .letter-lt; same = p .same; sooner = before-product r h c (p .sooner) };
+        }
+
     -- one matrix more was multiplied
     pub closing-next : {next : List ℕ} {total : ℕ} {answer : MatrixCount} → from < count → ProductsAdded kinds n k now count from next answer → answer ≡ Listed total
         → Closing kinds n k entry next total (from + 1)
@@ -46,6 +78,7 @@ module _ {kinds : List ℕ} {n k : ℕ} {entry : List ℕ} (place : ListPlace ki
             grown = grown-trans (s .listed .grown) (r .grown);
             words = r .words;
             letters = λ y l. among-same (letter-grown (r .grown) kinds y (omega arith)) (among-grown (r .grown) (s .listed .letters y l));
+            found = λ j b. products-found r h j b (le-or-lt count j);
           };
           steps = λ i y hi hy.
               below-more (λ i. Among n total (matrixAt next) (product n (matrixAt next i) (letterEntry kinds next y))) from
@@ -78,6 +111,35 @@ module _ {kinds : List ℕ} {n k : ℕ} {entry : List ℕ} (place : ListPlace ki
           let d = s .within in
           among-same (product-same same-refl (letter-of x l)) (s .steps i x (omega arith) (a-letter x l))
 
+      -- a step of the search is that of the automaton
+      step-same : (p x : ℕ) → x < t .letters → SameEntries (t .states) (stepEntry kinds n now p x) (step-matrix t (matrixAt now) p x)
+      unfolding stepEntry step-matrix
+      step-same zero x l = subst (λ c. SameEntries c (letterEntry kinds now x) (letter-matrix t x)) (sym (h .states)) (letter-of x l)
+      step-same (suc i) x l =
+          subst (λ c. SameEntries c (product n (matrixAt now i) (letterEntry kinds now x)) (product c (matrixAt now i) (letter-matrix t x))) (sym (h .states))
+          (product-same same-refl (letter-of x l))
+
+      found-in-order : FoundInOrder t count (matrixAt now)
+      found-in-order = record {
+        found = λ j b.
+            let f = s .listed .found j b in
+            let l : f .letter < t .letters = subst (λ c. f .letter < c) (sym (h .letters)) (f .found .letter-lt) in
+            record {
+              parent = f .parent;
+              letter = f .letter;
+              found = record {
+                parent-before = f .found .parent-before;
+                letter-lt = l;
+                same =
+                    same-trans (same-sym (step-same (f .parent) (f .letter) l))
+                    (subst (λ c. SameEntries c (stepEntry kinds n now (f .parent) (f .letter)) (matrixAt now j)) (sym (h .states)) (f .found .same));
+                sooner = λ q y e r.
+                    among-same (step-same q y r)
+                    (subst (λ c. Among c j (matrixAt now) (stepEntry kinds n now q y)) (sym (h .states)) (f .found .sooner q y e (a-letter y r)));
+              };
+            };
+      }
+
       closed-list : ClosedList t count (matrixAt now)
       closed-list = record {
         words = λ i b. s .listed .words .words i b .word t h;
@@ -94,6 +156,7 @@ module _ {kinds : List ℕ} {n k : ℕ} {entry : List ℕ} (place : ListPlace ki
         some = let a = s .listed .letters 0 (omega arith) in omega (arith, a .below);
         list = s .listed .grown .list;
         closed = λ t h. closed-list done t (here-kept (s .listed .grown .kept) h);
+        in-order = λ t h. found-in-order done t (here-kept (s .listed .grown .kept) h);
       };
     }
 
@@ -107,6 +170,7 @@ module _ {kinds : List ℕ} {n k : ℕ} {entry now : List ℕ} {answer : MatrixC
         grown = record { list = l .grown .list; more = omega arith; same = λ i h. absurd (omega arith); kept = kept-refl };
         words = l .words;
         letters = l .letters;
+        found = l .found;
       }
 
   pub begun-full : answer ≡ TooMany → MatricesAnswer kinds n k entry now TooMany
@@ -116,6 +180,11 @@ module _ {kinds : List ℕ} {n k : ℕ} {entry now : List ℕ} {answer : MatrixC
   pub begun-done : {exit : List ℕ} {last : MatrixCount} → MatricesAnswer kinds n k now exit last → MatricesAnswer kinds n k entry exit last
   begun-done {last = Listed count} r = record {
     kept = kept-trans (a .kept) (r .kept);
-    says = record { some = r .says .some; list = r .says .list; closed = λ t h. r .says .closed t (here-kept (a .kept) h) };
+    says = record {
+      some = r .says .some;
+      list = r .says .list;
+      closed = λ t h. r .says .closed t (here-kept (a .kept) h);
+      in-order = λ t h. r .says .in-order t (here-kept (a .kept) h);
+    };
   }
   begun-done {last = TooMany} r = record { kept = kept-trans (a .kept) (r .kept); says = rich-kept (a .kept) (r .says) }

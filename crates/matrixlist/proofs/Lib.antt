@@ -1,5 +1,6 @@
 pub mod Finding
 pub mod Growing
+pub mod Order
 pub mod Adding
 pub mod Words
 pub mod Letters

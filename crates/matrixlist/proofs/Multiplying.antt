@@ -1,9 +1,11 @@
 -- The products of one matrix of the list with the letters' matrices, one letter after the other. Assumes nothing.
 use Prim.Native.Nat.{ℕ, _+_, _≤_, _<_}
 use mathlib.Core.Path.{_≡_}
+use mathlib.Core.Logic.{_⊎_, inl, inr}
 use mathlib.Core.List.{List}
 use native.Mathlib.Omega.{arith}
 use borrow.Author.Count.{below-more}
+use Rattle.finite.proofs.Numbers.{le-or-lt}
 use Rattle.buchi.specs.Matrices.{SameEntries}
 use Rattle.buchi.proofs.Products.{product, product-same, same-sym, same-trans}
 use Rattle.buchi.proofs.MatrixLists.{Among}
@@ -11,24 +13,20 @@ use Rattle.matrices.specs.Arrays.{entryIn, MatrixShape, IsProduct}
 use Rattle.matrices.specs.Bytes.{letterEntry, IsLetter, MatrixPlace, Loaded}
 use Rattle.matrices.proofs.Storing.{loaded-same, loaded-shape}
 use Rattle.matrixlist.specs.Lists.{matrixAt, ListPlace, Kept}
-use Rattle.matrixlist.specs.Steps.{Grown, AddedTo, Full, IsWord, WordList, ProductsListed, ProductsAdded}
+use Rattle.matrixlist.specs.Steps.{AddedTo, Full, IsWord, WordList, NewProduct, ProductsListed, ProductsAdded}
 use Rattle.matrixlist.specs.declared.MatrixCount.the-variants.{Listed, TooMany}
 use Rattle.matrixlist.proofs.Finding.{list-place}
-use Rattle.matrixlist.proofs.Growing.{among-same, kept-trans, grown-refl, grown-trans, among-grown, letter-grown}
+use Rattle.matrixlist.proofs.Growing.{among-same, kept-trans, grown-refl, grown-trans, among-grown}
+use Rattle.matrixlist.proofs.Order.{among-more, among-within, product-grown, product-kept}
 use Rattle.matrixlist.proofs.Words.{word-same, word-letter, words-added, too-rich}
 use Rattle.matrixlist.proofs.Letters.{rich-kept}
-
--- the product with a letter's matrix stays where the list grows
-pub product-grown : {n count total : ℕ} {entry exit : List ℕ} → Grown n entry count exit total → (kinds : List ℕ) (i x : ℕ) → i < count → x < 16
-    → SameEntries n (product n (matrixAt entry i) (letterEntry kinds entry x)) (product n (matrixAt exit i) (letterEntry kinds exit x))
-product-grown g kinds i x h l = product-same (g .same i h) (letter-grown g kinds x l)
 
 module _ {kinds : List ℕ} {n k count from : ℕ} {entry : List ℕ} (place : ListPlace kinds n k entry) (w : WordList kinds n k entry count) (inside : from < count) where
   pub from-place : MatrixPlace entry 8192 from
   from-place = let few = w .list .few in list-place (w .list) (omega arith)
 
   pub products-start : ProductsListed kinds n k entry count from entry count 0
-  products-start = record { grown = grown-refl (w .list); words = w; steps = λ y h. absurd (omega arith) }
+  products-start = record { grown = grown-refl (w .list); words = w; steps = λ y h. absurd (omega arith); new = λ j c b. absurd (omega arith) }
 
   pub left-shape : {left : List (List ℕ)} → Loaded entry 8192 from left → MatrixShape n left
   left-shape a = loaded-shape (w .list .entries from inside) a
@@ -48,6 +46,24 @@ module _ {kinds : List ℕ} {n k count from : ℕ} {entry : List ℕ} (place : L
     is-product : SameEntries n (entryIn m) (product n (matrixAt now from) (letterEntry kinds now x))
     is-product = same-trans (same-sym (r .same)) (product-same (same-sym left-same) (same-sym (b .same)))
 
+    -- where each new matrix was found
+    products-new : {next : List ℕ} {total′ : ℕ} → AddedTo n now total m next total′ → (j : ℕ) → count ≤ j → j < total′ → (total ≤ j) ⊎ (j < total)
+        → NewProduct kinds n next from (x + 1) j
+    products-new d j c b (inr l) =
+        let few = place .few-letters in
+        let more = s .grown .more in
+        product-kept (d .grown) (omega arith) (omega arith) (omega arith) l (s .new j c l)
+    products-new d j c b (inl l) =
+        let few = place .few-letters in
+        let more = s .grown .more in
+        record {
+          letter = x;
+          letter-lt = omega arith;
+          same = same-trans (same-sym (product-grown (d .grown) kinds from x (omega arith) (omega arith))) (same-trans (same-sym is-product) (d .only j l b));
+          sooner = λ y g.
+              among-same (product-grown (d .grown) kinds from y (omega arith) (omega arith)) (among-more l (among-within (d .grown) (omega arith) (s .steps y g)));
+        }
+
     pub products-next : {next : List ℕ} {total′ : ℕ} → AddedTo n now total m next total′ → ProductsListed kinds n k entry count from next total′ (x + 1)
     products-next {next} {total′} d =
         let few = place .few-letters in
@@ -59,6 +75,7 @@ module _ {kinds : List ℕ} {n k count from : ℕ} {entry : List ℕ} (place : L
               below-more (λ y. Among n total′ (matrixAt next) (product n (matrixAt next from) (letterEntry kinds next y))) x
               (λ y l. among-same (product-grown (d .grown) kinds from y (omega arith) (omega arith)) (among-grown (d .grown) (s .steps y l)))
               (among-same (same-trans is-product (product-grown (d .grown) kinds from x (omega arith) (omega arith))) (d .among));
+          new = λ j c b. products-new d j c b (le-or-lt total j);
         }
 
     pub products-full : {next : List ℕ} → Full n now total m → Kept now next → ProductsAdded kinds n k entry count from next TooMany

@@ -7,7 +7,7 @@ use lib.ListN.{length, getD}
 use Rattle.buchi.specs.Automata.{Automaton}
 use Rattle.buchi.specs.Matrices.{Matrix, OtherEntry}
 use Rattle.buchi.specs.Rule.{MoreMatrices}
-use Rattle.buchi.proofs.MatrixLists.{ClosedList}
+use Rattle.buchi.proofs.MatrixLists.{ClosedList, FoundInOrder}
 use Rattle.matrices.specs.Arrays.{StateEntries}
 use Rattle.matrices.specs.Bytes.{Stands, matrixFrom}
 use Rattle.matrixlist.specs.declared.MatrixCount.{MatrixCount}
@@ -44,11 +44,12 @@ pub record Kept (entry exit : List ℕ) : Type 0 where
   pub before : (j : ℕ) → j < 8192 → getD exit j 0 ≡ getD entry j 0
   pub behind : (j : ℕ) → 12288 ≤ j → getD exit j 0 ≡ getD entry j 0
 
--- the list has the matrices of all non-empty words, each once
+-- the list has the matrices of all non-empty words, each once, in the order in which a search in breadth finds them
 pub record AllListed (kinds : List ℕ) (n k : ℕ) (entry exit : List ℕ) (count : ℕ) : Type 0 where
   pub some : 1 ≤ count
   pub list : MatrixList n exit count
   pub closed : (automaton : Automaton) → StandsHere automaton kinds n k entry → ClosedList automaton count (matrixAt exit)
+  pub in-order : (automaton : Automaton) → StandsHere automaton kinds n k entry → FoundInOrder automaton count (matrixAt exit)
 
 -- the automaton has more than 64 matrices
 pub record TooRich (kinds : List ℕ) (n k : ℕ) (scratch : List ℕ) : Type 0 where

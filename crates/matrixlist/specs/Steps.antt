@@ -1,7 +1,8 @@
 -- What each step of the list's making does to the list. Assumes nothing.
-use Prim.Native.Nat.{ℕ, _≤_, _<_}
+use Prim.Native.Nat.{ℕ, zero, suc, _≤_, _<_}
 use mathlib.Core.Path.{_≡_}
 use mathlib.Core.List.{List}
+use Rattle.finite.proofs.FirstWords.{Sooner}
 use Rattle.buchi.specs.Automata.{Automaton}
 use Rattle.buchi.specs.Matrices.{Matrix, SameEntries, OtherEntry}
 use Rattle.buchi.specs.Rule.{MatrixWord}
@@ -50,11 +51,31 @@ pub record WordList (kinds : List ℕ) (n k : ℕ) (scratch : List ℕ) (count :
   pub list : MatrixList n scratch count
   pub words : (i : ℕ) → i < count → IsWord kinds n k scratch (matrixAt scratch i)
 
+-- what letter x makes of entry p of the search: of entry 0, the empty word, the letter's own matrix, and of entry i + 1 the
+-- product of matrix i with it
+unfoldable pub stepEntry : List ℕ → ℕ → List ℕ → ℕ → ℕ → Matrix
+stepEntry kinds n scratch zero x = letterEntry kinds scratch x
+stepEntry kinds n scratch (suc i) x = product n (matrixAt scratch i) (letterEntry kinds scratch x)
+
+-- matrix j was found from entry p by letter x, and whatever is found sooner stands before it
+pub record FoundFrom (kinds : List ℕ) (n k : ℕ) (scratch : List ℕ) (j p x : ℕ) : Type 0 where
+  pub parent-before : p ≤ j
+  pub letter-lt : x < k
+  pub same : SameEntries n (stepEntry kinds n scratch p x) (matrixAt scratch j)
+  pub sooner : (q y : ℕ) → Sooner q y p x → y < k → Among n j (matrixAt scratch) (stepEntry kinds n scratch q y)
+
+-- matrix j was found from some entry by some letter
+pub record FoundMatrix (kinds : List ℕ) (n k : ℕ) (scratch : List ℕ) (j : ℕ) : Type 0 where
+  pub parent : ℕ
+  pub letter : ℕ
+  pub found : FoundFrom kinds n k scratch j parent letter
+
 -- the matrices of the first x letters are in the list
 pub record LettersListed (kinds : List ℕ) (n k : ℕ) (entry exit : List ℕ) (total x : ℕ) : Type 0 where
   pub grown : Grown n entry 0 exit total
   pub words : WordList kinds n k exit total
   pub letters : (y : ℕ) → y < x → Among n total (matrixAt exit) (letterEntry kinds exit y)
+  pub found : (j : ℕ) → j < total → FoundMatrix kinds n k exit j
 
 -- every letter's matrix is in the list, or there are too many
 abbrev pub LettersAnswer : List ℕ → ℕ → ℕ → List ℕ → List ℕ → MatrixCount → Type 0
@@ -66,11 +87,19 @@ pub record LettersAdded (kinds : List ℕ) (n k : ℕ) (entry exit : List ℕ) (
   pub kept : Kept entry exit
   pub says : LettersAnswer kinds n k entry exit answer
 
+-- matrix j is the product of one matrix of the list with one of the first x letters; those with earlier letters stand before it
+pub record NewProduct (kinds : List ℕ) (n : ℕ) (scratch : List ℕ) (from x j : ℕ) : Type 0 where
+  pub letter : ℕ
+  pub letter-lt : letter < x
+  pub same : SameEntries n (product n (matrixAt scratch from) (letterEntry kinds scratch letter)) (matrixAt scratch j)
+  pub sooner : (y : ℕ) → y < letter → Among n j (matrixAt scratch) (product n (matrixAt scratch from) (letterEntry kinds scratch y))
+
 -- the products of one matrix of the list with the matrices of the first x letters are in it
 pub record ProductsListed (kinds : List ℕ) (n k : ℕ) (entry : List ℕ) (count from : ℕ) (exit : List ℕ) (total x : ℕ) : Type 0 where
   pub grown : Grown n entry count exit total
   pub words : WordList kinds n k exit total
   pub steps : (y : ℕ) → y < x → Among n total (matrixAt exit) (product n (matrixAt exit from) (letterEntry kinds exit y))
+  pub new : (j : ℕ) → count ≤ j → j < total → NewProduct kinds n exit from x j
 
 -- so are the products with every letter's, or there are too many
 abbrev pub ProductsAnswer : List ℕ → ℕ → ℕ → List ℕ → ℕ → ℕ → List ℕ → MatrixCount → Type 0

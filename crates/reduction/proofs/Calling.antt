@@ -100,7 +100,7 @@ module _ (bytes out entry : List ℕ) (long : ruleSize ≤ length out) where
       reduced-to =
           let t = good .table in
           let q = reduces (ruleOf bytes (good .lawful)) (t .small) (good .letters-some) (t .letters-small) (good .reached) (good .linked) strong closure-stands written in
-          record { lawful = good .lawful; reduced = q .reduced; reduction = q .reduction; written = q .written }
+          record { lawful = good .lawful; reduced = q .reduced; reduction = q .reduction; numbered = q .numbered; written = q .written }
 
       pub reduce-strong : (end : List ℕ) → end ≡ replicate (length exit) 0 → ReducePromise bytes out after entry end (Is-rule length-of)
       reduce-strong end z = record {

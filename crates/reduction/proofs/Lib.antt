@@ -1,5 +1,6 @@
 pub mod Cells
 pub mod Blocks
 pub mod Laid
+pub mod Order
 pub mod Reducing
 pub mod Calling

@@ -21,6 +21,7 @@ use Rattle.rounds.proofs.OutcomeBytes.{outcome-below, outcome-acceptance}
 use Rattle.rounds.proofs.Comparing.{same-outcomes-carry}
 use Rattle.search.specs.Search.{Stands}
 use Rattle.numbering.specs.Steps.{leaderAt}
+use Rattle.firstwords.specs.FirstWords.{ByFirstWords}
 use Rattle.numbering.specs.Numbering.{NumberedAs, BlocksNumbered}
 use Rattle.rulewriter.specs.File.{FitsFormat}
 use Rattle.rulewriter.proofs.Agree.{Agree}
@@ -29,6 +30,7 @@ use Rattle.rulewriter.proofs.ReadBack.{written-rule}
 use Rattle.rulewriter.specs.ReadBack.{WrittenRule}
 use Rattle.reduction.specs.Written.{FileWritten}
 use Rattle.reduction.specs.Steps.{QuotientPlace, QuotientWritten, ReducePlace, ReducedWritten}
+use Rattle.reduction.proofs.Order.{quotient-by-first-words}
 use Rattle.reduction.proofs.Laid.{written-same}
 
 -- from the blocks of the last round to the file
@@ -59,6 +61,7 @@ module _ {m : Morphism} {entry settled numbered out : List ℕ} {i c : ℕ} (sma
     some = b .some;
     few = b .few;
     numbering = numbering-of .numbering;
+    in-order = quotient-by-first-words (p .lawful) numbering-of (b .in-order);
     written = w .written (outcomeOf m entry) numbering-of outcomes-stand;
   }
 
@@ -101,10 +104,16 @@ module _ {m : Morphism} (law : Lawful m) {f g : ℕ → ℕ → ℕ} (agree : (s
   unfolding numbering-carry quotient
   carried-written b w = written-same (file-same (carried-agree b) (carried-marks b)) w
 
+  -- so the first words are the same
+  pub carried-order : {c : ℕ} (b : Numbering m f c) → ByFirstWords (quotient b) → ByFirstWords (quotient (numbering-carry b))
+  unfolding numbering-carry quotient
+  carried-order b o = o
+
 -- the reduction of a rule was written, whole
 pub record Reduces (r : Rule) (before after : List ℕ) (end : ℕ) : Type 0 where
   pub reduced : Rule
   pub reduction : Reduction r reduced
+  pub numbered : ByFirstWords (reduced .morphism)
   pub written : WrittenRule (reduced .morphism) (reduced .marks) before after end
 
 -- a strong rule whose closure stands in the second table of marks
@@ -130,6 +139,7 @@ module _ (r : Rule) (small : r .morphism .size ≤ 64) (letters-some : 1 ≤ r .
   reduces = record {
     reduced = reduced-rule r by-acceptance;
     reduction = reduction-right r reached linked strong by-acceptance;
+    numbered = carried-order (r .lawful) outcomes-agree (w .numbering) (w .in-order);
     written =
         let f = carried-written (r .lawful) outcomes-agree (w .numbering) (w .written) in
         written-rule (quotient by-acceptance) _ fits (quotient-lawful (r .lawful) by-acceptance)

@@ -8,6 +8,7 @@ use lib.Dec.{ltb}
 use Rattle.answer.specs.Checks.{Check, Verdict, passed, refused, FirstFailure}
 use Rattle.theory.specs.Rules.{Rule, Lawful}
 use Rattle.theory.specs.Smallest.{Reduction}
+use Rattle.firstwords.specs.FirstWords.{ByFirstWords}
 use Rattle.format.specs.Format.{morphismOf, markingOf}
 use Rattle.format.specs.RuleChecks.{bufferCheck}
 use Rattle.rulefile.specs.Answers.{checkedChecks, afterCall}
@@ -33,11 +34,13 @@ reducedVerdict (Refused refusal input place) = refused refusal input place
 abbrev pub ruleOf : (bytes : List ℕ) → Lawful (morphismOf bytes) → Rule
 ruleOf bytes law = record { morphism = morphismOf bytes; lawful = law; marks = markingOf bytes }
 
--- a reduction of the file's rule was written, whole: its file passes our own check and means the reduced rule
+-- a reduction of the file's rule was written, whole: its elements are numbered by first words, and its file passes our own check
+-- and means the reduced rule
 pub record ReducedTo (bytes before after : List ℕ) (end : ℕ) : Type 0 where
   pub lawful : Lawful (morphismOf bytes)
   pub reduced : Rule
   pub reduction : Reduction (ruleOf bytes lawful) reduced
+  pub numbered : ByFirstWords (reduced .morphism)
   pub written : WrittenRule (reduced .morphism) (reduced .marks) before after end
 
 -- a refusal keeps every byte of out

@@ -5,6 +5,7 @@ use mathlib.Core.List.{List}
 use lib.ListN.{length, getD}
 use lib.Dec.{ltb}
 use Rattle.theory.specs.Rules.{Morphism, Marking, Lawful, AllReached}
+use Rattle.firstwords.specs.FirstWords.{ByFirstWords}
 use Rattle.minimality.proofs.Quotient.{Numbering, quotient, quotient-acc}
 use Rattle.minimality.proofs.Saturation.{saturated}
 use Rattle.rounds.specs.Map.{outcomeOf, outcomeAt}
@@ -62,4 +63,5 @@ pub record ReducedWritten (m : Morphism) (entry exit before after : List ℕ) (e
   pub some : 1 ≤ count
   pub few : count ≤ m .size
   pub numbering : Numbering m (outcomeOf m entry) count
+  pub in-order : ByFirstWords (quotient numbering)
   pub written : FileWritten (quotient numbering) (saturated (quotient numbering) (quotient-acc numbering)) before after end

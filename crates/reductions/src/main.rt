@@ -197,6 +197,63 @@ fn twice(file: &mut [u8], out: &mut [u8], scratch: &mut [u8]) {
     again(b"W again", file, length, out, scratch);
 }
 
+// How often letter 0 occurs, up to five times: accepted from five on. Blocks split one at a time, so three rounds are needed.
+fn five_times(out: &mut [u8], scratch: &mut [u8]) {
+    tell(
+        b"five times",
+        &[
+            6,
+            0,
+            1,
+            2,
+            3,
+            4,
+            5,
+            1,
+            2,
+            3,
+            4,
+            5,
+            5,
+            2,
+            3,
+            4,
+            5,
+            5,
+            5,
+            3,
+            4,
+            5,
+            5,
+            5,
+            5,
+            4,
+            5,
+            5,
+            5,
+            5,
+            5,
+            5,
+            5,
+            5,
+            5,
+            5,
+            5,
+            2,
+            1,
+            0,
+            2,
+            0,
+            5,
+            0,
+            5,
+            5,
+        ],
+        out,
+        scratch,
+    );
+}
+
 fn main() {
     let mut scratch = [7u8; 65536];
     let mut out = [9u8; 12308];
@@ -205,4 +262,5 @@ fn main() {
     twice(&mut file, &mut out, &mut scratch);
     letter_sets(&mut file, &mut out, &mut scratch);
     remainders(&mut file, &mut out, &mut scratch);
+    five_times(&mut out, &mut scratch);
 }

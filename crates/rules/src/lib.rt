@@ -27,5 +27,7 @@ pub use rulefile::inspect;
 pub use strength::Strength;
 pub use strength::strong;
 pub use stretch::stretch;
+pub use summary::Summary;
+pub use summary::summarize;
 pub use verdict::Judged;
 pub use verdict::verdict;

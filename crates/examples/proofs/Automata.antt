@@ -1,0 +1,303 @@
+-- The automaton's file: it passes every check, its three matrices are found by computing, every rule of it has three elements, and
+-- every reduction of such a rule has two. Assumes nothing.
+use Prim.Native.Nat.{ℕ, zero, suc, _≤_, _<_}
+use native.Mathlib.Omega.{arith}
+use mathlib.Core.Path.{_≡_, refl, subst, _∙_}
+use mathlib.Core.Bool.{Bool, true, not, _&&_}
+use mathlib.Core.Logic.{_↔_}
+use mathlib.Core.List.{List, _++_}
+use lib.Dec.{T, leb, eqb, leb→le}
+use lib.ListN.{length, drop}
+use mir.Facts.{yes-eqb}
+use Rattle.finite.proofs.Tests.{T-and, T-and-left, T-and-right, not-T}
+use Rattle.finite.proofs.Search.{allBelow, all-elim}
+use Rattle.finite.proofs.Worklist.{Entry}
+use Rattle.finite.proofs.FirstWords.{Sooner, sooner-parent, sooner-letter}
+use Rattle.finite.proofs.Explore.{sooner-le}
+use Rattle.finite.proofs.Discovery.{Discovery}
+use Rattle.answer.specs.Checks.{passed, FirstFailure}
+use Rattle.answer.proofs.Order.{first-passes, none-left, passed-before}
+use Rattle.theory.specs.Words.{Lasso}
+use Rattle.theory.specs.Rules.{Rule, Lawful, Marking, level, marked, join}
+use Rattle.theory.specs.Acceptance.{RuleStrong}
+use Rattle.theory.specs.Smallest.{SameLassos}
+use Rattle.theory.proofs.Computing.{computing}
+use Rattle.sections.specs.Sections.{Section}
+use Rattle.sections.proofs.Laws.{good-passes}
+use Rattle.format.specs.Format.{morphismOf, oneIf}
+use Rattle.format.specs.RuleChecks.{scratchSize}
+use Rattle.rulefile.specs.GoodRule.{GoodRule}
+use Rattle.rulefile.proofs.CheckedRule.{good-rule}
+use Rattle.automatonformat.specs.Format.{statesOf, kindAt, isInitial, isFinal, lettersAt, lettersOf, transitionsAt, transitionsOf, transitionAt, fromOf, letterOf, toOf, isTransition, hasTransition, automatonEnd, tripleBound, statesSection, lettersSection, transitionsSection}
+use Rattle.automatonformat.specs.AutomatonChecks.{automatonChecks, readChecks}
+use Rattle.automatonfile.proofs.RepeatedOrder.{Fresh, fresh-all}
+use Rattle.buchi.specs.Automata.{Automaton}
+use Rattle.buchi.specs.Rule.{MatricesOf, MarkedBy, AcceptsRuns, MoreMatrices}
+use Rattle.buchi.proofs.Computing.{testing}
+use Rattle.buchi.proofs.AutomatonRule.{run-marks, run-marked, marked-linked, rule-accepts-runs, rule-strong, rule-marks-accepted}
+use Rattle.buchi.proofs.TableTest.{matrices-elim}
+use Rattle.buchi.proofs.Numberings.{more-matrices}
+use Rattle.buchi.proofs.ExampleRule.{M10-table, M10-matrix, M10-lawful, M10-reached}
+use Rattle.reach.specs.Reach.{wordStep}
+use Rattle.firstwords.specs.FirstWords.{ByFirstWords}
+use Rattle.firstwords.proofs.Ordered.{entry, found-by-first-words}
+use Rattle.rulewriter.specs.File.{fileOf}
+use Rattle.rulewriter.proofs.ReadBack.{written-rule}
+use Rattle.reduction.specs.Promise.{ruleOf}
+use Rattle.automaton.specs.declared.Translated.{Translated}
+use Rattle.automaton.specs.declared.Translated.the-variants.{Rule as Is-translated, Refused}
+use Rattle.automaton.specs.Meaning.{automatonOf}
+use Rattle.automaton.specs.Promise.{ruleSize, RuleOf, ruleVerdict, RuleAnswer, translateChecks, scratchLeft, RulePromise}
+use Rattle.automaton.proofs.OneAnswer.{rule-one-verdict}
+use Rattle.examples.specs.Files.{automaton}
+use Rattle.examples.specs.Examples.{FileStrong, RuleReducesTo, ReducesTo, Translation, TranslatedTo, AutomatonReducesTo}
+use Rattle.examples.proofs.Passing.{section-test, section-elim, checks-to}
+use Rattle.examples.proofs.OneElement.{sooner-none}
+use Rattle.examples.proofs.ReadRules.{one-if, reads-accepts, reads-strong}
+use Rattle.examples.proofs.Reductions.{reducing, reduces-as, reduces-by-model}
+
+-- ---- a test that computes whether an automaton file passes the checks 1 to 4 and 8
+
+module _ (bytes : List ℕ) where
+  abbrev letters-rest : List ℕ
+  letters-rest = drop (lettersAt bytes) bytes
+
+  abbrev transitions-rest : List ℕ
+  transitions-rest = drop (transitionsAt bytes) bytes
+
+  abbrev triples : Section
+  triples = transitionsSection (statesOf bytes) (lettersOf bytes)
+
+  -- the i-th and the j-th transition are the same triple
+  unfoldable same-triples : ℕ → ℕ → Bool
+  same-triples j i =
+      eqb (fromOf bytes i) (fromOf bytes j) && (eqb (letterOf bytes i) (letterOf bytes j) && eqb (toOf bytes i) (toOf bytes j))
+
+  unfoldable fresh-test : ℕ → Bool
+  fresh-test j = allBelow j (λ i. not (same-triples j i))
+
+  fresh-elim : (j : ℕ) → T (fresh-test j) → Fresh bytes j
+  unfolding fresh-test same-triples
+  fresh-elim j t = record {
+    fresh = λ i h s. not-T (same-triples j i) (all-elim j (λ i. not (same-triples j i)) t i h)
+        (T-and (eqb (fromOf bytes i) (fromOf bytes j)) _ (yes-eqb (s .same-from))
+        (T-and (eqb (letterOf bytes i) (letterOf bytes j)) _ (yes-eqb (s .same-letter)) (yes-eqb (s .same-to))));
+  }
+
+  unfoldable automaton-test : Bool
+  automaton-test =
+      section-test statesSection bytes
+      && (section-test lettersSection letters-rest
+      && (section-test triples transitions-rest && (leb (length bytes) (automatonEnd bytes) && allBelow (transitionsOf bytes) fresh-test)))
+
+  automaton-passes : T automaton-test → FirstFailure (automatonChecks 1 bytes) passed
+  unfolding automaton-test automatonChecks
+  automaton-passes t =
+      let t₁ = T-and-right (section-test statesSection bytes) _ t in
+      let t₂ = T-and-right (section-test lettersSection letters-rest) _ t₁ in
+      let t₃ = T-and-right (section-test triples transitions-rest) _ t₂ in
+      let ends = leb→le (length bytes) (automatonEnd bytes) (T-and-left (leb (length bytes) (automatonEnd bytes)) _ t₃) in
+      let fresh = T-and-right (leb (length bytes) (automatonEnd bytes)) _ t₃ in
+      passed-before _ _
+      (passed-before _ _ (good-passes statesSection 1 0 bytes (section-elim _ _ (T-and-left (section-test statesSection bytes) _ t)))
+      (passed-before _ _ (good-passes lettersSection 1 (lettersAt bytes) letters-rest (section-elim _ _ (T-and-left (section-test lettersSection letters-rest) _ t₁)))
+      (good-passes triples 1 (transitionsAt bytes) transitions-rest (section-elim _ _ (T-and-left (section-test triples transitions-rest) _ t₂)))))
+      (first-passes (record { nowhere = λ place l. omega (arith, ends, l .longer) })
+      (fresh-all 1 (transitionsOf bytes) (record { each = λ j h. fresh-elim j (all-elim (transitionsOf bytes) fresh-test fresh j h) })))
+
+-- opens what the bytes of an automaton file mean, and its tests
+unfoldable opening : Bool
+unfolding reducing testing kindAt isInitial isFinal lettersAt lettersOf transitionsAt transitionsOf transitionAt fromOf letterOf toOf isTransition hasTransition automatonEnd tripleBound same-triples fresh-test automaton-test
+opening = true
+
+reads : FirstFailure (automatonChecks 1 automaton) passed
+unfolding opening
+reads = automaton-passes automaton tt
+
+-- ---- a rule of the automaton: its table has the matrices of all non-empty words, as the tests find
+
+abbrev a : Automaton
+a = automatonOf automaton
+
+three : MatricesOf a M10-table M10-matrix
+unfolding opening
+three = matrices-elim a M10-table M10-matrix M10-lawful M10-reached refl tt
+
+abbrev marks : Marking
+marks s e = oneIf (run-marks a M10-table M10-matrix s e)
+
+marking : MarkedBy a M10-table M10-matrix (marked marks)
+unfolding marked level
+marking = record {
+  marks = λ s e hs he.
+      let k = run-marked a M10-table M10-matrix .marks s e hs he in
+      let b = one-if (run-marks a M10-table M10-matrix s e) in
+      (λ t. k .0 (b .0 t), λ t. b .1 (k .1 t));
+}
+
+abbrev rule : Rule
+rule = record { morphism = M10-table; lawful = M10-lawful; marks = marks }
+
+accepts : AcceptsRuns a M10-table (marked marks)
+accepts = rule-accepts-runs M10-lawful three marking
+
+strong : RuleStrong rule
+strong = rule-strong M10-lawful three marking
+
+rule-reduces : RuleReducesTo rule 2
+unfolding opening
+rule-reduces = reduces-by-model rule M10-reached (marked-linked M10-lawful three marking) strong refl
+
+-- ---- every rule that the promise allows has as many elements as there are matrices, and its file reduces as this rule does
+
+matrices : (i : ℕ) → MoreMatrices a i ↔ (i < 3)
+matrices = more-matrices M10-lawful three
+
+module _ {before after : List ℕ} {r : ℕ} (made : RuleOf automaton before after r) where
+  made-elements : made .morphism .size ≡ 3
+  made-elements =
+      let more = more-matrices (made .lawful) (made .elements) in
+      let low : 2 < made .morphism .size = more 2 .0 (matrices 2 .1 (omega arith)) in
+      let high : 3 < made .morphism .size → ⊥ = λ h. let f : 3 < 3 = matrices 3 .0 (more 3 .1 h) in omega arith in
+      omega arith
+
+  abbrev written-file : List ℕ
+  written-file = fileOf (made .morphism) (made .marks)
+
+  abbrev good : GoodRule written-file
+  good = good-rule 1 written-file (made .written .passes 1)
+
+  -- its file means a rule that accepts the lassos with an accepting run, as the computed rule does
+  file-same : (law : Lawful (morphismOf written-file)) → SameLassos (ruleOf written-file law) rule
+  unfolding opening
+  file-same law = record {
+    same-letters = made .written .reads-back .letters ∙ made .elements .same-letters;
+    both-or-neither = λ u v l.
+        let l′ = subst (λ n. Lasso n u v) (made .written .reads-back .letters) l in
+        let f = reads-accepts (made .lawful) (made .written .reads-back) u v in
+        let k = made .accepts .accepts u v l′ in
+        let k′ = accepts .accepts u v (subst (λ n. Lasso n u v) (made .elements .same-letters) l′) in
+        (λ t. k′ .1 (k .0 (f .1 t)), λ t. f .0 (k .1 (k′ .0 t)));
+  }
+
+  file-strong : FileStrong written-file
+  file-strong = reads-strong (made .lawful) (made .written .reads-back) (made .strong)
+
+  file-reduces : ReducesTo written-file 2
+  file-reduces = record {
+    lawful = good .lawful;
+    reduces = λ law. reduces-as (ruleOf written-file law) (good .reached) (good .linked) file-strong (file-same law) (rule-reduces .reduction)
+        (rule-reduces .elements (rule-reduces .reduced) (rule-reduces .reduction));
+  }
+
+-- ---- its numbering
+
+-- found sooner than by the last letter from an entry: the entries before, and the same entry with another letter
+sooner-self : {q y : ℕ} → Sooner q y q y → ⊥
+sooner-self (sooner-parent h) = omega arith
+sooner-self (sooner-letter e h) = omega arith
+
+-- the letters' matrices first, then that of 0 1
+before-second : (q y : ℕ) → Sooner q y 0 1 → y < 2 → Entry entry 2 (wordStep M10-table y (entry q))
+unfolding entry wordStep join computing opening
+before-second zero zero s l = record { at = 1; below = omega arith; same = refl }
+before-second zero (suc zero) s l = absurd (sooner-self s)
+before-second zero (suc (suc y)) s l = absurd (omega arith)
+before-second (suc q) y s l = absurd (omega (arith, sooner-le s))
+
+before-third : (q y : ℕ) → Sooner q y 1 1 → y < 2 → Entry entry 3 (wordStep M10-table y (entry q))
+unfolding entry wordStep join computing opening
+before-third zero zero s l = record { at = 1; below = omega arith; same = refl }
+before-third zero (suc zero) s l = record { at = 2; below = omega arith; same = refl }
+before-third (suc zero) zero s l = record { at = 1; below = omega arith; same = refl }
+before-third (suc zero) (suc zero) s l = absurd (sooner-self s)
+before-third zero (suc (suc y)) s l = absurd (omega arith)
+before-third (suc zero) (suc (suc y)) s l = absurd (omega arith)
+before-third (suc (suc q)) y s l = absurd (omega (arith, sooner-le s))
+
+discovery : (j : ℕ) → 0 < j → j < 4 → Discovery (wordStep M10-table) 2 entry j
+unfolding entry wordStep join computing opening
+discovery zero h l = absurd (omega arith)
+discovery (suc zero) h l = record {
+  parent = 0;
+  letter = 0;
+  found = record { parent-lt = omega arith; letter-lt = omega arith; step = refl; sooner = λ q y s b. absurd (sooner-none s) };
+}
+discovery (suc (suc zero)) h l = record {
+  parent = 0;
+  letter = 1;
+  found = record { parent-lt = omega arith; letter-lt = omega arith; step = refl; sooner = before-second };
+}
+discovery (suc (suc (suc zero))) h l = record {
+  parent = 1;
+  letter = 1;
+  found = record { parent-lt = omega arith; letter-lt = omega arith; step = refl; sooner = before-third };
+}
+discovery (suc (suc (suc (suc j)))) h l = absurd (omega arith)
+
+by-first-words : ByFirstWords M10-table
+unfolding opening computing
+by-first-words = found-by-first-words M10-lawful discovery
+
+-- ---- the call's promise
+
+module _ (before entry : List ℕ) (long : ruleSize ≤ length before) (room : scratchSize ≤ length entry) where
+  passes : FirstFailure (translateChecks automaton before entry) passed
+  passes =
+      first-passes (record { nowhere = λ place s. omega (arith, s .short) })
+      (passed-before (readChecks 1 automaton entry) _ (first-passes (record { nowhere = λ place s. omega (arith, s .short) }) reads)
+      (first-passes (record { nowhere = λ place f. let h : 64 < 3 = matrices 64 .0 (f .more) in omega arith }) none-left))
+
+  some-answer : Translation automaton before entry
+  some-answer = record {
+    answer = Is-translated (length (fileOf M10-table marks));
+    after = fileOf M10-table marks ++ drop (length (fileOf M10-table marks)) before;
+    exit = scratchLeft before entry;
+    promised = record {
+      verdict = passes;
+      answered = record {
+        morphism = M10-table;
+        matrix = M10-matrix;
+        marks = marks;
+        lawful = M10-lawful;
+        elements = three;
+        numbered = by-first-words;
+        marking = marking;
+        accepts = accepts;
+        strong = strong;
+        all-marked = rule-marks-accepted M10-lawful three marking;
+        written =
+            written-rule M10-table marks (record { some = omega arith; small = omega arith; letters-some = omega arith; letters-small = omega arith })
+            M10-lawful (marked-linked M10-lawful three marking) M10-reached refl refl;
+      };
+      scratch = refl;
+    };
+  }
+
+  module _ (after exit : List ℕ) where
+    of-answer : (answer : Translated) → RuleAnswer automaton before after answer → ruleVerdict answer ≡ passed → TranslatedTo 3 2 before after answer
+    of-answer (Is-translated end) made e =
+        record {
+          end = end;
+          answer-is = refl;
+          file = written-file made;
+          stands = record { end-is = made .written .counts; out-is = made .written .holds };
+          checked = checks-to (made .written .passes 1);
+          elements = made .written .reads-back .elements ∙ made-elements made;
+          strong = file-strong made;
+          reduces = file-reduces made;
+        }
+    of-answer (Refused r i place) made e = absurd (let z : _≡_ {A = ℕ} 0 1 = cc in let w : ⊥ = omega arith in w)
+
+    each-answer : (answer : Translated) → RulePromise automaton before after entry exit answer → TranslatedTo 3 2 before after answer
+    unfolding some-answer
+    each-answer answer p = of-answer answer (p .answered) (rule-one-verdict automaton before entry p (some-answer .promised))
+
+-- M10
+pub automaton-reduces : AutomatonReducesTo automaton 3 2
+automaton-reduces = record {
+  matrices = matrices;
+  passes = passes;
+  some-answer = some-answer;
+  each-answer = λ before after entry exit answer long room p. each-answer before entry long room after exit answer p;
+}

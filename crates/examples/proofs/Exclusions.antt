@@ -1,0 +1,131 @@
+-- What the definitions of the rows leave out: for each a case that it excludes. Assumes nothing.
+use Prim.Native.Nat.{ℕ, _≤_, _<_}
+use native.Mathlib.Omega.{arith}
+use mathlib.Core.Path.{_≡_, refl, sym, _∙_}
+use mathlib.Core.Bool.{Bool, not, _||_}
+use mathlib.Core.Logic.{⊎-elim}
+use mathlib.Core.List.{List, [], _∷_, _++_}
+use lib.ListN.{length, drop, replicate, length-replicate}
+use Rattle.finite.proofs.Tests.{T-or-cases, not-T}
+use Rattle.answer.specs.Checks.{passed, numbered}
+use Rattle.theory.specs.Words.{Over, over-cons}
+use Rattle.theory.specs.Pairs.{Classes}
+use Rattle.theory.proofs.Closure.{linked-elim, closure-test, closure-intro}
+use Rattle.theory.proofs.TableTests.{all-pairs-elim, counted-same}
+use Rattle.format.specs.Format.{morphismOf, pairsOf}
+use Rattle.classes.specs.Classes.{ClassCounts}
+use Rattle.reduction.specs.declared.Reduced.the-variants.{Rule as Is-rule}
+use Rattle.reduction.specs.Promise.{ruleSize}
+use Rattle.format.specs.RuleChecks.{scratchSize}
+use Rattle.examples.specs.Files.{W, W-all, one-element, Z, Z₀, not-associative, unreached, automaton}
+use Rattle.examples.specs.Examples.{ChecksTo, RefusesLasso, ConjugateToMark, NotClosed, MarksLinked, ReducesTo, HandsBack, ReducesToBytes, AutomatonReducesTo}
+use Rattle.examples.proofs.Reading.{reading}
+use Rattle.examples.proofs.Examples.{examples}
+
+-- ---- checks
+
+-- the two files that are refused do not pass
+refused-or-passed : {number input place : ℕ} → passed ≡ numbered number input place → ⊥
+refused-or-passed e = let z : _≡_ {A = ℕ} 0 1 = cc in omega arith
+
+pub not-associative-passes : ¬ ChecksTo not-associative passed
+not-associative-passes c = refused-or-passed (examples .m8 .only passed (c .verdict))
+
+pub unreached-passes : ¬ ChecksTo unreached passed
+unreached-passes c = refused-or-passed (examples .m9 .only passed (c .verdict))
+
+-- M9's table associates: 5 is not its refusal
+pub other-number : ¬ ChecksTo unreached (numbered 5 1 1)
+other-number c =
+    let e = examples .m9 .only (numbered 5 1 1) (c .verdict) in
+    let z : _≡_ {A = ℕ} 5 6 = cc in
+    omega arith
+
+-- ---- counts
+
+-- a class for each linked pair of Z
+pub classes-made-up : ¬ ClassCounts (morphismOf Z) 2 2 0
+unfolding Classes
+classes-made-up c =
+    let e : _≡_ {A = ℕ} 2 1 = counted-same (c .class-count) (examples .m5 .1 .class-count) in
+    omega arith
+
+-- ---- lassos and marks
+
+-- a word with a foreign letter is no lasso, accepted or not
+pub foreign-letter : ¬ RefusesLasso W (2 ∷ []) (0 ∷ [])
+unfolding reading
+foreign-letter k = outside (k .lasso .start-over)
+  where
+    outside : ¬ Over 2 (2 ∷ [])
+    outside (over-cons h o) = omega arith
+
+-- the pair (1, 0) of Z is not marked
+pub not-a-mark : ¬ ConjugateToMark Z 0 0 1 0
+unfolding reading
+not-a-mark k = k .is-marked
+
+-- the marks of W are closed under conjugacy
+marked-if-closed : ℕ → ℕ → Bool
+marked-if-closed s e = not (closure-test (morphismOf W) (pairsOf W) s e) || pairsOf W s e
+
+pub closed-marks : ¬ NotClosed W
+unfolding reading marked-if-closed
+closed-marks k =
+    let c = k .to-mark .conjugate in
+    let t = closure-intro {m = morphismOf W} {P = pairsOf W}
+    (record { to-start = k .mark-start; to-cycle = k .mark-cycle; conjugate = c; is-marked = k .to-mark .is-marked }) in
+    ⊎-elim (not-T (closure-test (morphismOf W) (pairsOf W) (k .start) (k .cycle))) (λ f. absurd (k .not-marked f))
+    (T-or-cases (not (closure-test (morphismOf W) (pairsOf W) (k .start) (k .cycle))) (pairsOf W (k .start) (k .cycle))
+    (all-pairs-elim 2 marked-if-closed tt (k .start) (k .cycle) (c .left-linked .inside) (c .left-linked .idempotent .inside))) t
+
+-- W leaves linked pairs without a mark
+pub linked-without-mark : ¬ MarksLinked W
+unfolding reading
+linked-without-mark k = k .marks 1 1 (omega arith) (omega arith) .1 (linked-elim (morphismOf W) 1 1 tt)
+
+-- ---- reductions
+
+-- a file reduces to one number of elements
+one-number : {bytes : List ℕ} {n n′ : ℕ} → ReducesTo bytes n → ReducesTo bytes n′ → n ≡ n′
+one-number a b =
+    let k = a .reduces (a .lawful) in
+    sym (k .elements (k .reduced) (k .reduction)) ∙ b .reduces (a .lawful) .elements (k .reduced) (k .reduction)
+
+-- not the one-element rule for W, and not Z's own elements with letter 0 only
+pub always-one : ¬ ReducesTo W 1
+always-one k = let e : _≡_ {A = ℕ} 1 2 = one-number k (examples .m1 .3) in omega arith
+
+pub copied-table : ¬ ReducesTo Z₀ 2
+copied-table k = let e : _≡_ {A = ℕ} 2 1 = one-number k (examples .m7 .3) in omega arith
+
+-- W with all linked pairs marked, copied to out
+module _ (before entry : List ℕ) (long : ruleSize ≤ length before) (room : scratchSize ≤ length entry) (k : ReducesToBytes W-all W-all) where
+  abbrev after : List ℕ
+  after = W-all ++ drop 16 before
+
+  abbrev exit : List ℕ
+  exit = replicate (length entry) 0
+
+  copy : HandsBack W-all before after entry exit (Is-rule 16)
+  copy = record { end = 16; answer-is = refl; stands = record { end-is = refl; out-is = refl }; scratch-is = refl }
+
+  reduced : HandsBack one-element before after entry exit (Is-rule 16)
+  reduced = examples .m4 .1 .exactly before after entry exit (Is-rule 16) long room .0 (k .exactly before after entry exit (Is-rule 16) long room .1 copy)
+
+  not-copied : ⊥
+  not-copied =
+      let e = reduced .answer-is in
+      let f : 16 ≡ reduced .end = cc in
+      omega (arith, reduced .stands .end-is)
+
+pub copied-file : ¬ ReducesToBytes W-all W-all
+copied-file =
+    not-copied (replicate ruleSize 0) (replicate scratchSize 0) (omega (arith, length-replicate {A = ℕ} ruleSize 0))
+    (omega (arith, length-replicate {A = ℕ} scratchSize 0))
+
+-- ---- automata
+
+-- two matrices only, the number that is left after the reduction
+pub two-matrices : ¬ AutomatonReducesTo automaton 2 2
+two-matrices k = let h : 2 < 2 = k .matrices 2 .0 (examples .m10 .matrices 2 .1 (omega arith)) in omega arith

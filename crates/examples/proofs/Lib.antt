@@ -1,0 +1,11 @@
+pub mod Passing
+pub mod Reading
+pub mod Rules
+pub mod Refusals
+pub mod Reductions
+pub mod OneElement
+pub mod Writing
+pub mod ReadRules
+pub mod Automata
+pub mod Examples
+pub mod Exclusions

@@ -1,0 +1,120 @@
+-- The reduction of a rule that accepts every lasso, as bytes: every reduction of it has one element, with its pair marked, and so
+-- is written as the same file. Assumes nothing.
+use Prim.Native.Nat.{ℕ, zero, suc, _<_}
+use native.Mathlib.Omega.{arith}
+use mathlib.Core.Path.{_≡_, refl, sym, subst, ap}
+use mathlib.Core.List.{List, [], _∷_, _++_}
+use lib.Dec.{ltb}
+use lib.ListN.{length, drop}
+use Rattle.finite.proofs.Tests.{T-true}
+use Rattle.finite.proofs.FirstWords.{Sooner, sooner-parent, sooner-letter}
+use Rattle.finite.proofs.Discovery.{Discovery}
+use Rattle.theory.specs.Words.{Lasso, over-nil, over-cons}
+use Rattle.theory.specs.Rules.{Morphism, Marking, Rule, level, marked, element, join, value, WordOf, AllReached}
+use Rattle.theory.specs.Pairs.{LinkedOnly}
+use Rattle.theory.specs.Smallest.{Reduction, LinkedAccepted}
+use Rattle.theory.proofs.EveryLasso.{AcceptsEvery, one, one-lawful}
+use Rattle.theory.proofs.SmallReductions.{one-marks, every-reduction}
+use Rattle.reach.specs.Reach.{wordStep}
+use Rattle.firstwords.specs.FirstWords.{ByFirstWords}
+use Rattle.firstwords.proofs.Ordered.{entry, found-by-first-words}
+use Rattle.rulewriter.specs.File.{fileOf}
+use Rattle.rulewriter.specs.ReadBack.{WrittenRule}
+use Rattle.rulewriter.proofs.Agree.{Agree}
+use Rattle.rulewriter.proofs.Same.{SameMarks, file-same}
+use Rattle.rulewriter.proofs.ReadBack.{written-rule}
+use Rattle.examples.proofs.Reductions.{reductions-size, same-self}
+
+-- every pair is marked
+abbrev pub all-marked : Marking
+all-marked s e = 1
+
+module _ (r : Rule) (some : 0 < r .morphism .letters) (every : AcceptsEvery (r .morphism) (marked (r .marks))) (reduced : Rule) (red : Reduction r reduced) where
+  abbrev m : Morphism
+  m = reduced .morphism
+
+  one-size : m .size ≡ 1
+  one-size = reductions-size (same-self r) red (every-reduction r some every)
+
+  -- so its table is all zeros
+  product-zero : (a b : ℕ) → a < 1 → b < 1 → m .product a b ≡ 0
+  product-zero a b ha hb = omega (arith, one-size, reduced .lawful .closed a b (omega (arith, one-size)) (omega (arith, one-size)))
+
+  image-zero : (a : ℕ) → a < r .morphism .letters → m .image a ≡ 0
+  image-zero a h = omega (arith, one-size, reduced .lawful .images a (omega (arith, red .same .same-letters)))
+
+  agree : Agree (one (r .morphism .letters)) m
+  agree = record {
+    same-size = one-size;
+    same-letters = sym (red .same .same-letters);
+    same-product = product-zero;
+    same-image = image-zero;
+  }
+
+  word-zero : (s : ℕ) → s < 1 → WordOf m s
+  unfolding value join
+  word-zero s h = record {
+    word = 0 ∷ [];
+    over = over-cons {a = 0} (omega (arith, red .same .same-letters)) over-nil;
+    its-value = ap element (let e : m .image 0 ≡ s = omega (arith, image-zero 0 some) in e);
+  }
+
+  -- its one pair is linked and its lassos are accepted
+  pair-accepted : (s e : ℕ) → s < 1 → e < 1 → LinkedAccepted m (marked (reduced .marks)) s e
+  pair-accepted s e hs he = record {
+    linked = record {
+      inside = omega (arith, one-size);
+      idempotent = record { inside = omega (arith, one-size); square = omega (arith, product-zero e e he he) };
+      stays = omega (arith, product-zero s e hs he);
+    };
+    start = word-zero s hs;
+    cycle = word-zero e he;
+    accepted = λ u v l eu ev.
+        let l′ = subst (λ k. Lasso k u v) (sym (red .same .same-letters)) l in red .same .both-or-neither u v l′ .0 (every .accepted u v l′);
+  }
+
+  same-marks : SameMarks 1 all-marked (reduced .marks)
+  unfolding marked level
+  same-marks = record {
+    same = λ s e hs he.
+        T-true (ltb 0 (reduced .marks s e)) (red .marks .marks s e (omega (arith, one-size)) (omega (arith, one-size)) .1 (pair-accepted s e hs he));
+  }
+
+  -- so it is written as the rule of one element is
+  pub one-file : fileOf m (reduced .marks) ≡ fileOf (one (r .morphism .letters)) all-marked
+  one-file = file-same agree same-marks
+
+-- nothing is found sooner than from the first entry by the first letter
+pub sooner-none : {q y : ℕ} → Sooner q y 0 0 → ⊥
+sooner-none (sooner-parent h) = omega arith
+sooner-none (sooner-letter e h) = omega arith
+
+-- the rule of one element as a file
+module _ (k : ℕ) (some : 0 < k) (few : k < 17) where
+  one-reached : AllReached (one k)
+  unfolding marked level
+  one-reached = record { word-of = λ s h. one-marks k some .marks s s h h .0 tt .start }
+
+  one-linked : LinkedOnly (one k) (marked all-marked)
+  one-linked = record { linked = λ s e hs he t. one-marks k some .marks s e hs he .0 t .linked }
+
+  pub one-written : {before after : List ℕ} {r : ℕ} → r ≡ length (fileOf (one k) all-marked)
+      → after ≡ fileOf (one k) all-marked ++ drop (length (fileOf (one k) all-marked)) before → WrittenRule (one k) all-marked before after r
+  one-written =
+      written-rule (one k) all-marked
+      (record { some = omega arith; small = omega arith; letters-some = omega arith; letters-small = omega arith })
+      (one-lawful k) one-linked one-reached
+
+  -- it is numbered by first words
+  unfoldable only-zero : (j : ℕ) → 0 < j → j < 2 → Discovery (wordStep (one k)) k entry j
+  unfolding entry wordStep join
+  only-zero zero h l = absurd (omega arith)
+  only-zero (suc zero) h l = record {
+    parent = 0;
+    letter = 0;
+    found = record { parent-lt = omega arith; letter-lt = some; step = refl; sooner = λ q y s b. absurd (sooner-none s) };
+  }
+  only-zero (suc (suc j)) h l = absurd (omega arith)
+
+  pub one-by-first-words : ByFirstWords (one k)
+  one-by-first-words = found-by-first-words (one-lawful k) only-zero

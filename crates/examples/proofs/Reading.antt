@@ -1,0 +1,13 @@
+-- One name that opens what the bytes of a rule file mean, and the tests of its rule, so that a test of a given file can be
+-- computed. Assumes nothing.
+use mathlib.Core.Bool.{Bool, true}
+use Rattle.theory.proofs.Computing.{computing}
+use Rattle.table.specs.Table.{productAt, imageAt}
+use Rattle.sections.specs.Sections.{twoBytes}
+use Rattle.format.specs.Format.{lettersAt, lettersOf, marksAt, marksOf, ruleEnd, markStart, markCycle, isMark, marksIn}
+use Rattle.examples.proofs.Passing.{section-test, layout-test, same-marks, mark-test, rule-test}
+
+-- opens all of these
+unfoldable pub reading : Bool
+unfolding computing productAt imageAt twoBytes lettersAt lettersOf marksAt marksOf ruleEnd markStart markCycle isMark marksIn section-test layout-test same-marks mark-test rule-test
+reading = true

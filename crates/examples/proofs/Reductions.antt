@@ -1,0 +1,83 @@
+-- How many elements a reduction has: two reductions of rules with the same lassos have as many, so every reduction of a strong
+-- rule has as many as the model computes. Assumes nothing.
+use Prim.Native.Nat.{ℕ}
+use native.Mathlib.Omega.{arith}
+use mathlib.Core.Path.{_≡_, refl, sym, _∙_, subst}
+use mathlib.Core.Bool.{Bool, true}
+use mathlib.Core.List.{List}
+use Rattle.theory.specs.Words.{Lasso}
+use Rattle.theory.specs.Rules.{Rule, marked, AllReached}
+use Rattle.theory.specs.Acceptance.{RuleStrong}
+use Rattle.theory.specs.Pairs.{LinkedOnly}
+use Rattle.theory.specs.Smallest.{SameLassos, Reduction}
+use Rattle.minimality.proofs.Listed.{passing}
+use Rattle.minimality.proofs.Blocks.{tabFrom, leastOf, sameTest, productsTest, keptTest, firstBlocks, nextBlocks}
+use Rattle.minimality.proofs.Settle.{unchanged, settleFrom, settle}
+use Rattle.minimality.proofs.ReduceModel.{heads, headsOf, finalBlocks, reduced-size, reduce-model-right}
+use Rattle.rulefile.specs.GoodRule.{GoodRule}
+use Rattle.reduction.specs.Promise.{ruleOf}
+use Rattle.format.specs.Format.{morphismOf, pairsOf}
+use Rattle.examples.specs.Files.{W, Z₀}
+use Rattle.examples.specs.Examples.{FileStrong, RuleReducesTo, ReducesTo}
+use Rattle.examples.proofs.Reading.{reading}
+use Rattle.examples.proofs.Rules.{W-good, Z₀-good, W-strong, Z₀-strong}
+
+-- opens the model of the reduction, and all that is read of a file
+unfoldable pub reducing : Bool
+unfolding reading reduced-size finalBlocks headsOf heads settle settleFrom unchanged firstBlocks nextBlocks leastOf tabFrom sameTest productsTest keptTest passing
+reducing = true
+
+-- ---- rules with the same lassos
+
+same-back : {r r′ : Rule} → SameLassos r r′ → SameLassos r′ r
+same-back s = record {
+  same-letters = sym (s .same-letters);
+  both-or-neither = λ u v l.
+      let k = s .both-or-neither u v (subst (λ n. Lasso n u v) (sym (s .same-letters)) l) in (k .1, k .0);
+}
+
+same-on : {r r′ r″ : Rule} → SameLassos r r′ → SameLassos r′ r″ → SameLassos r r″
+same-on s t = record {
+  same-letters = s .same-letters ∙ t .same-letters;
+  both-or-neither = λ u v l.
+      let k = s .both-or-neither u v l in
+      let k′ = t .both-or-neither u v (subst (λ n. Lasso n u v) (s .same-letters) l) in
+      (λ a. k′ .0 (k .0 a), λ a. k .1 (k′ .1 a));
+}
+
+-- their reductions have as many elements: each is a rival of the other
+pub reductions-size : {r r′ x y : Rule} → SameLassos r r′ → Reduction r x → Reduction r′ y → x .morphism .size ≡ y .morphism .size
+reductions-size {x = x} {y = y} s p q =
+    let xy = same-on (same-back (p .same)) (same-on s (q .same)) in
+    omega (arith, p .smallest .at-least y (q .smallest .strong) xy, q .smallest .at-least x (p .smallest .strong) (same-back xy))
+
+pub same-self : (r : Rule) → SameLassos r r
+same-self r = record { same-letters = refl; both-or-neither = λ u v l. (λ a. a, λ a. a) }
+
+-- ---- the model's number is that of every reduction
+
+module _ (r : Rule) (reached : AllReached (r .morphism)) (linked : LinkedOnly (r .morphism) (marked (r .marks))) (strong : RuleStrong r) where
+  pub reduces-as : {r′ y : Rule} {n : ℕ} → SameLassos r r′ → Reduction r′ y → y .morphism .size ≡ n → RuleReducesTo r n
+  reduces-as s q e =
+      let k = reduce-model-right r reached linked strong in
+      record { reduced = k .reduced; reduction = k .reduction; elements = λ other p. reductions-size s p q ∙ e }
+
+  pub reduces-by-model : {n : ℕ} → reduced-size (r .morphism) (marked (r .marks)) ≡ n → RuleReducesTo r n
+  reduces-by-model e =
+      let k = reduce-model-right r reached linked strong in
+      reduces-as (same-self r) (k .reduction) (k .size-is ∙ e)
+
+-- the same for a file that passes every check
+file-reduces : {bytes : List ℕ} {n : ℕ} → GoodRule bytes → FileStrong bytes → reduced-size (morphismOf bytes) (pairsOf bytes) ≡ n → ReducesTo bytes n
+file-reduces {bytes} good strong e = record {
+  lawful = good .lawful;
+  reduces = λ law. reduces-by-model (ruleOf bytes law) (good .reached) (good .linked) strong e;
+}
+
+pub W-reduces : ReducesTo W 2
+unfolding reducing
+W-reduces = file-reduces W-good W-strong refl
+
+pub Z₀-reduces : ReducesTo Z₀ 1
+unfolding reducing
+Z₀-reduces = file-reduces Z₀-good Z₀-strong refl

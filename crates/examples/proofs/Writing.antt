@@ -1,0 +1,111 @@
+-- The promise of the reduction for W with all of its linked pairs marked: it allows one answer, and this one. Assumes nothing.
+use Prim.Native.Nat.{ℕ, _≤_}
+use native.Mathlib.Omega.{arith}
+use mathlib.Core.Path.{_≡_, refl, sym, subst, _∙_}
+use mathlib.Core.List.{List}
+use borrow.Author.Tests.{le-ltb}
+use lib.ListN.{length, replicate}
+use Rattle.finite.proofs.Select.{select, selectFrom}
+use Rattle.answer.specs.Checks.{passed, FirstFailure}
+use Rattle.answer.proofs.Order.{AllSingle, single-nil, single-cons, single-append, one-verdict, first-passes, none-left, passed-before}
+use Rattle.theory.specs.Rules.{Rule, Lawful}
+use Rattle.theory.specs.Smallest.{Reduction}
+use Rattle.theory.proofs.EveryLasso.{AcceptsEvery, every-test, every-elim, one, one-rule}
+use Rattle.theory.proofs.SmallReductions.{every-reduction}
+use Rattle.format.specs.Format.{morphismOf, pairsOf}
+use Rattle.format.specs.RuleChecks.{ShortAt, scratchSize}
+use Rattle.rulefile.specs.Answers.{checkedChecks, afterCall}
+use Rattle.rulefile.proofs.OneVerdict.{checked-single}
+use Rattle.rulewriter.specs.File.{tabulate, elementsBytes, lettersBytes, isMarked, markNumbers, pairBytes, marksBytes, fileOf}
+use Rattle.strength.specs.Weak.{WeakAt}
+use Rattle.reduction.specs.declared.Reduced.{Reduced}
+use Rattle.reduction.specs.declared.Reduced.the-variants.{Rule as Is-rule, Refused}
+use Rattle.reduction.specs.Promise.{ruleSize, ruleOf, reduceChecks, reducedVerdict, ReducedTo, ReducedAnswer, scratchAfter, ReducePromise}
+use Rattle.examples.specs.Files.{W-all, one-element}
+use Rattle.examples.specs.Examples.{StandsIn, HandsBack, ReducesToBytes}
+use Rattle.examples.proofs.Reading.{reading}
+use Rattle.examples.proofs.Rules.{W-all-passes, W-all-good, W-all-strong}
+use Rattle.examples.proofs.OneElement.{all-marked, one-file, one-written, one-by-first-words}
+
+-- every lasso is accepted
+every : AcceptsEvery (morphismOf W-all) (pairsOf W-all)
+unfolding reading every-test
+every = every-elim (record { lawful = W-all-good .lawful; reached = W-all-good .reached; linked = W-all-good .linked }) W-all-strong tt
+
+-- the rule of one element over two letters is written as the document's bytes
+one-bytes : fileOf (one 2) all-marked ≡ one-element
+unfolding fileOf elementsBytes lettersBytes marksBytes markNumbers isMarked pairBytes tabulate select selectFrom
+one-bytes = refl
+
+reduced-bytes : (law : Lawful (morphismOf W-all)) (reduced : Rule) → Reduction (ruleOf W-all law) reduced → fileOf (reduced .morphism) (reduced .marks) ≡ one-element
+unfolding reading
+reduced-bytes law reduced red = one-file (ruleOf W-all law) (omega arith) every reduced red ∙ one-bytes
+
+-- ---- the checks
+
+short-place : {needed : ℕ} {buffer : List ℕ} (p q : ℕ) → ShortAt needed buffer p → ShortAt needed buffer q → p ≡ q
+short-place p q a b = a .is-place ∙ sym (b .is-place)
+
+weak-place : {bytes : List ℕ} (p q : ℕ) → WeakAt bytes p → WeakAt bytes q → p ≡ q
+weak-place p q a b = a .is-place ∙ sym (b .is-place)
+
+reduce-single : (bytes out scratch : List ℕ) → AllSingle (reduceChecks bytes out scratch)
+reduce-single bytes out scratch =
+    single-cons (record { one-place = short-place })
+    (single-append (checked-single 1 bytes scratch) (single-cons (record { one-place = weak-place }) single-nil))
+
+module _ (before after entry exit : List ℕ) (long : ruleSize ≤ length before) (room : scratchSize ≤ length entry) where
+  all-pass : FirstFailure (reduceChecks W-all before entry) passed
+  all-pass =
+      first-passes (record { nowhere = λ place s. omega (arith, s .short) })
+      (passed-before (checkedChecks 1 W-all entry) _ (first-passes (record { nowhere = λ place s. omega (arith, s .short) }) W-all-passes)
+      (first-passes (record { nowhere = λ place f. f .weak W-all-strong }) none-left))
+
+  zeros : scratchAfter before entry ≡ replicate (length entry) 0
+  unfolding afterCall
+  zeros = simp (le-ltb (length before) ruleSize long, le-ltb (length entry) scratchSize room)
+
+  -- ---- what the promise allows
+
+  allowed : (answer : Reduced) → ReducedAnswer W-all before after answer → reducedVerdict answer ≡ passed → exit ≡ scratchAfter before entry
+      → HandsBack one-element before after entry exit answer
+  allowed (Is-rule end) to e z =
+      let b = reduced-bytes (to .lawful) (to .reduced) (to .reduction) in
+      record {
+        end = end;
+        answer-is = refl;
+        stands = subst (λ (file : List ℕ). StandsIn file before after end) b (record { end-is = to .written .counts; out-is = to .written .holds });
+        scratch-is = z ∙ zeros;
+      }
+  allowed (Refused r i place) to e z = absurd (let z : _≡_ {A = ℕ} 0 1 = cc in let w : ⊥ = omega arith in w)
+
+  -- ---- and that it allows this
+
+  written : {end : ℕ} → StandsIn (fileOf (one 2) all-marked) before after end → ReducedTo W-all before after end
+  unfolding reading
+  written k = record {
+    lawful = W-all-good .lawful;
+    reduced = one-rule 2;
+    reduction = every-reduction (ruleOf W-all (W-all-good .lawful)) (omega arith) every;
+    numbered = one-by-first-words 2 (omega arith) (omega arith);
+    written = one-written 2 (omega arith) (omega arith) (k .end-is) (k .out-is);
+  }
+
+  promised : {answer : Reduced} → HandsBack one-element before after entry exit answer → ReducePromise W-all before after entry exit answer
+  promised k =
+      subst (ReducePromise W-all before after entry exit) (sym (k .answer-is))
+      (record {
+        verdict = all-pass;
+        answered = written (subst (λ (file : List ℕ). StandsIn file before after (k .end)) (sym one-bytes) (k .stands));
+        scratch = k .scratch-is ∙ sym zeros;
+      })
+
+-- M4
+pub W-all-bytes : ReducesToBytes W-all one-element
+W-all-bytes = record {
+  exactly = λ before after entry exit answer long room. (
+    λ p. allowed before after entry exit long room answer (p .answered)
+        (one-verdict (reduce-single W-all before entry) (p .verdict) (all-pass before after entry exit long room)) (p .scratch),
+    promised before after entry exit long room,
+  );
+}

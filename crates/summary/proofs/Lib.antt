@@ -1,0 +1,3 @@
+pub mod Passing
+pub mod Summing
+pub mod OneAnswer

@@ -1,0 +1,86 @@
+-- Two answers of the call for the same rule and buffers are one, and leave work and scratch alike. Assumes nothing.
+use Prim.Native.Nat.{ℕ, _≤_}
+use native.Mathlib.Omega.{arith}
+use mathlib.Core.Path.{_≡_, refl, sym, ap, _∙_, subst}
+use mathlib.Core.Bool.{Bool, true, false}
+use mathlib.Core.List.{List}
+use Rattle.answer.specs.Refusals.{numberOf}
+use Rattle.answer.proofs.Numbers.{same-number}
+use Rattle.answer.proofs.Order.{AllSingle, one-verdict}
+use Rattle.theory.specs.Words.{Lasso}
+use Rattle.theory.specs.Rules.{Rule, Lawful}
+use Rattle.theory.specs.Pairs.{LinkedPairs, Classes}
+use Rattle.theory.specs.Smallest.{SameLassos, Reduction}
+use Rattle.theory.proofs.TableTests.{counted-same}
+use Rattle.format.specs.Format.{morphismOf}
+use Rattle.rulefile.proofs.OneVerdict.{checked-single}
+use Rattle.reduction.specs.Promise.{ruleSize, ruleOf}
+use Rattle.summary.specs.declared.Summary.{Summary}
+use Rattle.summary.specs.declared.Summary.the-variants.{Counts, Refused}
+use Rattle.summary.specs.Promise.{summaryChecks, summaryVerdict, StrongReduced, ReducesTo, SummaryCounts, SummaryAnswer, workAfter, SummaryPromise}
+use Rattle.summary.proofs.Passing.{buffer-single}
+
+summary-single : (bytes work scratch : List ℕ) → AllSingle (summaryChecks bytes work scratch)
+summary-single bytes work scratch = buffer-single ruleSize work (checked-single 1 bytes scratch)
+
+-- two reductions of a file's rule have the same lassos, whatever shows its table lawful
+same-reductions : (bytes : List ℕ) {l l′ : Lawful (morphismOf bytes)} {a b : Rule} → Reduction (ruleOf bytes l) a → Reduction (ruleOf bytes l′) b → SameLassos a b
+same-reductions bytes p q = record {
+  same-letters = sym (p .same .same-letters) ∙ q .same .same-letters;
+  both-or-neither = λ u v h.
+      let here = subst (λ (k : ℕ). Lasso k u v) (sym (p .same .same-letters)) h in
+      let to-a = p .same .both-or-neither u v here in
+      let to-b = q .same .both-or-neither u v here in
+      (λ x. to-b .0 (to-a .1 x), λ x. to-a .0 (to-b .1 x));
+}
+
+-- each is the smallest, so they have as many elements
+size-below : {bytes : List ℕ} {n n′ : ℕ} → StrongReduced bytes n → StrongReduced bytes n′ → n ≤ n′
+size-below {bytes} p q =
+    let h = p .reduction .smallest .at-least (q .rule) (q .reduction .smallest .strong) (same-reductions bytes (p .reduction) (q .reduction)) in
+    omega (arith, h, p .size, q .size)
+
+-- strength and the reduced size are the rule's
+pub record SameSize (strong strong′ : Bool) (reduced reduced′ : ℕ) : Type 0 where
+  pub strength : strong ≡ strong′
+  pub size : reduced ≡ reduced′
+
+reduces-same : (bytes : List ℕ) (strong strong′ : Bool) {reduced reduced′ : ℕ} → ReducesTo bytes strong reduced → ReducesTo bytes strong′ reduced′ → SameSize strong strong′ reduced reduced′
+reduces-same bytes true true p q = record { strength = refl; size = omega (arith, size-below p q, size-below q p) }
+reduces-same bytes true false p q = absurd (q .0 (p .strong))
+reduces-same bytes false true p q = absurd (p .0 (q .strong))
+reduces-same bytes false false p q = record { strength = refl; size = p .1 ∙ sym (q .1) }
+
+-- all counts are the rule's
+counts-same : {bytes : List ℕ} {elements letters marks linked classes reduced elements′ letters′ marks′ linked′ classes′ reduced′ : ℕ} {strong strong′ : Bool}
+    → SummaryCounts bytes elements letters marks linked classes strong reduced → SummaryCounts bytes elements′ letters′ marks′ linked′ classes′ strong′ reduced′
+    → Counts elements letters marks linked classes strong reduced ≡ Counts elements′ letters′ marks′ linked′ classes′ strong′ reduced′
+unfolding LinkedPairs Classes
+counts-same {bytes = bytes} {linked = linked} {classes = classes} {linked′ = linked′} {classes′ = classes′} {strong = strong} {strong′ = strong′} p q =
+    let s = p .counts in
+    let t = q .counts in
+    let el : linked ≡ linked′ = counted-same (p .class-counts .linked-pairs) (q .class-counts .linked-pairs) in
+    let ec : classes ≡ classes′ = counted-same (p .class-counts .class-count) (q .class-counts .class-count) in
+    let r = reduces-same bytes strong strong′ (p .reduces) (q .reduces) in
+    cc (s .elements-are, s .letters-are, s .marks-are, t .elements-are, t .letters-are, t .marks-are, el, ec, r .strength, r .size)
+
+module _ {bytes before after after′ entry exit exit′ : List ℕ} where
+  pub one-answer : (answer answer′ : Summary) → SummaryPromise bytes before after entry exit answer → SummaryPromise bytes before after′ entry exit′ answer′ → answer ≡ answer′
+  one-answer answer answer′ p q = same answer answer′ (p .answered) (q .answered) (one-verdict (summary-single bytes before entry) (p .verdict) (q .verdict))
+    where
+      same : (a b : Summary) → SummaryAnswer bytes a → SummaryAnswer bytes b → summaryVerdict a ≡ summaryVerdict b → a ≡ b
+      same (Counts n k c l d s r) (Counts n′ k′ c′ l′ d′ s′ r′) p q e = counts-same p q
+      same (Counts n k c l d s r) (Refused refusal input place) p q e = absurd (let z : _≡_ {A = ℕ} 0 1 = cc in let w : ⊥ = omega arith in w)
+      same (Refused refusal input place) (Counts n k c l d s r) p q e = absurd (let z : _≡_ {A = ℕ} 0 1 = cc in let w : ⊥ = omega arith in w)
+      same (Refused r i place) (Refused r′ i′ place′) p q e =
+          let number : numberOf r ≡ numberOf r′ = cc in
+          let kind = same-number r r′ number in
+          let there : i ≡ i′ = cc in
+          let here : place ≡ place′ = cc in
+          cc (kind, there, here)
+
+  pub one-work : (answer answer′ : Summary) → SummaryPromise bytes before after entry exit answer → SummaryPromise bytes before after′ entry exit′ answer′ → after ≡ after′
+  one-work answer answer′ p q = p .work ∙ ap (workAfter before) (one-answer answer answer′ p q) ∙ sym (q .work)
+
+  pub one-scratch : {answer answer′ : Summary} → SummaryPromise bytes before after entry exit answer → SummaryPromise bytes before after′ entry exit′ answer′ → exit ≡ exit′
+  one-scratch p q = p .scratch ∙ sym (q .scratch)

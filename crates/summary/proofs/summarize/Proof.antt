@@ -1,0 +1,64 @@
+-- `summary::summarize` meets its contract: a short buffer is refused first, then the inspection's refusal is handed on; a rule that
+-- passes is measured. Assumes nothing.
+use borrow.Author.Needs.{needs}
+use Rattle.summary.proofs.Summing.{work-short, summary-refused, measure-place, inspected-counts, summary-measured}
+use Rattle.summary.proofs.summarize.Statement.{statement}
+use Rattle.summary.proofs.summarize.Tie as tie
+
+returns : tie.Need-returns
+returns c = work-short _ _ _ (c .if1 .taken)
+
+inspect-requires : tie.Need-inspect-requires
+inspect-requires c κs = search needs
+
+enum-known-elements : tie.Need-enum-known-elements
+enum-known-elements c = search needs
+
+measure-requires : tie.Need-measure-requires
+measure-requires c κs =
+    let at-elements = c .before .before .before in
+    let at-inspect = at-elements .before .before .before .before in
+    let said = at-elements .elements .given .1 in (
+      measure-place _ _ _ (at-inspect .before .before .if1 .left) (at-inspect .inspect .result) (at-inspect .inspect .ensures) said,
+      inspected-counts (at-inspect .inspect .result) (at-inspect .inspect .ensures) said,
+    )
+
+enum-known-refusal : tie.Need-enum-known-refusal
+enum-known-refusal c = search needs
+
+same-length : tie.Need-same-length
+same-length c = search needs
+
+same-length-2 : tie.Need-same-length-2
+same-length-2 c = search needs
+
+returns-2 : tie.Need-returns-2
+returns-2 c =
+    let at-measure = c .before .before .before .before in
+    let at-elements = at-measure .before .before .before .before in
+    let at-inspect = at-elements .before .before .before .before in
+    summary-measured _ _ _ (at-inspect .before .before .if1 .left) (at-inspect .inspect .result) (at-inspect .inspect .ensures) (at-elements .elements .given .1)
+    (at-measure .measure .result) (at-measure .measure .ensures)
+
+same-length-3 : tie.Need-same-length-3
+same-length-3 c = search needs
+
+returns-3 : tie.Need-returns-3
+returns-3 c =
+    let at-inspect = c .before .before .before .before .before in
+    summary-refused _ _ _ (at-inspect .before .before .if1 .left) (at-inspect .inspect .result) (at-inspect .inspect .ensures) (c .before .refusal .given .1)
+
+pub summarize-spec : {M : Type 1} → statement M
+summarize-spec =
+    tie.close
+    (tie.spec
+    returns
+    inspect-requires
+    enum-known-elements
+    measure-requires
+    enum-known-refusal
+    same-length
+    same-length-2
+    returns-2
+    same-length-3
+    returns-3)
