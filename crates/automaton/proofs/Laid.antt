@@ -3,10 +3,10 @@ use Prim.Native.Nat.{ℕ, _+_, _*_, _<_}
 use mathlib.Core.Path.{sym, subst}
 use mathlib.Core.List.{List}
 use native.Mathlib.Omega.{arith}
-use Rattle.automaton.specs.Laying.{KeptBelow, RowFilled, RowsFilled, LetterList, ProductNumber, LetterNumber, MarkPlace, MarkByte, laidRule, RuleLaid}
-use Rattle.automaton.proofs.Filling.{kept-less, kept-trans}
-use Rattle.automaton.proofs.Staying.{letters-stay, product-number-stays, letter-number-stays}
-use Rattle.automaton.proofs.Marks.{product-place, mark-stays}
+use Rattle.matrixtable.specs.Laying.{KeptBelow, RowFilled, RowsFilled, LetterList, ProductNumber, LetterNumber, MarkPlace, MarkByte, laidRule, RuleLaid}
+use Rattle.matrixtable.proofs.Filling.{kept-less, kept-trans}
+use Rattle.matrixtable.proofs.Staying.{letters-stay, product-number-stays, letter-number-stays}
+use Rattle.matrixtable.proofs.Marks.{product-place, mark-stays}
 
 module _ {kinds : List ℕ} {n k count : ℕ} {entry one : List ℕ} (l : LetterList kinds n k entry count)
     (a : RowsFilled (ProductNumber n count entry) 16384 count count count entry one) where

@@ -1,9 +1,3 @@
-pub mod Filling
-pub mod Staying
-pub mod Numbers
-pub mod Tests
-pub mod Marks
-pub mod Rows
 pub mod Writing
 pub mod Laid
 pub mod Reading

@@ -19,12 +19,12 @@ use Rattle.matrices.specs.Bytes.{letterEntry}
 use Rattle.matrices.proofs.Letters.{stands-letter}
 use Rattle.matrixlist.specs.Lists.{matrixAt, ListPlace, StandsHere, Kept, AllListed}
 use Rattle.matrixlist.proofs.Growing.{among-same, here-kept, place-kept}
-use Rattle.automaton.specs.Laying.{laidRule, laidMarks, initialStates, ProductList, LetterList, ProductNumber, LetterNumber, RuleLaid}
+use Rattle.matrixtable.specs.Laying.{laidRule, laidMarks, initialStates, ProductList, LetterList, ProductNumber, LetterNumber, RuleLaid}
 use Rattle.firstwords.specs.FirstWords.{ByFirstWords}
-use Rattle.automaton.proofs.Filling.{kept-sym}
+use Rattle.matrixtable.proofs.Filling.{kept-sym}
 use Rattle.automaton.proofs.Order.{table-by-first-words}
-use Rattle.automaton.proofs.Staying.{matrix-stays, product-number-stays, letter-number-stays}
-use Rattle.automaton.proofs.Marks.{recurs-same}
+use Rattle.matrixtable.proofs.Staying.{matrix-stays, product-number-stays, letter-number-stays}
+use Rattle.matrixtable.proofs.Marks.{recurs-same}
 
 -- ---- the list of an automaton's matrices
 

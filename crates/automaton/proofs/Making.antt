@@ -12,7 +12,7 @@ use Rattle.matrixlist.specs.declared.MatrixCount.{MatrixCount}
 use Rattle.matrixlist.specs.declared.MatrixCount.the-variants.{Listed, TooMany}
 use Rattle.rulewriter.proofs.ReadBack.{written-rule}
 use Rattle.automaton.specs.Meaning.{automatonOf, richCheck}
-use Rattle.automaton.specs.Laying.{laidRule, laidMarks, ProductList, LetterList, RuleLaid, WritePlace, LaidWritten}
+use Rattle.matrixtable.specs.Laying.{laidRule, laidMarks, ProductList, LetterList, RuleLaid, WritePlace, LaidWritten}
 use Rattle.automaton.specs.Promise.{ReadHere, MadePromise}
 use Rattle.automaton.specs.declared.Translated.the-variants.{Rule, Refused}
 use Rattle.automaton.proofs.Reading.{read-stands, read-place, read-letters}

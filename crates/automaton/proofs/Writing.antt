@@ -12,8 +12,8 @@ use Rattle.rulewriter.specs.Writing.{tableMorphism, tableMarks, RulePlace, Rule
 use Rattle.rulewriter.proofs.Agree.{Agree}
 use Rattle.rulewriter.proofs.Same.{SameMarks, file-same}
 use Rattle.scratch.proofs.Parts.{part-length, part-byte}
-use Rattle.automaton.specs.Laying.{laidRule, laidMarks, WritePlace, LaidWritten}
-use Rattle.automaton.proofs.Marks.{product-place}
+use Rattle.matrixtable.specs.Laying.{laidRule, laidMarks, WritePlace, LaidWritten}
+use Rattle.matrixtable.proofs.Marks.{product-place}
 
 -- the rest of scratch from a byte on
 abbrev rest : List ℕ → ℕ → List ℕ

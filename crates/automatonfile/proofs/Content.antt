@@ -10,14 +10,16 @@ use Rattle.answer.specs.Checks.{Verdict, refused, FirstFailure}
 use Rattle.answer.proofs.Order.{first-passes, first-fails}
 use Rattle.finite.proofs.Numbers.{le-or-lt}
 use Rattle.format.specs.RuleChecks.{trailingCheck}
-use Rattle.rulefile.specs.declared.Fault.{Fault}
-use Rattle.rulefile.specs.declared.Fault.the-variants.{Nothing, Refused}
-use Rattle.rulefile.specs.Answers.{FaultAnswer, Blank}
+use Rattle.markchecks.specs.declared.Fault.{Fault}
+use Rattle.markchecks.specs.declared.Fault.the-variants.{Nothing, Refused}
+use Rattle.markchecks.specs.Faults.{FaultAnswer}
+use Rattle.rulefile.specs.Answers.{Blank}
 use Rattle.automatonformat.specs.Format.{lettersAt, transitionsAt, transitionsOf, automatonEnd}
 use Rattle.automatonformat.specs.AutomatonChecks.{repeatedChecks, contentChecks}
 use Rattle.automatonformat.specs.GoodAutomaton.{GoodSections}
-use Rattle.automatonfile.specs.declared.Counts.{Counts}
-use Rattle.automatonfile.specs.Answers.{LayoutPassed, TransitionsPlace, BlankRoom}
+use Rattle.automatonsections.specs.declared.Counts.{Counts}
+use Rattle.automatonsections.specs.Sections.{LayoutPassed}
+use Rattle.automatonfile.specs.Answers.{TransitionsPlace, BlankRoom}
 use Rattle.automatonfile.proofs.Passed.{good-sections}
 
 -- zeros are 0 wherever they are read

@@ -1,6 +1,3 @@
-pub mod TripleBytes
-pub mod Sectioned
-pub mod Rows
 pub mod Passed
 pub mod RepeatedOrder
 pub mod Laid

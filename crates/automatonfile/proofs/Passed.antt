@@ -12,8 +12,8 @@ use Rattle.sections.proofs.Laws.{SectionGood, passed-good}
 use Rattle.automatonformat.specs.Format.{statesOf, kindAt, lettersAt, lettersOf, transitionsAt, transitionsOf, transitionAt, fromOf, letterOf, toOf, automatonEnd, statesSection, lettersSection, tripleBound, transitionsSection}
 use Rattle.automatonformat.specs.AutomatonChecks.{layoutChecks}
 use Rattle.automatonformat.specs.GoodAutomaton.{GoodSections}
-use Rattle.automatonfile.proofs.TripleBytes.{bound-from, bound-letter, bound-to}
-use Rattle.automatonfile.proofs.Rows.{lettersRest, transitionsRest, letters-counted, transitions-counted}
+use Rattle.automatonsections.proofs.TripleBytes.{bound-from, bound-letter, bound-to}
+use Rattle.automatonsections.proofs.Rows.{lettersRest, transitionsRest, letters-counted, transitions-counted}
 
 module _ (input : ℕ) (bytes : List ℕ) (all : FirstFailure (layoutChecks input bytes) passed) where
   states-good : SectionGood statesSection bytes

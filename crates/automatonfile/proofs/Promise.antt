@@ -10,17 +10,18 @@ use Rattle.answer.specs.declared.Refusal.the-variants.{BufferTooShort}
 use Rattle.answer.specs.Checks.{Verdict, passed, refused, FirstFailure}
 use Rattle.answer.proofs.Order.{first-passes, first-fails, refused-before, passed-before}
 use Rattle.format.specs.RuleChecks.{bufferCheck, scratchSize}
-use Rattle.rulefile.specs.declared.Fault.{Fault}
-use Rattle.rulefile.specs.declared.Fault.the-variants.{Nothing, Refused as Fault-refused}
+use Rattle.markchecks.specs.declared.Fault.{Fault}
+use Rattle.markchecks.specs.declared.Fault.the-variants.{Nothing, Refused as Fault-refused}
 use Rattle.rulefile.specs.Answers.{afterCall}
 use Rattle.rulefile.proofs.Promise.{zeros-after}
 use Rattle.automatonformat.specs.Format.{statesOf, lettersOf, hasTransition}
 use Rattle.automatonformat.specs.AutomatonChecks.{layoutChecks, contentChecks, automatonChecks, readChecks}
-use Rattle.automatonfile.specs.declared.Counts.{Counts}
-use Rattle.automatonfile.specs.declared.Layout.{Layout}
-use Rattle.automatonfile.specs.declared.Layout.the-variants.{Read, Refused as Layout-refused}
+use Rattle.automatonsections.specs.declared.Counts.{Counts}
+use Rattle.automatonsections.specs.declared.Layout.{Layout}
+use Rattle.automatonsections.specs.declared.Layout.the-variants.{Read, Refused as Layout-refused}
 use Rattle.automatonfile.specs.declared.AutomatonRead.the-variants.{Automaton, Refused}
-use Rattle.automatonfile.specs.Answers.{LayoutAnswer, LayoutPassed, LaidAnswer, TransitionsLaid, ReadPromise}
+use Rattle.automatonsections.specs.Sections.{LayoutAnswer, LayoutPassed}
+use Rattle.automatonfile.specs.Answers.{LaidAnswer, TransitionsLaid, ReadPromise}
 
 -- a short scratch is left as it came
 pub short-scratch : (input : ℕ) (bytes scratch : List ℕ) → length scratch < scratchSize → ReadPromise input bytes scratch scratch (Refused BufferTooShort 1 0)

@@ -9,10 +9,10 @@ use native.Mathlib.Nat.{mod-lt, div-add-mod', div-lt-iff-lt-mul, le-antisymm}
 use Rattle.theory.specs.Rules.{Morphism}
 use Rattle.theory.specs.Pairs.{Linked, LeastConjugate, pair-number, Counted, counted-none, counted-one, counted-other, LinkedPairs, Classes}
 use Rattle.sections.specs.Sections.{twoBytes}
-use Rattle.classes.specs.Classes.{noClass, ClassNumber, least-conjugate, not-linked, ClassesWritten, ClassCounts, classPlace}
-use Rattle.classes.specs.Cells.{Loaded, CellCounts}
-use Rattle.classes.proofs.Bytes.{pair-same}
-use Rattle.classes.proofs.Factors.{pair-below}
+use Rattle.classnumbers.specs.Classes.{noClass, ClassNumber, least-conjugate, not-linked, ClassesWritten, ClassCounts, classPlace}
+use Rattle.classnumbers.specs.Cells.{Loaded, CellCounts}
+use Rattle.classnumbers.proofs.Bytes.{pair-same}
+use Rattle.classnumbers.proofs.Factors.{pair-below}
 
 -- no number was looked at
 pub counts-none : (bytes : List ℕ) → CellCounts bytes 0 0 0

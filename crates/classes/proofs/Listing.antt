@@ -19,8 +19,8 @@ use Rattle.rulefile.specs.declared.Checked.the-variants.{Rule, Refused as Check
 use Rattle.rulefile.specs.Answers.{CheckPromise, checkedChecks, afterCall}
 use Rattle.rulefile.proofs.Calls.{called-good, zeros-left, checked-rule, checked-refused, checked-length, shape-morphism, shape-table}
 use Rattle.classes.specs.declared.Listed.the-variants.{Counts, Refused}
-use Rattle.classes.specs.Classes.{ClassesWritten, ClassCounts}
-use Rattle.classes.specs.Cells.{CellCounts}
+use Rattle.classnumbers.specs.Classes.{ClassesWritten, ClassCounts}
+use Rattle.classnumbers.specs.Cells.{CellCounts}
 use Rattle.classes.specs.Promise.{classesSize, listChecks, scratchLeft, ListPromise}
 use Rattle.classes.proofs.Counting.{class-counts}
 

@@ -20,7 +20,7 @@ use Rattle.format.specs.RuleChecks.{ShortAt}
 use Rattle.rulefile.proofs.OneVerdict.{checked-single}
 use Rattle.classes.specs.declared.Listed.{Listed}
 use Rattle.classes.specs.declared.Listed.the-variants.{Counts, Refused}
-use Rattle.classes.specs.Classes.{ClassNumber, least-conjugate, not-linked, classPlace, ClassesWritten, ClassCounts}
+use Rattle.classnumbers.specs.Classes.{ClassNumber, least-conjugate, not-linked, classPlace, ClassesWritten, ClassCounts}
 use Rattle.classes.specs.Promise.{listChecks, listedVerdict, ListedAnswer, ListPromise}
 
 -- a pair has one class number

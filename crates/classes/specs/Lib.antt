@@ -1,3 +1,1 @@
-pub mod Classes
-pub mod Cells
 pub mod Promise

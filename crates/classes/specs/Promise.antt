@@ -11,7 +11,7 @@ use Rattle.format.specs.RuleChecks.{bufferCheck}
 use Rattle.rulefile.specs.Answers.{checkedChecks, afterCall}
 use Rattle.classes.specs.declared.Listed.{Listed}
 use Rattle.classes.specs.declared.Listed.the-variants.{Counts, Refused}
-use Rattle.classes.specs.Classes.{ClassesWritten, ClassCounts}
+use Rattle.classnumbers.specs.Classes.{ClassesWritten, ClassCounts}
 
 -- "Buffers: .. classes 8,192"
 abbrev pub classesSize : ℕ

@@ -28,7 +28,7 @@ use Rattle.search.specs.Search.{Stands}
 use Rattle.strength.specs.Deciding.{StrongIf, Decided}
 use Rattle.strength.specs.Weak.{weakCheck}
 use Rattle.strength.proofs.Calling.{checked-table, checked-lawful, checked-reached, checked-linked, marks-stand, checked-room, decided-file}
-use Rattle.complement.specs.Complement.{ComplementMarks, ComplementLaid}
+use Rattle.complementmarks.specs.Complement.{ComplementMarks, ComplementLaid}
 use Rattle.complement.specs.Promise.{ruleSize, WritePlace, secondMarking, TablesWritten, complementChecks, ComplementWritten, scratchLeft, ComplementPromise}
 use Rattle.complement.specs.declared.Complemented.the-variants.{Rule, Refused}
 use Rattle.complement.proofs.Complements.{laid-complement}

@@ -18,7 +18,7 @@ use Rattle.minimality.proofs.Saturation.{saturated}
 use Rattle.minimality.proofs.Complements.{refusal, complement-marks, complement-saturates, complement-accepts, complement-strong, complement-right}
 use Rattle.scratch.specs.Map.{pairsFrom}
 use Rattle.closure.proofs.Agreement.{SameOn, linked-agrees, accepts-agrees, strong-agrees}
-use Rattle.complement.specs.Complement.{linkedOutside, ComplementMarks, ComplementLaid}
+use Rattle.complementmarks.specs.Complement.{linkedOutside, ComplementMarks, ComplementLaid}
 
 -- the values of a linked pair are settled
 settled-same : {m : Morphism} {s e : ℕ} → Lawful m → Linked m s e → (settled-start m s e ≡ s) × (settled-cycle m e ≡ e)

@@ -1,4 +1,3 @@
-pub mod Turned
 pub mod Complements
 pub mod Writing
 pub mod Calling

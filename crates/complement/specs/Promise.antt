@@ -13,7 +13,7 @@ use Rattle.rulefile.specs.Answers.{checkedChecks, afterCall}
 use Rattle.rulewriter.specs.File.{fileOf}
 use Rattle.rulewriter.specs.ReadBack.{WrittenRule}
 use Rattle.strength.specs.Weak.{weakCheck}
-use Rattle.complement.specs.Complement.{ComplementMarks}
+use Rattle.complementmarks.specs.Complement.{ComplementMarks}
 use Rattle.complement.specs.declared.Complemented.{Complemented}
 use Rattle.complement.specs.declared.Complemented.the-variants.{Rule, Refused}
 

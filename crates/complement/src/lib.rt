@@ -1,57 +1,16 @@
 // The complement of a strong rule: same elements and numbering, marked are the linked pairs that are not in the closure of the
 // rule's marks.
 use answer::Refusal;
+use complementmarks::complement_marks;
 use rulefile::Checked;
 use rulefile::check;
-use rulefile::linked;
 use rulewriter::write_rule;
 use sections::zero;
 use strength::decide;
-ghost use Prim.Native.Nat.{_≤_, _<_};
+ghost use Prim.Native.Nat.{_<_};
 ghost use lib.ListN.{length};
 ghost use Rattle.table.specs.Table.{Table, morphismAt};
-ghost use Rattle.complement.specs.Complement.{ComplementLaid, ByteTurned, RowTurned};
 ghost use Rattle.complement.specs.Promise.{WritePlace, TablesWritten, ComplementPromise};
-
-// The byte of (s, e): 1 where the pair is linked and not in the second table, else 0.
-fn byte_turned(rule: &[u8], n: usize, k: usize, scratch: &[u8], s: usize, e: usize) -> u8
-    requires { ⌜ Table (now rule) n k ⌝ }
-    requires { ⌜ 8192 ≤ length (now scratch) ⌝ }
-    requires { ⌜ (s < n) × (e < n) ⌝ }
-    ensures { λ r. ⌜ ByteTurned (morphismAt (now (rule .entry)) n k) (now (scratch .entry)) s e r ⌝ }
-{
-    if scratch[4096 + (s * 64 + e)] != 0 {
-        return 0;
-    }
-    if !linked(rule, n, k, s, e) {
-        return 0;
-    }
-    1
-}
-
-// The bytes of the pairs that begin with s.
-fn turn_row(rule: &[u8], n: usize, k: usize, scratch: &mut [u8], s: usize)
-    requires { ⌜ Table (now rule) n k ⌝ }
-    requires { ⌜ 8192 ≤ length (now scratch) ⌝ }
-    requires { ⌜ s < n ⌝ }
-    ensures { λ r. ⌜ RowTurned (morphismAt (now (rule .entry)) n k) s n (now (scratch .entry)) (now (scratch .exit)) ⌝ }
-{
-    for e in 0..n {
-        let byte = byte_turned(rule, n, k, scratch, s, e);
-        scratch[4096 + (s * 64 + e)] = byte;
-    }
-}
-
-// Turns the second table, the closure of a rule's marks, into the marks of the complement, in place.
-fn complement_marks(rule: &[u8], n: usize, k: usize, scratch: &mut [u8])
-    requires { ⌜ Table (now rule) n k ⌝ }
-    requires { ⌜ 8192 ≤ length (now scratch) ⌝ }
-    ensures { λ r. ⌜ ComplementLaid (morphismAt (now (rule .entry)) n k) (now (scratch .entry)) (now (scratch .exit)) ⌝ }
-{
-    for s in 0..n {
-        turn_row(rule, n, k, scratch, s);
-    }
-}
 
 // Writes the rule with the marks of the second table, and answers how many bytes it has.
 fn write_marked(rule: &[u8], n: usize, k: usize, scratch: &[u8], out: &mut [u8]) -> usize

@@ -11,9 +11,10 @@ use Rattle.theory.specs.Pairs.{LinkedOnly}
 use Rattle.theory.specs.Acceptance.{Accepts}
 use Rattle.theory.proofs.Membership.{accepts-test, accepts-test-intro, accepts-test-elim}
 use Rattle.table.specs.Table.{Table, morphismAt}
-use Rattle.cuts.specs.Cuts.{markedIn, CallWord}
-pub use Rattle.cuts.proofs.Agreement.{Agrees}
-use Rattle.cuts.proofs.Agreement.{accepts-test-agrees}
+use Rattle.cuts.specs.WordValues.{CallWord}
+use Rattle.turns.specs.Cuts.{markedIn}
+pub use Rattle.turns.proofs.Agreement.{Agrees}
+use Rattle.turns.proofs.Agreement.{accepts-test-agrees}
 
 module _ {bytes : List ℕ} {n k : ℕ} {P : Pairs} {u v : List ℕ} (table : Table bytes n k) (law : Lawful (morphismAt bytes n k))
     (linked : LinkedOnly (morphismAt bytes n k) P) (word-u : CallWord k u) (word-v : CallWord k v) where

@@ -1,9 +1,4 @@
-pub mod Looks
 pub mod Passes
 pub mod Stores
-pub mod Turning
-pub mod Agreement
-pub mod Cutting
 pub mod Tables
-pub mod Searching
 pub mod Accepted

@@ -13,7 +13,7 @@ use Rattle.theory.proofs.Words.{over-take, over-drop, over-at}
 use Rattle.theory.proofs.Values.{value-append, join-none, join-elements, inside-of}
 use Rattle.table.specs.Table.{Table, ImagePlace, productAt, imageAt, morphismAt}
 use Rattle.table.proofs.Facts.{image-place}
-use Rattle.cuts.specs.Cuts.{CallWord}
+use Rattle.cuts.specs.WordValues.{CallWord}
 
 -- the value of a word is the product of its first letter's element and the value of the rest
 value-cons : (m : Morphism) (a : ℕ) (w : List ℕ) → value m (a ∷ w) ≡ join m (element (m .image a)) (value m w)

@@ -7,7 +7,7 @@ use native.Mathlib.Omega.{arith}
 use native.Mathlib.Nat.{eq-or-lt-of-le}
 use lib.ListN.{length, getD, set, length-set}
 use lib.Seq.{getD-set-same, getD-set-other}
-use Rattle.cuts.specs.Cuts.{KeptAround}
+use Rattle.turns.specs.Cuts.{KeptAround}
 
 -- the bytes base + i with low ≤ i < high are right for their place; all others are as they were
 pub record Stored (Right : ℕ → ℕ → Type 0) (entry now : List ℕ) (base low high : ℕ) : Type 0 where

@@ -8,7 +8,7 @@ use native.Mathlib.Numerals.{add-one}
 use lib.ListN.{length, getD, set, take, drop, length-set}
 use Rattle.theory.specs.Rules.{element, value}
 use Rattle.table.specs.Table.{productAt, imageAt, morphismAt}
-use Rattle.cuts.specs.Cuts.{Beginnings, Ends, KeptAround}
+use Rattle.turns.specs.Cuts.{Beginnings, Ends, KeptAround}
 use Rattle.cuts.proofs.Passes.{Reading, Begun, begun-start, begun-next, begun-inside, Ended, ended-start, ended-next, ended-inside}
 use Rattle.cuts.proofs.Stores.{Stored, stored-start, stored-up, stored-down, stored-kept, stored-here, kept-store}
 

@@ -14,10 +14,10 @@ use Rattle.theory.proofs.Codes.{value-at-inside}
 use Rattle.theory.proofs.Escapes.{Escapes, Begins, Moves, ends-escapes}
 use Rattle.theory.proofs.Comparison.{ShortEscape}
 use Rattle.scratch.specs.Preimages.{afterLetter}
-use Rattle.search.specs.Queue.{frontAt, backAt, letterAt, parentAt}
-use Rattle.search.specs.Steps.{beforeLetter, splitMarked}
+use Rattle.searchlist.specs.Queue.{frontAt, backAt, letterAt, parentAt}
+use Rattle.searchlist.specs.Steps.{beforeLetter, splitMarked}
 use Rattle.search.specs.Search.{Source, a-start, a-step, Entries, EndedAt}
-use Rattle.search.proofs.Growth.{queue-few, queue-bound}
+use Rattle.searchlist.proofs.Growth.{queue-few, queue-bound}
 use Rattle.search.proofs.Meeting.{stateAt, value-at-element, value-at-none, after-join, before-join, before-below}
 use Rattle.cycles.specs.Cycles.{Spells, spells-none, spells-more, CyclePlace}
 

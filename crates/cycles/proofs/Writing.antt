@@ -6,7 +6,7 @@ use native.Mathlib.Omega.{arith}
 use lib.ListN.{length, getD, drop, set, length-set, length-append}
 use lib.Seq.{drop-cons, set-at}
 use Rattle.spelling.specs.Spelling.{WordWritten}
-use Rattle.search.specs.Queue.{backAt, letterAt, parentAt}
+use Rattle.searchlist.specs.Queue.{backAt, letterAt, parentAt}
 use Rattle.cycles.specs.Cycles.{Spells, spells-none, spells-more, CyclePlace, CycleWritten}
 
 -- the letters from the entry `start` to the entry i were written

@@ -5,7 +5,7 @@ use mathlib.Core.Path.{_≡_}
 use mathlib.Core.List.{List, [], _∷_}
 use lib.ListN.{length}
 use Rattle.spelling.specs.Spelling.{WordWritten}
-use Rattle.search.specs.Queue.{backAt, letterAt, parentAt}
+use Rattle.searchlist.specs.Queue.{backAt, letterAt, parentAt}
 
 -- the letters from entry i back to a start
 pub data Spells (n : ℕ) (scratch : List ℕ) : ℕ → List ℕ → Type 0 where

@@ -3,7 +3,7 @@
 ghost use mathlib.Core.Path.{_≡_};
 ghost use Prim.Native.Nat.{_≤_, _<_};
 ghost use lib.ListN.{length};
-ghost use Rattle.search.specs.Queue.{parentAt};
+ghost use Rattle.searchlist.specs.Queue.{parentAt};
 ghost use Rattle.cycles.specs.Cycles.{CyclePlace, CycleWritten};
 
 // The entry that an entry was found from.

@@ -13,7 +13,7 @@ use Rattle.theory.specs.Pairs.{Classes}
 use Rattle.theory.proofs.Closure.{linked-elim, closure-test, closure-intro}
 use Rattle.theory.proofs.TableTests.{all-pairs-elim, counted-same}
 use Rattle.format.specs.Format.{morphismOf, pairsOf}
-use Rattle.classes.specs.Classes.{ClassCounts}
+use Rattle.classnumbers.specs.Classes.{ClassCounts}
 use Rattle.reduction.specs.declared.Reduced.the-variants.{Rule as Is-rule}
 use Rattle.reduction.specs.Promise.{ruleSize}
 use Rattle.format.specs.RuleChecks.{scratchSize}

@@ -19,7 +19,7 @@ use Rattle.sections.specs.Sections.{Section, countBytes, countAt}
 use Rattle.sections.proofs.Laws.{SectionGood, good-passes}
 use Rattle.format.specs.Format.{elementsOf, lettersAt, marksAt, marksOf, ruleEnd, morphismOf, markStart, markCycle, elementsSection, lettersSection, marksSection}
 use Rattle.format.specs.RuleChecks.{tableChecks, markChecks, powerChecks, ruleChecks}
-use Rattle.rulefile.proofs.MarkOrder.{GoodMark, marks-pass}
+use Rattle.markchecks.proofs.MarkOrder.{GoodMark, marks-pass}
 use Rattle.rulefile.proofs.TablePassed.{lawful-powers-pass}
 use Rattle.rulefile.proofs.OneVerdict.{rule-single}
 use Rattle.examples.specs.Examples.{ChecksTo}

@@ -16,7 +16,7 @@ use Rattle.format.specs.Format.{morphismOf, pairsOf}
 use Rattle.format.specs.RuleChecks.{ruleChecks}
 use Rattle.rulefile.specs.GoodRule.{GoodRule}
 use Rattle.rulefile.proofs.CheckedRule.{good-rule}
-use Rattle.classes.specs.Classes.{ClassCounts}
+use Rattle.classnumbers.specs.Classes.{ClassCounts}
 use Rattle.examples.specs.Files.{W, W-all, Z, Z₀}
 use Rattle.examples.specs.Examples.{FileStrong, AcceptsLasso, RefusesLasso, ValuePair, ConjugateToMark, NotClosed, MarksLinked}
 use Rattle.examples.proofs.Passing.{rule-passes}

@@ -14,7 +14,7 @@ use Rattle.theory.specs.Pairs.{Linked, Conjugate}
 use Rattle.theory.specs.Smallest.{Reduction}
 use Rattle.format.specs.Format.{elementsOf, lettersOf, morphismOf, pairsOf}
 use Rattle.format.specs.RuleChecks.{ruleChecks, scratchSize}
-use Rattle.classes.specs.Classes.{ClassCounts}
+use Rattle.classnumbers.specs.Classes.{ClassCounts}
 use Rattle.reduction.specs.declared.Reduced.{Reduced}
 use Rattle.reduction.specs.declared.Reduced.the-variants.{Rule as Is-rule}
 use Rattle.reduction.specs.Promise.{ruleSize, ruleOf, ReducePromise}

@@ -21,7 +21,7 @@ use Rattle.strength.specs.declared.Strength.{Strength}
 use Rattle.strength.specs.Promise.{StrongPromise}
 use Rattle.verdict.specs.declared.Judged.{Judged}
 use Rattle.verdict.specs.Promise.{VerdictPromise}
-use Rattle.exports.specs.Packing.{packListed, packStrength, packMembership, packComplemented, packReduced, packTranslated, packInclusion, packMoved, packJudged}
+use Rattle.packing.specs.Packing.{packListed, packStrength, packMembership, packComplemented, packReduced, packTranslated, packInclusion, packMoved, packJudged}
 
 pub record ExportedClasses (bytes out-entry out-exit entry exit : List ℕ) (r : ℕ) : Type 0 where
   pub answer : Listed

@@ -1,167 +1,21 @@
 // The library's calls for C and Rust: one function a call, slices as pointer and length, and one number back, packed as
-// specs/Packing says. A caller in another language owes what Rust's references owe: each pointer is good for its length, and a
+// packing/specs/Packing says. A caller in another language owes what Rust's references owe: each pointer is good for its length, and a
 // buffer that is written overlaps no other.
-use answer::Refusal;
-use answer::number;
-use automaton::Translated;
-use classes::Listed;
-use complement::Complemented;
-use inclusion::Inclusion;
-use lasso::Membership;
 use monitor::Monitor;
-use monitor::Moved;
-use reduction::Reduced;
-use strength::Strength;
-use verdict::Judged;
+use packing::pack_complemented;
+use packing::pack_fields;
+use packing::pack_inclusion;
+use packing::pack_judged;
+use packing::pack_listed;
+use packing::pack_membership;
+use packing::pack_moved;
+use packing::pack_reduced;
+use packing::pack_strength;
+use packing::pack_translated;
 ghost use mathlib.Core.Path.{_≡_};
-ghost use Rattle.answer.specs.Refusals.{numberOf};
 ghost use Rattle.monitor.specs.Monitor.{freshMonitor};
-ghost use Rattle.exports.specs.Packing.{packRefusal, packFields, packListed, packStrength, packMembership, packComplemented, packInclusion, packMonitor, packMoved, packReduced, packTranslated, packJudged};
+ghost use Rattle.packing.specs.Packing.{packMonitor};
 ghost use Rattle.exports.specs.Exports.{ExportedClasses, ExportedStrength, ExportedMember, ExportedComplement, ExportedInclusion, ExportedEvent, ExportedMark, ExportedReduction, ExportedAutomaton, ExportedVerdict};
-
-fn pack_refusal(refusal: Refusal, input: usize, place: usize) -> u64
-    ensures { λ r. ⌜ r ≡ packRefusal (numberOf refusal) input place ⌝ }
-{
-    let number = number(refusal) as u64;
-    let input_byte = input as u64 % 256;
-    let place_bits = place as u64 % 281474976710656;
-    number + (256 * input_byte + 65536 * place_bits)
-}
-
-fn pack_fields(a: usize, b: usize, c: usize) -> u64
-    ensures { λ r. ⌜ r ≡ packFields a b c ⌝ }
-{
-    let first = a as u64 % 65536;
-    let second = b as u64 % 65536;
-    let third = c as u64 % 65536;
-    65536 * first + (4294967296 * second + 281474976710656 * third)
-}
-
-fn pack_listed(answer: Listed) -> u64
-    ensures { λ r. ⌜ r ≡ packListed answer ⌝ }
-{
-    match answer {
-        Listed::Counts {
-            linked,
-            classes,
-            joins,
-        } => pack_fields(linked, classes, joins),
-        Listed::Refused {
-            refusal,
-            input,
-            place,
-        } => pack_refusal(refusal, input, place),
-    }
-}
-
-fn pack_strength(answer: Strength) -> u64
-    ensures { λ r. ⌜ r ≡ packStrength answer ⌝ }
-{
-    match answer {
-        Strength::Strong => pack_fields(1, 0, 0),
-        Strength::Weak => pack_fields(0, 0, 0),
-        Strength::Refused {
-            refusal,
-            input,
-            place,
-        } => pack_refusal(refusal, input, place),
-    }
-}
-
-fn pack_membership(answer: Membership) -> u64
-    ensures { λ r. ⌜ r ≡ packMembership answer ⌝ }
-{
-    match answer {
-        Membership::Accepted => pack_fields(1, 0, 0),
-        Membership::NotAccepted => pack_fields(0, 0, 0),
-        Membership::Refused {
-            refusal,
-            input,
-            place,
-        } => pack_refusal(refusal, input, place),
-    }
-}
-
-fn pack_complemented(answer: Complemented) -> u64
-    ensures { λ r. ⌜ r ≡ packComplemented answer ⌝ }
-{
-    match answer {
-        Complemented::Rule(length) => pack_fields(length, 0, 0),
-        Complemented::Refused {
-            refusal,
-            input,
-            place,
-        } => pack_refusal(refusal, input, place),
-    }
-}
-
-fn pack_inclusion(answer: Inclusion) -> u64
-    ensures { λ r. ⌜ r ≡ packInclusion answer ⌝ }
-{
-    match answer {
-        Inclusion::Included => pack_fields(1, 0, 0),
-        Inclusion::NotIncluded { u, v } => pack_fields(0, u, v),
-        Inclusion::Refused {
-            refusal,
-            input,
-            place,
-        } => pack_refusal(refusal, input, place),
-    }
-}
-
-fn pack_moved(answer: Moved) -> u64
-    ensures { λ r. ⌜ r ≡ packMoved answer ⌝ }
-{
-    match answer {
-        Moved::To(m) => pack_fields(m.before, m.since, 0),
-        Moved::Refused {
-            monitor: _,
-            refusal,
-            input,
-            place,
-        } => pack_refusal(refusal, input, place),
-    }
-}
-
-fn pack_reduced(answer: Reduced) -> u64
-    ensures { λ r. ⌜ r ≡ packReduced answer ⌝ }
-{
-    match answer {
-        Reduced::Rule(length) => pack_fields(length, 0, 0),
-        Reduced::Refused {
-            refusal,
-            input,
-            place,
-        } => pack_refusal(refusal, input, place),
-    }
-}
-
-fn pack_translated(answer: Translated) -> u64
-    ensures { λ r. ⌜ r ≡ packTranslated answer ⌝ }
-{
-    match answer {
-        Translated::Rule(length) => pack_fields(length, 0, 0),
-        Translated::Refused {
-            refusal,
-            input,
-            place,
-        } => pack_refusal(refusal, input, place),
-    }
-}
-
-fn pack_judged(answer: Judged) -> u64
-    ensures { λ r. ⌜ r ≡ packJudged answer ⌝ }
-{
-    match answer {
-        Judged::Accepted => pack_fields(1, 0, 0),
-        Judged::NotAccepted => pack_fields(0, 0, 0),
-        Judged::Refused {
-            refusal,
-            input,
-            place,
-        } => pack_refusal(refusal, input, place),
-    }
-}
 
 // The linked pairs, the classes and the joins; each pair's class in `out`.
 #[no_mangle]

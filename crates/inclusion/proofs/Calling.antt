@@ -19,9 +19,10 @@ use Rattle.format.specs.RuleChecks.{bufferCheck, trailingCheck, markChecks, sec
 use Rattle.layout.specs.declared.Shape.{Shape}
 use Rattle.rulefile.specs.declared.Checked.{Checked}
 use Rattle.rulefile.specs.declared.Checked.the-variants.{Rule, Refused as Checked-refused}
-use Rattle.rulefile.specs.declared.Fault.{Fault}
-use Rattle.rulefile.specs.declared.Fault.the-variants.{Nothing, Refused as Fault-refused}
-use Rattle.rulefile.specs.Answers.{CheckPromise, FaultAnswer, checkedChecks, afterCall}
+use Rattle.markchecks.specs.declared.Fault.{Fault}
+use Rattle.markchecks.specs.declared.Fault.the-variants.{Nothing, Refused as Fault-refused}
+use Rattle.markchecks.specs.Faults.{FaultAnswer}
+use Rattle.rulefile.specs.Answers.{CheckPromise, checkedChecks, afterCall}
 use Rattle.rulefile.proofs.Calls.{zeros-left, checked-length, shape-morphism}
 use Rattle.rulefile.proofs.MarksPassed.{passed-marks, marking-linked}
 use Rattle.scratch.specs.Map.{pairsFrom}

@@ -16,15 +16,15 @@ use Rattle.table.specs.Table.{Table, morphismAt}
 use Rattle.reach.specs.Reach.{placeAt, Empty, WordOrder}
 use Rattle.reach.proofs.Words.{wordAt, found-word, reached-found}
 use Rattle.format.specs.Format.{marksIn}
-use Rattle.rulefile.specs.declared.Fault.{Fault}
-use Rattle.rulefile.specs.declared.Fault.the-variants.{Nothing, Refused as Fault-refused}
-use Rattle.rulefile.specs.Answers.{MarksLaid}
+use Rattle.markchecks.specs.declared.Fault.{Fault}
+use Rattle.markchecks.specs.declared.Fault.the-variants.{Nothing, Refused as Fault-refused}
+use Rattle.markchecks.specs.Faults.{MarksLaid}
 use Rattle.secondmarks.specs.SecondMarks.{MarksSpace, SecondAnswer}
 use Rattle.scratch.specs.Map.{pairsFrom}
 use Rattle.scratch.specs.Preimages.{PreimagesRoom}
 use Rattle.spelling.specs.Spelling.{SpellPlace, WordWritten}
 use Rattle.spelling.proofs.Entries.{spell-place}
-use Rattle.search.specs.Queue.{seenAt}
+use Rattle.searchlist.specs.Queue.{seenAt}
 use Rattle.search.specs.Search.{Stands, EscapePlace, EscapeAnswer, EscapedAt, Escaped}
 use Rattle.search.specs.declared.Escape.{Escape}
 use Rattle.search.specs.declared.Escape.the-variants.{At, Nothing as No-escape}

@@ -8,8 +8,8 @@ use Rattle.theory.specs.Pairs.{LinkedOnly}
 use Rattle.theory.specs.Inclusion.{Included, Witness}
 use Rattle.theory.proofs.ShortWords.{ShortWord}
 use Rattle.format.specs.Format.{marksIn}
-use Rattle.rulefile.specs.declared.Fault.{Fault}
-use Rattle.rulefile.specs.declared.Fault.the-variants.{Nothing, Refused as Fault-refused}
+use Rattle.markchecks.specs.declared.Fault.{Fault}
+use Rattle.markchecks.specs.declared.Fault.the-variants.{Nothing, Refused as Fault-refused}
 use Rattle.scratch.specs.Map.{pairsFrom}
 use Rattle.search.specs.Search.{Stands, EndedAt}
 use Rattle.spelling.specs.Spelling.{WordWritten}

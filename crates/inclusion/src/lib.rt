@@ -2,9 +2,9 @@
 // markings apart is written. Weak markings are compared like others.
 use answer::Refusal;
 use cycles::write_cycle;
+use markchecks::Fault;
 use reach::reach;
 use rulefile::Checked;
-use rulefile::Fault;
 use rulefile::check;
 use search::Escape;
 use search::first_escape;
@@ -17,7 +17,7 @@ ghost use lib.ListN.{length};
 ghost use Rattle.table.specs.Table.{Table, morphismAt};
 ghost use Rattle.format.specs.Format.{elementsOf, lettersOf};
 ghost use Rattle.format.specs.RuleChecks.{secondMarksChecks};
-ghost use Rattle.rulefile.specs.Answers.{FaultAnswer};
+ghost use Rattle.markchecks.specs.Faults.{FaultAnswer};
 ghost use Rattle.inclusion.specs.Comparing.{SecondRoom, LaidAnswer, StartPlace, StartWritten, ComparePlace, Compared};
 ghost use Rattle.inclusion.specs.Promise.{InclusionPromise};
 

@@ -26,7 +26,8 @@ use Rattle.words.specs.declared.LassoFault.{LassoFault}
 use Rattle.words.specs.declared.LassoFault.the-variants.{Nothing, Refused as Lasso-refused}
 use Rattle.words.specs.WordChecks.{lassoChecks}
 use Rattle.words.specs.Answers.{GoodWord, GoodLasso, LassoAnswer}
-use Rattle.cuts.specs.Cuts.{markedIn, CallWord}
+use Rattle.cuts.specs.WordValues.{CallWord}
+use Rattle.turns.specs.Cuts.{markedIn}
 use Rattle.cuts.proofs.Accepted.{Agrees, accepted, not-accepted}
 use Rattle.lasso.specs.declared.Membership.the-variants.{Accepted, NotAccepted, Refused}
 use Rattle.lasso.specs.Promise.{MemberPromise}

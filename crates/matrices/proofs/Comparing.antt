@@ -11,7 +11,7 @@ use mir.Facts.{eqb-yes, yes-eqb}
 use Rattle.finite.proofs.Tests.{T-true, T-false, true-T}
 use Rattle.finite.proofs.Search.{all-intro, all-elim}
 use Rattle.buchi.proofs.MatrixTests.{same-test}
-use Rattle.matrices.specs.Arrays.{entryIn, sameRow}
+use Rattle.matrixproducts.specs.Arrays.{entryIn, sameRow}
 
 -- ---- rows
 

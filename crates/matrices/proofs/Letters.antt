@@ -13,7 +13,7 @@ use Rattle.buchi.specs.Matrices.{SameEntries}
 use Rattle.buchi.proofs.WordMatrices.{letter-matrix}
 use Rattle.buchi.proofs.Products.{same-trans}
 use Rattle.matrices.specs.Bytes.{finalAt, stepAt, Stands, automatonAt, LetterPlace, EntryPlace, letterEntry, IsLetter}
-use Rattle.matrices.proofs.Rows.{RowsOf, rows-same, rows-shape}
+use Rattle.matrixproducts.proofs.Rows.{RowsOf, rows-same, rows-shape}
 
 -- ---- one entry
 

@@ -9,9 +9,9 @@ use lib.ListN.{length, getD, set, length-set}
 use lib.Seq.{getD-set-same, getD-set-other}
 use Rattle.buchi.specs.Matrices.{SameEntries}
 use Rattle.finite.proofs.Numbers.{le-or-lt}
-use Rattle.matrices.specs.Arrays.{entryIn, StateEntries, MatrixShape, RowOf}
+use Rattle.matrixproducts.specs.Arrays.{entryIn, StateEntries, MatrixShape, RowOf}
 use Rattle.matrices.specs.Bytes.{matrixFrom, bytesFrom, MatrixPlace, Loaded, Stored, RowStored}
-use Rattle.matrices.proofs.Rows.{RowsOf, rows-length, rows-entry}
+use Rattle.matrixproducts.proofs.Rows.{RowsOf, rows-length, rows-entry}
 
 -- ---- places
 

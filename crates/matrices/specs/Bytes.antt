@@ -8,7 +8,7 @@ use lib.Dec.{ltb, eqb}
 use Rattle.buchi.specs.Automata.{Automaton}
 use Rattle.buchi.specs.Matrices.{Matrix, SameEntries}
 use Rattle.buchi.proofs.WordMatrices.{letter-matrix}
-use Rattle.matrices.specs.Arrays.{entryIn, MatrixShape}
+use Rattle.matrixproducts.specs.Arrays.{entryIn, MatrixShape}
 
 -- "a byte for each (0 plain, 1 initial, 2 final, 3 both)": 1 and 3 are initial
 unfoldable pub initialAt : List ℕ → ℕ → Bool

@@ -1,75 +1,11 @@
-// The matrices of an automaton's words: six rows of six entries by value, their product, the matrix of a letter, and how a
-// matrix stands in lent bytes.
+// The matrices of an automaton's words: the matrix of a letter, whether two matrices are the same, and how a matrix stands in lent
+// bytes.
 ghost use mathlib.Core.Path.{_≡_};
-ghost use Prim.Native.Nat.{max, _+_, _≤_, _<_};
+ghost use Prim.Native.Nat.{_+_, _≤_, _<_};
 ghost use lib.ListN.{length};
-ghost use Rattle.buchi.proofs.Products.{through, product};
 ghost use Rattle.buchi.proofs.MatrixTests.{same-test};
-ghost use Rattle.matrices.specs.Arrays.{entryIn, MatrixShape, RowOf, sameRow, IsProduct};
+ghost use Rattle.matrixproducts.specs.Arrays.{entryIn, RowOf, sameRow};
 ghost use Rattle.matrices.specs.Bytes.{LetterPlace, EntryPlace, letterEntry, IsLetter, MatrixPlace, bytesFrom, Loaded, Stored, RowStored};
-
-// The greater of two entries.
-fn greater(x: u8, y: u8) -> u8
-    ensures { λ r. ⌜ r ≡ max x y ⌝ }
-{
-    if x < y {
-        return y;
-    }
-    x
-}
-
-// The greater of two entries, 0 where one of them is 0.
-fn through(x: u8, y: u8) -> u8
-    ensures { λ r. ⌜ r ≡ through x y ⌝ }
-{
-    if x == 0 {
-        return 0;
-    }
-    if y == 0 {
-        return 0;
-    }
-    greater(x, y)
-}
-
-// An entry of the product.
-fn product_entry(n: usize, left: [[u8; 6]; 6], right: [[u8; 6]; 6], p: usize, q: usize) -> u8
-    requires { ⌜ (n ≤ 6) × (p < 6) × (q < 6) ⌝ }
-    ensures { λ r. ⌜ r ≡ product n (entryIn left) (entryIn right) p q ⌝ }
-{
-    let mut best = 0u8;
-    for r in 0..n {
-        let x = left[p][r];
-        let y = right[r][q];
-        let z = through(x, y);
-        best = greater(z, best);
-    }
-    best
-}
-
-// A row of the product.
-fn product_row(n: usize, left: [[u8; 6]; 6], right: [[u8; 6]; 6], p: usize) -> [u8; 6]
-    requires { ⌜ (n ≤ 6) × (p < 6) ⌝ }
-    ensures { λ r. ⌜ RowOf (product n (entryIn left) (entryIn right) p) n r ⌝ }
-{
-    let mut row = [0u8; 6];
-    for q in 0..n {
-        row[q] = product_entry(n, left, right, p, q);
-    }
-    row
-}
-
-// The product of two matrices over n states.
-pub fn matrix_product(n: usize, left: [[u8; 6]; 6], right: [[u8; 6]; 6]) -> [[u8; 6]; 6]
-    requires { ⌜ n ≤ 6 ⌝ }
-    requires { ⌜ (MatrixShape n left) × (MatrixShape n right) ⌝ }
-    ensures { λ r. ⌜ IsProduct n left right r ⌝ }
-{
-    let mut out = [[0u8; 6]; 6];
-    for p in 0..n {
-        out[p] = product_row(n, left, right, p);
-    }
-    out
-}
 
 // An entry of the matrix of a letter: 2 where a transition has a final end, 1 for another transition, 0 where there is none.
 fn letter_entry(kinds: &[u8], steps: &[u8], letter: usize, p: usize, q: usize) -> u8

@@ -7,7 +7,7 @@ use native.Mathlib.Omega.{arith}
 use native.Mathlib.Decide.{ℕ-discrete}
 use Rattle.buchi.specs.Matrices.{SameEntries, OtherEntry}
 use Rattle.buchi.proofs.MatrixLists.{number-of}
-use Rattle.matrices.specs.Arrays.{entryIn, StateEntries, MatrixShape}
+use Rattle.matrixproducts.specs.Arrays.{entryIn, StateEntries, MatrixShape}
 use Rattle.matrices.specs.Bytes.{Stored}
 use Rattle.matrices.proofs.Storing.{stored-same, stored-entries, stored-other}
 use Rattle.matrixlist.specs.Lists.{matrixAt, MatrixList, Kept}

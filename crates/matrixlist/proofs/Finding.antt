@@ -12,7 +12,7 @@ use Rattle.buchi.specs.Matrices.{Matrix, OtherEntry}
 use Rattle.buchi.proofs.Products.{same-trans, same-sym}
 use Rattle.buchi.proofs.MatrixTests.{same-test, same-intro, same-elim, other-elim}
 use Rattle.buchi.proofs.MatrixLists.{Among, number-of}
-use Rattle.matrices.specs.Arrays.{entryIn}
+use Rattle.matrixproducts.specs.Arrays.{entryIn}
 use Rattle.matrices.specs.Bytes.{MatrixPlace, Loaded}
 use Rattle.matrices.proofs.Storing.{loaded-same}
 use Rattle.matrixlist.specs.Lists.{matrixAt, MatrixList}

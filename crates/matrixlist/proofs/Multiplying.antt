@@ -9,7 +9,7 @@ use Rattle.finite.proofs.Numbers.{le-or-lt}
 use Rattle.buchi.specs.Matrices.{SameEntries}
 use Rattle.buchi.proofs.Products.{product, product-same, same-sym, same-trans}
 use Rattle.buchi.proofs.MatrixLists.{Among}
-use Rattle.matrices.specs.Arrays.{entryIn, MatrixShape, IsProduct}
+use Rattle.matrixproducts.specs.Arrays.{entryIn, MatrixShape, IsProduct}
 use Rattle.matrices.specs.Bytes.{letterEntry, IsLetter, MatrixPlace, Loaded}
 use Rattle.matrices.proofs.Storing.{loaded-same, loaded-shape}
 use Rattle.matrixlist.specs.Lists.{matrixAt, ListPlace, Kept}

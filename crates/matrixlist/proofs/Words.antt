@@ -18,7 +18,7 @@ use Rattle.buchi.specs.Matrices.{Matrix, IsMatrix, SameEntries, OtherEntry}
 use Rattle.buchi.specs.Rule.{MatrixWord}
 use Rattle.buchi.proofs.Products.{product, product-same, same-refl}
 use Rattle.buchi.proofs.WordMatrices.{letter-matrix, letter-is-matrix, matrix-same, matrix-append}
-use Rattle.matrices.specs.Arrays.{entryIn}
+use Rattle.matrixproducts.specs.Arrays.{entryIn}
 use Rattle.matrices.specs.Bytes.{IsLetter}
 use Rattle.matrixlist.specs.Lists.{matrixAt, StandsHere, Kept, TooRich}
 use Rattle.matrixlist.specs.Steps.{AddedTo, Full, IsWord, WordList}

@@ -8,7 +8,7 @@ use Rattle.buchi.specs.Automata.{Automaton}
 use Rattle.buchi.specs.Matrices.{Matrix, OtherEntry}
 use Rattle.buchi.specs.Rule.{MoreMatrices}
 use Rattle.buchi.proofs.MatrixLists.{ClosedList, FoundInOrder}
-use Rattle.matrices.specs.Arrays.{StateEntries}
+use Rattle.matrixproducts.specs.Arrays.{StateEntries}
 use Rattle.matrices.specs.Bytes.{Stands, matrixFrom}
 use Rattle.matrixlist.specs.declared.MatrixCount.{MatrixCount}
 use Rattle.matrixlist.specs.declared.MatrixCount.the-variants.{Listed, TooMany}

@@ -8,7 +8,7 @@ use Rattle.buchi.specs.Matrices.{Matrix, SameEntries, OtherEntry}
 use Rattle.buchi.specs.Rule.{MatrixWord}
 use Rattle.buchi.proofs.Products.{product}
 use Rattle.buchi.proofs.MatrixLists.{Among}
-use Rattle.matrices.specs.Arrays.{entryIn}
+use Rattle.matrixproducts.specs.Arrays.{entryIn}
 use Rattle.matrices.specs.Bytes.{letterEntry}
 use Rattle.matrixlist.specs.Lists.{matrixAt, StandsHere, MatrixList, Kept, TooRich}
 use Rattle.matrixlist.specs.declared.MatrixCount.{MatrixCount}

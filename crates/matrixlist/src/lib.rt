@@ -5,13 +5,13 @@
 // 64 matrices end at byte 12288.
 use matrices::letter_matrix;
 use matrices::load_matrix;
-use matrices::matrix_product;
 use matrices::same_matrix;
 use matrices::store_matrix;
+use matrixproducts::matrix_product;
 ghost use mathlib.Core.Path.{_≡_};
 ghost use Prim.Native.Nat.{_≤_, _<_};
 ghost use Rattle.buchi.proofs.MatrixLists.{number-of};
-ghost use Rattle.matrices.specs.Arrays.{entryIn, MatrixShape};
+ghost use Rattle.matrixproducts.specs.Arrays.{entryIn, MatrixShape};
 ghost use Rattle.matrixlist.specs.Lists.{matrixAt, ListPlace, MatrixList, MatricesAnswer};
 ghost use Rattle.matrixlist.specs.Steps.{Added, WordList, LettersListed, LettersAdded, ProductsAdded};
 

@@ -16,11 +16,8 @@ use Rattle.monitor.specs.declared.Moved.{Moved}
 use Rattle.monitor.specs.declared.Moved.the-variants.{To, Refused}
 use Rattle.monitor.specs.declared.Ready.{Ready}
 use Rattle.monitor.specs.declared.Ready.the-variants.{Rule, Refused as Not-ready}
-use Rattle.monitor.specs.declared.Told.{Told}
-use Rattle.monitor.specs.declared.Told.the-variants.{Done, Refused as Told-refused}
 use Rattle.monitor.specs.Monitor.{StrayAt, LoneForeignAt, afterEvent, afterMark}
 use Rattle.monitor.specs.Promises.{monitorChecks, eventChecks, readyVerdict, ReadyShape, ReadyPromise, movedVerdict, HandsBack, EventPromise, MarkPromise}
-use Rattle.monitor.specs.InPlace.{toldVerdict, Leaves, EventInPlace}
 
 -- stray values and a lone letter have one place each
 stray-place : {n : ℕ} {f : Monitor} (p q : ℕ) → StrayAt n f p → StrayAt n f q → p ≡ q
@@ -33,7 +30,7 @@ letter-place p q a b = a .is-place ∙ sym (b .is-place)
 pub monitor-single : (bytes : List ℕ) (f : Monitor) (entry : List ℕ) → AllSingle (monitorChecks bytes f entry)
 monitor-single bytes f entry = single-append (checked-single 1 bytes entry) (single-cons (record { one-place = stray-place }) single-nil)
 
-event-single : (bytes : List ℕ) (f : Monitor) (letter : ℕ) (entry : List ℕ) → AllSingle (eventChecks bytes f letter entry)
+pub event-single : (bytes : List ℕ) (f : Monitor) (letter : ℕ) (entry : List ℕ) → AllSingle (eventChecks bytes f letter entry)
 event-single bytes f letter entry = single-append (monitor-single bytes f entry) (single-cons (record { one-place = letter-place }) single-nil)
 
 -- a refusal is known by its verdict
@@ -57,19 +54,6 @@ same-moved f next (To g) (Refused h r i place) p q e = absurd (not-passed (sym e
 same-moved f next (Refused g r i place) (To h) p q e = absurd (not-passed e)
 same-moved f next (Refused g r i place) (Refused h r′ i′ place′) p q e =
     same-refusal (Refused g) r r′ i i′ place place′ e ∙ ap (λ (x : Monitor). Refused x r′ i′ place′) (p ∙ sym q)
-
--- and answers with one verdict that leave a lent monitor
-same-told : (a b : Told) → toldVerdict a ≡ toldVerdict b → a ≡ b
-same-told Done Done e = refl
-same-told Done (Told-refused r i place) e = absurd (not-passed (sym e))
-same-told (Told-refused r i place) Done e = absurd (not-passed e)
-same-told (Told-refused r i place) (Told-refused r′ i′ place′) e = same-refusal Told-refused r r′ i i′ place place′ e
-
-same-left : (f next : Monitor) (a b : Told) {g h : Monitor} → Leaves f next g a → Leaves f next h b → toldVerdict a ≡ toldVerdict b → g ≡ h
-same-left f next Done Done p q e = p ∙ sym q
-same-left f next Done (Told-refused r i place) p q e = absurd (not-passed (sym e))
-same-left f next (Told-refused r i place) Done p q e = absurd (not-passed e)
-same-left f next (Told-refused r i place) (Told-refused r′ i′ place′) p q e = p ∙ sym q
 
 module _ {bytes : List ℕ} {f : Monitor} {entry exit exit′ : List ℕ} where
   pub one-mark : {answer answer′ : Moved} → MarkPromise bytes f entry exit answer → MarkPromise bytes f entry exit′ answer′ → answer ≡ answer′
@@ -105,17 +89,3 @@ module _ {bytes : List ℕ} {f : Monitor} {entry exit exit′ : List ℕ} where
 
     pub one-event-scratch : {answer answer′ : Moved} → EventPromise bytes f letter entry exit answer → EventPromise bytes f letter entry exit′ answer′ → exit ≡ exit′
     one-event-scratch p q = p .scratch ∙ sym (q .scratch)
-
-    -- on a lent monitor
-    pub one-told : {g h : Monitor} {answer answer′ : Told} → EventInPlace bytes f letter entry exit g answer → EventInPlace bytes f letter entry exit′ h answer′
-        → answer ≡ answer′
-    one-told {answer = answer} {answer′ = answer′} p q = same-told answer answer′ (one-verdict (event-single bytes f letter entry) (p .verdict) (q .verdict))
-
-    pub one-left : {g h : Monitor} {answer answer′ : Told} → EventInPlace bytes f letter entry exit g answer → EventInPlace bytes f letter entry exit′ h answer′ → g ≡ h
-    one-left {answer = answer} {answer′ = answer′} p q =
-        same-left f (afterEvent (morphismOf bytes) f letter) answer answer′ (p .monitor) (q .monitor)
-        (one-verdict (event-single bytes f letter entry) (p .verdict) (q .verdict))
-
-    pub one-told-scratch : {g h : Monitor} {answer answer′ : Told} → EventInPlace bytes f letter entry exit g answer → EventInPlace bytes f letter entry exit′ h answer′
-        → exit ≡ exit′
-    one-told-scratch p q = p .scratch ∙ sym (q .scratch)

@@ -1,4 +1,2 @@
 pub mod Monitor
 pub mod Promises
-pub mod InPlace
-pub mod Histories

@@ -15,8 +15,8 @@ use Rattle.reach.proofs.Words.{wordAt, FoundWord, found-word, entries-increase,
 use Rattle.minimality.specs.Rounds.{Together, Stable}
 use Rattle.minimality.proofs.Rounds.{together-sym, together-trans}
 use Rattle.minimality.proofs.Congruence.{Congruence, stable-congruence}
-use Rattle.rounds.specs.Map.{BlocksAt}
-use Rattle.rounds.proofs.BlockBytes.{bytes-related, related-bytes}
+use Rattle.firstround.specs.Map.{BlocksAt}
+use Rattle.firstround.proofs.BlockBytes.{bytes-related, related-bytes}
 use Rattle.numbering.specs.Steps.{blockAt, numberAt, leaderAt, Numbered}
 use Rattle.numbering.specs.Numbering.{NumberedAs, WordsInOrder, BlocksNumbered}
 

@@ -8,7 +8,7 @@ use native.Mathlib.Decide.{ℕ-discrete}
 use lib.ListN.{length, getD, set, length-set}
 use lib.Seq.{getD-set-same, getD-set-other}
 use Rattle.reach.specs.Reach.{placeAt}
-use Rattle.rounds.proofs.Bytes.{kept-none, kept-both, kept-set}
+use Rattle.firstround.proofs.Bytes.{kept-none, kept-both, kept-set}
 use Rattle.numbering.specs.Steps.{blockAt, numberAt, leaderAt, Sought, Taken, taken-old, taken-new, Entries, Numbered}
 
 -- the search among the leaders: none of the first j is in one block with s

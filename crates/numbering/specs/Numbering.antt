@@ -8,7 +8,7 @@ use Rattle.theory.specs.Words.{Over}
 use Rattle.theory.specs.Rules.{Morphism, element, value}
 use Rattle.minimality.specs.Rounds.{Together, Stable}
 use Rattle.minimality.proofs.Quotient.{Numbering}
-use Rattle.rounds.specs.Map.{BlocksAt, KeptOutside}
+use Rattle.firstround.specs.Map.{BlocksAt, KeptOutside}
 use Rattle.numbering.specs.Steps.{numberAt, leaderAt}
 
 -- a numbering of the blocks whose numbers and leaders are those in scratch

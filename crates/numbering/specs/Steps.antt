@@ -9,7 +9,7 @@ use mathlib.Core.Path.{_≡_}
 use mathlib.Core.List.{List}
 use lib.ListN.{length, getD, set}
 use Rattle.reach.specs.Reach.{placeAt, Places}
-use Rattle.rounds.specs.Map.{KeptOutside}
+use Rattle.firstround.specs.Map.{KeptOutside}
 
 -- the byte of the block of s
 abbrev pub blockAt : List ℕ → ℕ → ℕ

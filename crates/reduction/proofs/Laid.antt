@@ -17,18 +17,18 @@ use Rattle.table.specs.Table.{Table, morphismAt}
 use Rattle.layout.proofs.Rows.{rest-of}
 use Rattle.minimality.proofs.Quotient.{quotient, quotient-acc}
 use Rattle.minimality.proofs.Saturation.{saturated}
-use Rattle.rounds.specs.Map.{outcomeAt}
+use Rattle.firstround.specs.Map.{outcomeAt}
 use Rattle.rulewriter.specs.File.{fileOf}
 use Rattle.rulewriter.specs.Writing.{tableMorphism, tableMarks, RulePlace, RuleWritten}
 use Rattle.rulewriter.proofs.Agree.{Agree}
 use Rattle.rulewriter.proofs.Same.{SameMarks, file-same}
 use Rattle.numbering.specs.Steps.{numberAt, leaderAt}
 use Rattle.numbering.specs.Numbering.{NumberedAs}
-use Rattle.reduction.specs.Layout.{BlocksPlace, blockProduct, blockImage, laidProduct, blockOutcome, blockMark, Filled, Grid}
+use Rattle.blocktable.specs.Layout.{BlocksPlace, blockProduct, blockImage, laidProduct, blockOutcome, blockMark, Filled, Grid}
 use Rattle.reduction.specs.Written.{FileWritten}
 use Rattle.reduction.specs.Steps.{LaidPlace, LaidAs, LaidWritten, QuotientPlace, QuotientWritten}
-use Rattle.reduction.proofs.Cells.{pair-small}
-use Rattle.reduction.proofs.Blocks.{image-kept}
+use Rattle.blocktable.proofs.Cells.{pair-small}
+use Rattle.blocktable.proofs.Blocks.{image-kept}
 
 -- rules that are written alike
 pub written-same : {m m′ : Morphism} {marks marks′ : Marking} {before after : List ℕ} {end : ℕ} → fileOf m′ marks′ ≡ fileOf m marks

@@ -1,5 +1,3 @@
-pub mod Cells
-pub mod Blocks
 pub mod Laid
 pub mod Order
 pub mod Reducing

@@ -14,11 +14,11 @@ use Rattle.minimality.proofs.Contexts.{Indistinct, around-inside}
 use Rattle.minimality.proofs.Quotient.{Numbering, quotient, quotient-acc, quotient-lawful, quotient-reached}
 use Rattle.minimality.proofs.Saturation.{saturated}
 use Rattle.minimality.proofs.Reductions.{RuleNumbering, reduced-rule, reduction-right, reduced-linked}
-use Rattle.rounds.specs.Map.{outcomeOf, outcomeAt}
+use Rattle.firstround.specs.Map.{outcomeOf, outcomeAt}
 use Rattle.rounds.specs.Rounds.{RoundsSettled}
-use Rattle.rounds.proofs.Bytes.{kept-room}
-use Rattle.rounds.proofs.OutcomeBytes.{outcome-below, outcome-acceptance}
-use Rattle.rounds.proofs.Comparing.{same-outcomes-carry}
+use Rattle.firstround.proofs.Bytes.{kept-room}
+use Rattle.firstround.proofs.OutcomeBytes.{outcome-below, outcome-acceptance}
+use Rattle.firstround.proofs.Comparing.{same-outcomes-carry}
 use Rattle.search.specs.Search.{Stands}
 use Rattle.numbering.specs.Steps.{leaderAt}
 use Rattle.firstwords.specs.FirstWords.{ByFirstWords}

@@ -1,4 +1,3 @@
-pub mod Layout
 pub mod Written
 pub mod Steps
 pub mod Promise

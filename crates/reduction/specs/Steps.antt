@@ -8,9 +8,9 @@ use Rattle.theory.specs.Rules.{Morphism, Marking, Lawful, AllReached}
 use Rattle.firstwords.specs.FirstWords.{ByFirstWords}
 use Rattle.minimality.proofs.Quotient.{Numbering, quotient, quotient-acc}
 use Rattle.minimality.proofs.Saturation.{saturated}
-use Rattle.rounds.specs.Map.{outcomeOf, outcomeAt}
+use Rattle.firstround.specs.Map.{outcomeOf, outcomeAt}
 use Rattle.numbering.specs.Numbering.{NumberedAs}
-use Rattle.reduction.specs.Layout.{BlocksPlace}
+use Rattle.blocktable.specs.Layout.{BlocksPlace}
 use Rattle.reduction.specs.Written.{FileWritten}
 
 -- the tables of c blocks and k letters within the limits of the format, and room for the longest file

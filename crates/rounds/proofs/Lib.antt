@@ -1,8 +1,2 @@
-pub mod Bytes
-pub mod OutcomeBytes
-pub mod Comparing
-pub mod BlockBytes
-pub mod Products
-pub mod Writing
 pub mod Taking
 pub mod Settling

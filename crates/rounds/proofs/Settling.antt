@@ -13,14 +13,14 @@ use Rattle.theory.specs.Rules.{Morphism}
 use Rattle.minimality.specs.Rounds.{StillTogether, Together, Stable}
 use Rattle.minimality.proofs.Rounds.{together-sym, together-trans, together-next, together-before}
 use Rattle.minimality.proofs.FirstStable.{blocks-many, blocks-at-most}
-use Rattle.rounds.specs.Map.{outcomeOf, outcomeAt, InOneBlock, BlocksAt, KeptOutside}
-use Rattle.rounds.specs.Steps.{OutcomesWritten, BlocksWritten, TakenOver}
+use Rattle.firstround.specs.Map.{outcomeOf, outcomeAt, InOneBlock, BlocksAt, KeptOutside}
+use Rattle.firstround.specs.Steps.{OutcomesWritten, BlocksWritten, TakenOver}
 use Rattle.rounds.specs.Rounds.{RoundDone, RoundsSettled}
-use Rattle.rounds.proofs.Bytes.{kept-none, kept-both, kept-wider}
-use Rattle.rounds.proofs.OutcomeBytes.{outcome-below}
-use Rattle.rounds.proofs.Comparing.{same-outcomes-carry}
-use Rattle.rounds.proofs.BlockBytes.{least-carry, least-unique, least-at, blocks-carry, blocks-moved, bytes-related, related-bytes}
-use Rattle.rounds.proofs.Products.{still-carry}
+use Rattle.firstround.proofs.Bytes.{kept-none, kept-both, kept-wider}
+use Rattle.firstround.proofs.OutcomeBytes.{outcome-below}
+use Rattle.firstround.proofs.Comparing.{same-outcomes-carry}
+use Rattle.firstround.proofs.BlockBytes.{least-carry, least-unique, least-at, blocks-carry, blocks-moved, bytes-related, related-bytes}
+use Rattle.firstround.proofs.Products.{still-carry}
 
 module _ {m : Morphism} (closed : (a b : ℕ) → a < m .size → b < m .size → m .product a b < m .size)
     (images : (a : ℕ) → a < m .letters → m .image a < m .size) where

@@ -8,8 +8,8 @@ use native.Mathlib.Omega.{arith}
 use native.Mathlib.Decide.{ℕ-discrete}
 use lib.ListN.{length, getD, set}
 use lib.Seq.{getD-set-same, getD-set-other}
-use Rattle.rounds.specs.Steps.{Differs, Moved, TakenOver}
-use Rattle.rounds.proofs.Bytes.{kept-none, kept-both, kept-set}
+use Rattle.firstround.specs.Steps.{Differs, Moved, TakenOver}
+use Rattle.firstround.proofs.Bytes.{kept-none, kept-both, kept-set}
 
 -- one block taken over
 module _ {s : ℕ} {changed : Bool} {l : List ℕ} (hs : s < 64) (room : 65536 ≤ length l) where

@@ -1,3 +1,1 @@
-pub mod Map
-pub mod Steps
 pub mod Rounds

@@ -6,8 +6,8 @@ use mathlib.Core.List.{List}
 use lib.ListN.{getD}
 use Rattle.theory.specs.Rules.{Morphism}
 use Rattle.minimality.specs.Rounds.{StillTogether, Together, Stable}
-use Rattle.rounds.specs.Map.{outcomeOf, outcomeAt, InOneBlock, BlocksAt, KeptOutside}
-use Rattle.rounds.specs.Steps.{Differs}
+use Rattle.firstround.specs.Map.{outcomeOf, outcomeAt, InOneBlock, BlocksAt, KeptOutside}
+use Rattle.firstround.specs.Steps.{Differs}
 
 -- one round: the blocks are those that it keeps together, and the answer is true exactly if a block differs from before
 pub record RoundDone (m : Morphism) (entry exit : List ℕ) (answer : Bool) : Type 0 where

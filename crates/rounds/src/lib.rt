@@ -1,137 +1,18 @@
 // The first half of the reduction of a rule: the outcomes of all pairs of values, and rounds on blocks of elements until a round
-// changes nothing (document 02, Job 9). All stands in one lent slice, as specs/Map says: the closure of the marks from 4096, the
+// changes nothing (document 02, Job 9). All stands in one lent slice, as firstround/specs/Map says: the closure of the marks from 4096, the
 // outcomes from 8192, the least element of each element's block from 12288, and from 12352 the same after the round at hand.
-use table::Power;
-use table::idempotent_power;
+use firstround::first_blocks;
+use firstround::outcomes;
 use table::image;
 use table::product;
-ghost use mathlib.Core.Path.{_≡_};
 ghost use Prim.Native.Nat.{_≤_, _<_};
 ghost use lib.ListN.{length};
-ghost use Rattle.finite.proofs.Search.{bit};
 ghost use Rattle.theory.specs.Rules.{Lawful};
-ghost use Rattle.theory.proofs.Strength.{settled-cycle};
-ghost use Rattle.table.specs.Table.{Table, productAt, morphismAt};
-ghost use Rattle.scratch.specs.Map.{pairsFrom};
-ghost use Rattle.minimality.specs.Rounds.{SameOutcomes, StillTogether, Together};
-ghost use Rattle.rounds.specs.Map.{outcomeAt, InOneBlock};
-ghost use Rattle.rounds.specs.Steps.{Tells, LeastRelated, ColumnWritten, OutcomesWritten, BlocksWritten, Moved, TakenOver, ProductsTogether};
+ghost use Rattle.table.specs.Table.{Table, morphismAt};
+ghost use Rattle.minimality.specs.Rounds.{StillTogether};
+ghost use Rattle.firstround.specs.Map.{InOneBlock};
+ghost use Rattle.firstround.specs.Steps.{Tells, LeastRelated, BlocksWritten, Moved, TakenOver, ProductsTogether};
 ghost use Rattle.rounds.specs.Rounds.{RoundDone, RoundsSettled};
-
-// The idempotent power of an element of a lawful table.
-fn settled(rule: &[u8], n: usize, k: usize, z: usize) -> usize
-    requires { ⌜ Table (now rule) n k ⌝ }
-    requires { ⌜ Lawful (morphismAt (now rule) n k) ⌝ }
-    requires { ⌜ z < n ⌝ }
-    ensures { λ r. ⌜ r ≡ settled-cycle (morphismAt (now (rule .entry)) n k) z ⌝ }
-{
-    match idempotent_power(rule, n, k, z) {
-        Power::Idempotent {
-            element,
-            exponent: _,
-        } => {
-            return element;
-        }
-        Power::Nothing => {
-            return z;
-        }
-    }
-}
-
-// Whether the table of marks has the pair (s·f, f), as a number.
-fn outcome(rule: &[u8], n: usize, k: usize, scratch: &[u8], s: usize, f: usize) -> u8
-    requires { ⌜ Table (now rule) n k ⌝ }
-    requires { ⌜ (s < n) × (f < n) ⌝ }
-    requires { ⌜ 65536 ≤ length (now scratch) ⌝ }
-    ensures { λ r. ⌜ r ≡ bit (pairsFrom (now (scratch .entry)) 4096 (productAt (now (rule .entry)) n s f) f) ⌝ }
-{
-    let t = product(rule, n, s, f);
-    if 0 < scratch[4096 + (t * 64 + f)] {
-        return 1;
-    }
-    0
-}
-
-// The outcomes of all values with z for the cycle.
-fn outcome_column(rule: &[u8], n: usize, k: usize, scratch: &mut [u8], z: usize)
-    requires { ⌜ Table (now rule) n k ⌝ }
-    requires { ⌜ Lawful (morphismAt (now rule) n k) ⌝ }
-    requires { ⌜ z < n ⌝ }
-    requires { ⌜ 65536 ≤ length (now scratch) ⌝ }
-    ensures { λ r. ⌜ ColumnWritten (morphismAt (now (rule .entry)) n k) z n (now (scratch .entry)) (now (scratch .exit)) ⌝ }
-{
-    let f = settled(rule, n, k, z);
-    for s in 0..n {
-        let found = outcome(rule, n, k, scratch, s, f);
-        scratch[8192 + (s * 64 + z)] = found;
-    }
-}
-
-// The outcomes of all values.
-fn outcomes(rule: &[u8], n: usize, k: usize, scratch: &mut [u8])
-    requires { ⌜ Table (now rule) n k ⌝ }
-    requires { ⌜ Lawful (morphismAt (now rule) n k) ⌝ }
-    requires { ⌜ 65536 ≤ length (now scratch) ⌝ }
-    ensures { λ r. ⌜ OutcomesWritten (morphismAt (now (rule .entry)) n k) n (now (scratch .entry)) (now (scratch .exit)) ⌝ }
-{
-    for z in 0..n {
-        outcome_column(rule, n, k, scratch, z);
-    }
-}
-
-// The outcome of the values (s, z), read.
-fn outcome_at(scratch: &[u8], s: usize, z: usize) -> u8
-    requires { ⌜ (s < 64) × (z < 64) ⌝ }
-    requires { ⌜ 65536 ≤ length (now scratch) ⌝ }
-    ensures { λ r. ⌜ r ≡ outcomeAt (now (scratch .entry)) s z ⌝ }
-{
-    scratch[8192 + (s * 64 + z)]
-}
-
-// Whether two elements have the same outcomes, as start and as cycle.
-fn same_outcomes(rule: &[u8], n: usize, k: usize, scratch: &[u8], s: usize, t: usize) -> bool
-    requires { ⌜ Table (now rule) n k ⌝ }
-    requires { ⌜ (s < n) × (t < n) ⌝ }
-    requires { ⌜ 65536 ≤ length (now scratch) ⌝ }
-    ensures { λ r. ⌜ Tells (SameOutcomes (morphismAt (now (rule .entry)) n k) (outcomeAt (now (scratch .entry))) s t) r ⌝ }
-{
-    for z in 0..n {
-        if outcome_at(scratch, s, z) != outcome_at(scratch, t, z) {
-            return false;
-        }
-        if outcome_at(scratch, z, s) != outcome_at(scratch, z, t) {
-            return false;
-        }
-    }
-    true
-}
-
-// The least element with the same outcomes as s.
-fn first_alike(rule: &[u8], n: usize, k: usize, scratch: &[u8], s: usize) -> usize
-    requires { ⌜ Table (now rule) n k ⌝ }
-    requires { ⌜ s < n ⌝ }
-    requires { ⌜ 65536 ≤ length (now scratch) ⌝ }
-    ensures { λ r. ⌜ LeastRelated (SameOutcomes (morphismAt (now (rule .entry)) n k) (outcomeAt (now (scratch .entry)))) s r ⌝ }
-{
-    for t in 0..s {
-        if same_outcomes(rule, n, k, scratch, t, s) {
-            return t;
-        }
-    }
-    s
-}
-
-// The blocks of round 0.
-fn first_blocks(rule: &[u8], n: usize, k: usize, scratch: &mut [u8])
-    requires { ⌜ Table (now rule) n k ⌝ }
-    requires { ⌜ 65536 ≤ length (now scratch) ⌝ }
-    ensures { λ r. ⌜ BlocksWritten n (Together (morphismAt (now (rule .entry)) n k) (outcomeAt (now (scratch .entry))) 0) 12288 (now (scratch .entry)) (now (scratch .exit)) ⌝ }
-{
-    for s in 0..n {
-        let t = first_alike(rule, n, k, scratch, s);
-        scratch[12288 + s] = t as u8;
-    }
-}
 
 // Whether the products of two elements with a letter, on the right and on the left, are in one block.
 fn products_together(

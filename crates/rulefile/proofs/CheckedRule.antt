@@ -17,7 +17,7 @@ use Rattle.rulefile.specs.GoodRule.{GoodRule}
 use Rattle.rulefile.proofs.Passed.{layout-as, letters-some, marks-small, end-inside, table-of}
 use Rattle.rulefile.proofs.TablePassed.{table-associates, table-reached}
 use Rattle.rulefile.proofs.MarksPassed.{passed-marks, marking-linked}
-use Rattle.rulefile.proofs.MarkOrder.{GoodMarks}
+use Rattle.markchecks.proofs.MarkOrder.{GoodMarks}
 
 module _ (input : ℕ) (bytes : List ℕ) (all : FirstFailure (ruleChecks input bytes) passed) where
   -- its sections pass, as those of a first input

@@ -13,9 +13,10 @@ use Rattle.format.specs.Format.{elementsOf, lettersAt, marksAt, marksOf, ruleEn
 use Rattle.format.specs.RuleChecks.{layoutChecks, tableChecks, markChecks, powerChecks}
 use Rattle.layout.specs.declared.Shape.{Shape}
 use Rattle.layout.specs.Answers.{LayoutPassed}
-use Rattle.rulefile.specs.declared.Fault.{Fault}
-use Rattle.rulefile.specs.declared.Fault.the-variants.{Nothing, Refused}
-use Rattle.rulefile.specs.Answers.{FaultAnswer, MarksRoom, MarksLaid, marksAmong, MarksAnswer, ContentAnswer, Blank}
+use Rattle.markchecks.specs.declared.Fault.{Fault}
+use Rattle.markchecks.specs.declared.Fault.the-variants.{Nothing, Refused}
+use Rattle.markchecks.specs.Faults.{FaultAnswer, MarksRoom, MarksLaid, marksAmong, MarksAnswer}
+use Rattle.rulefile.specs.Answers.{ContentAnswer, Blank}
 use Rattle.rulefile.proofs.Passed.{size-small, letters-small, marks-small, end-inside, table-of, starts-below, cycles-below}
 
 module _ (bytes : List ℕ) (shape : Shape) (p : LayoutPassed bytes shape) where

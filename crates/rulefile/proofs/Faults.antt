@@ -21,9 +21,10 @@ use Rattle.reach.specs.Reach.{Empty, WordOrder, WithoutAnswer, placeAt}
 use Rattle.reach.proofs.Words.{first-unreached, none-without-absurd}
 use Rattle.format.specs.Format.{marksAt, marksOf, ruleEnd, morphismOf}
 use Rattle.format.specs.RuleChecks.{trailingCheck, tableChecks, markChecks, powerChecks, contentChecks}
-use Rattle.rulefile.specs.declared.Fault.{Fault}
-use Rattle.rulefile.specs.declared.Fault.the-variants.{Nothing as No-fault, Refused}
-use Rattle.rulefile.specs.Answers.{FaultAnswer, reachChecks}
+use Rattle.markchecks.specs.declared.Fault.{Fault}
+use Rattle.markchecks.specs.declared.Fault.the-variants.{Nothing as No-fault, Refused}
+use Rattle.markchecks.specs.Faults.{FaultAnswer}
+use Rattle.rulefile.specs.Answers.{reachChecks}
 
 -- a fresh queue has nothing found
 pub blank-queue : Empty (replicate 256 0)

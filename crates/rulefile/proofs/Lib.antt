@@ -1,5 +1,3 @@
-pub mod MarkOrder
-pub mod Laid
 pub mod Settling
 pub mod Passed
 pub mod TablePassed

@@ -18,8 +18,8 @@ use Rattle.theory.proofs.Closure.{linked-test, linked-intro, linked-elim}
 use Rattle.sections.specs.Sections.{twoBytes}
 use Rattle.format.specs.Format.{markStart, markCycle, isMark, oneIf, marksIn}
 use Rattle.format.specs.RuleChecks.{markChecks}
-use Rattle.rulefile.proofs.Laid.{is-mark-elim}
-use Rattle.rulefile.proofs.MarkOrder.{GoodMark, GoodMarks}
+use Rattle.markchecks.proofs.Laid.{is-mark-elim}
+use Rattle.markchecks.proofs.MarkOrder.{GoodMark, GoodMarks}
 
 module _ {m : Morphism} {bytes : List ℕ} {at : ℕ} where
   -- a mark that passes 7 and 8 is linked and new

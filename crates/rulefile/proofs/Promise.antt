@@ -15,10 +15,11 @@ use Rattle.layout.specs.declared.Shape.{Shape}
 use Rattle.layout.specs.declared.Layout.{Layout}
 use Rattle.layout.specs.declared.Layout.the-variants.{Read, Refused as Layout-refused}
 use Rattle.layout.specs.Answers.{LayoutAnswer, LayoutPassed}
-use Rattle.rulefile.specs.declared.Fault.{Fault}
-use Rattle.rulefile.specs.declared.Fault.the-variants.{Nothing, Refused as Fault-refused}
+use Rattle.markchecks.specs.declared.Fault.{Fault}
+use Rattle.markchecks.specs.declared.Fault.the-variants.{Nothing, Refused as Fault-refused}
 use Rattle.rulefile.specs.declared.Checked.the-variants.{Rule, Refused}
-use Rattle.rulefile.specs.Answers.{afterCall, MarksLaid, Blank, ContentAnswer, CheckPromise, checkedChecks}
+use Rattle.markchecks.specs.Faults.{MarksLaid}
+use Rattle.rulefile.specs.Answers.{afterCall, Blank, ContentAnswer, CheckPromise, checkedChecks}
 
 -- a short scratch is left as it came
 pub short-scratch : (input : ℕ) (bytes scratch : List ℕ) → length scratch < scratchSize → CheckPromise input bytes scratch scratch (Refused BufferTooShort 1 0)

@@ -4,6 +4,8 @@ use answer::Refusal;
 use layout::Layout;
 use layout::Shape;
 use layout::read_layout;
+use markchecks::Fault;
+use markchecks::mark_fault;
 use reach::least_without;
 use reach::reach;
 use sections::Found;
@@ -12,21 +14,15 @@ use table::Power;
 use table::Triple;
 use table::first_not_associative;
 use table::idempotent_power;
-use table::product;
 ghost use mathlib.Core.Path.{_≡_};
 ghost use Prim.Native.Nat.{_<_, _≤_};
 ghost use lib.ListN.{length, drop};
 ghost use Rattle.table.specs.Table.{Table, morphismAt};
 ghost use Rattle.table.specs.Answers.{AllAssociate};
-ghost use Rattle.format.specs.RuleChecks.{tableChecks, markChecks, powerChecks, contentChecks};
+ghost use Rattle.format.specs.RuleChecks.{tableChecks, powerChecks, contentChecks};
 ghost use Rattle.layout.specs.Answers.{LayoutPassed};
-ghost use Rattle.rulefile.specs.Answers.{FaultAnswer, LinkedAnswer, MarksRoom, MarksAnswer, reachChecks, Blank, ContentAnswer, CheckPromise, InspectPromise};
-
-// The first check that fails, of some that are tried in a row.
-pub enum Fault {
-    Nothing,
-    Refused { refusal: Refusal, place: usize },
-}
+ghost use Rattle.markchecks.specs.Faults.{FaultAnswer};
+ghost use Rattle.rulefile.specs.Answers.{reachChecks, Blank, ContentAnswer, CheckPromise, InspectPromise};
 
 // Whether every element is some word's value.
 fn reach_fault(rule: &[u8], n: usize, k: usize) -> Fault
@@ -57,60 +53,6 @@ fn table_fault(rule: &[u8], n: usize, k: usize) -> Fault
         },
         Triple::Nothing => reach_fault(rule, n, k),
     }
-}
-
-// Whether a pair of elements is linked.
-pub fn linked(rule: &[u8], n: usize, k: usize, s: usize, e: usize) -> bool
-    requires { ⌜ Table (now rule) n k ⌝ }
-    requires { ⌜ (s < n) × (e < n) ⌝ }
-    ensures { λ r. ⌜ LinkedAnswer (morphismAt (now (rule .entry)) n k) s e r ⌝ }
-{
-    let square = product(rule, n, e, e);
-    if square != e {
-        return false;
-    }
-    let kept = product(rule, n, s, e);
-    if kept != s {
-        return false;
-    }
-    true
-}
-
-// Goes through the marks of the section at byte `at`, in file order: each is linked and new. A byte of the table for each pair
-// remembers which pairs have stood.
-pub fn mark_fault(
-    rule: &[u8],
-    n: usize,
-    k: usize,
-    bytes: &[u8],
-    at: usize,
-    count: usize,
-    table: &mut [u8],
-) -> Fault
-    requires { ⌜ Table (now rule) n k ⌝ }
-    requires { ⌜ MarksRoom (now bytes) at count n (now table) ⌝ }
-    ensures verdict { λ r. ⌜ FaultAnswer (λ input. markChecks input (morphismAt (now (rule .entry)) n k) (now (bytes .entry)) at 0 count) r ⌝ }
-    ensures laid { λ r. ⌜ MarksAnswer (morphismAt (now (rule .entry)) n k) (now (bytes .entry)) at count (now (table .entry)) (now (table .exit)) r ⌝ }
-{
-    for i in 0..count {
-        let place = at + (2 + 2 * i);
-        let s = bytes[place] as usize;
-        let e = bytes[place + 1] as usize;
-        if !linked(rule, n, k, s, e) {
-            return Fault::Refused {
-                refusal: Refusal::NotLinked,
-                place,
-            };
-        }
-        if table[s * 64 + e] != 0 {
-            return Fault::Refused {
-                refusal: Refusal::Duplicate,
-                place,
-            };
-        }
-        table[s * 64 + e] = 1;
-    }
-    Fault::Nothing
 }
 
 // Whether each element has an idempotent power with an exponent up to n.

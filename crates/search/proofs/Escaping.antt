@@ -11,14 +11,14 @@ use Rattle.theory.specs.Rules.{Morphism, Lawful, Pairs}
 use Rattle.theory.proofs.Escapes.{Escapes}
 use Rattle.scratch.specs.Map.{pairsFrom}
 use Rattle.scratch.specs.Preimages.{Preimages, KeptBut, PreimagesListed}
-use Rattle.search.specs.Queue.{seenAt, Kept}
+use Rattle.searchlist.specs.Queue.{seenAt, Kept}
 use Rattle.search.specs.Search.{Stands, SearchPlace, Searched, AllPlace, EscapePlace, Escaped}
 use Rattle.search.specs.declared.Ended.{Ended}
 use Rattle.search.specs.declared.Ended.the-variants.{At, Nothing}
 use Rattle.search.specs.declared.Escape.{Escape}
 use Rattle.search.specs.declared.Escape.the-variants.{At as Escape-at, Nothing as No-escape}
-use Rattle.search.proofs.Growth.{kept-refl, kept-trans}
-use Rattle.search.proofs.Taking.{preimages-kept}
+use Rattle.searchlist.proofs.Growth.{kept-refl, kept-trans}
+use Rattle.searchlist.proofs.Taking.{preimages-kept}
 
 -- a set of pairs that stands in a table in front of the worklist stays there
 pub stands-kept : {n : ℕ} {P : Pairs} {entry exit : List ℕ} (base : ℕ) → n ≤ 64 → base ≤ 4096 → ((i : ℕ) → i < 8192 → getD exit i 0 ≡ getD entry i 0)

@@ -1,8 +1,3 @@
-pub mod Storing
-pub mod Growth
-pub mod Values
-pub mod Beginning
-pub mod Taking
 pub mod Visiting
 pub mod Meeting
 pub mod Searching

@@ -20,10 +20,10 @@ use Rattle.theory.proofs.Splits.{turn-square}
 use Rattle.theory.proofs.Escapes.{Escapes, State, Begins, Moves, split-state, escapes-reached}
 use Rattle.scratch.specs.Map.{pairsFrom}
 use Rattle.scratch.specs.Preimages.{afterLetter}
-use Rattle.search.specs.Queue.{frontAt, backAt, letterAt, parentAt, Queue, HasState}
-use Rattle.search.specs.Steps.{beforeLetter, Takes, splitMarked}
+use Rattle.searchlist.specs.Queue.{frontAt, backAt, letterAt, parentAt, Queue, HasState}
+use Rattle.searchlist.specs.Steps.{beforeLetter, Takes, splitMarked}
 use Rattle.search.specs.Search.{Stands, Source, a-start, a-step, Entries, Tried}
-use Rattle.search.proofs.Values.{before-element, before-none, turned-element, turned-none}
+use Rattle.searchlist.proofs.Values.{before-element, before-none, turned-element, turned-none}
 
 -- the state of an entry
 unfoldable pub stateAt : ℕ → List ℕ → ℕ → State

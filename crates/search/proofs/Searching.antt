@@ -13,14 +13,14 @@ use Rattle.theory.specs.Rules.{Morphism, Lawful, Pairs}
 use Rattle.theory.proofs.Escapes.{Escapes}
 use Rattle.scratch.specs.Map.{pairsFrom}
 use Rattle.scratch.specs.Preimages.{afterLetter, Preimages}
-use Rattle.search.specs.Queue.{frontAt, backAt, letterAt, parentAt, seenAt, Queue, HasState, Kept, SameEntry, Grown}
-use Rattle.search.specs.Steps.{BeginPlace, Begun, ExpandPlace, beforeLetter, FoundFrom, Takes, splitMarked, Visited}
+use Rattle.searchlist.specs.Queue.{frontAt, backAt, letterAt, parentAt, seenAt, Queue, HasState, Kept, SameEntry, Grown}
+use Rattle.searchlist.specs.Steps.{BeginPlace, Begun, ExpandPlace, beforeLetter, FoundFrom, Takes, splitMarked, Visited}
 use Rattle.search.specs.Search.{Stands, Source, a-start, a-step, Entries, EndedAt, Tried, Searching, SearchPlace, RunPlace, Searched}
 use Rattle.search.specs.declared.Ended.{Ended}
 use Rattle.search.specs.declared.Ended.the-variants.{At, Nothing}
-use Rattle.search.proofs.Growth.{kept-refl, kept-trans, grown-trans, state-grown, queue-few}
-use Rattle.search.proofs.Beginning.{queue-none, pairs-kept}
-use Rattle.search.proofs.Taking.{preimages-kept}
+use Rattle.searchlist.proofs.Growth.{kept-refl, kept-trans, grown-trans, state-grown, queue-few}
+use Rattle.searchlist.proofs.Beginning.{queue-none, pairs-kept}
+use Rattle.searchlist.proofs.Taking.{preimages-kept}
 use Rattle.search.proofs.Meeting.{no-escape, split-inside, entries-as}
 
 -- a source stays one while entries are added

@@ -7,9 +7,9 @@ use native.Mathlib.Omega.{arith}
 use lib.ListN.{length, getD}
 use lib.Dec.{T}
 use Rattle.theory.specs.Rules.{Morphism, Pairs}
-use Rattle.search.specs.Queue.{frontAt, backAt}
-use Rattle.search.specs.Steps.{ExpandPlace, Expanded, splitMarked, Visited}
-use Rattle.search.proofs.Taking.{found-none}
+use Rattle.searchlist.specs.Queue.{frontAt, backAt}
+use Rattle.searchlist.specs.Steps.{ExpandPlace, Expanded, splitMarked, Visited}
+use Rattle.searchlist.proofs.Taking.{found-none}
 
 module _ {m : Morphism} {s : ℕ} {entry : List ℕ} {count from : ℕ} (P : Pairs) (place : ExpandPlace m s entry count from) {b : Bool}
     (answer : b ≡ splitMarked m P s (getD entry (8192 + from) 0) (getD entry (16384 + from) 0)) where

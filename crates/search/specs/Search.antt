@@ -8,8 +8,8 @@ use Rattle.theory.specs.Rules.{Morphism, Lawful, Pairs}
 use Rattle.theory.proofs.Escapes.{Escapes}
 use Rattle.scratch.specs.Map.{pairsFrom}
 use Rattle.scratch.specs.Preimages.{afterLetter, Preimages, PreimagesRoom}
-use Rattle.search.specs.Queue.{frontAt, backAt, letterAt, parentAt, seenAt, Queue, HasState, Kept, Grown}
-use Rattle.search.specs.Steps.{beforeLetter, Takes, splitMarked}
+use Rattle.searchlist.specs.Queue.{frontAt, backAt, letterAt, parentAt, seenAt, Queue, HasState, Kept, Grown}
+use Rattle.searchlist.specs.Steps.{beforeLetter, Takes, splitMarked}
 use Rattle.search.specs.declared.Escape.{Escape}
 use Rattle.search.specs.declared.Escape.the-variants.{At as Escape-at, Nothing as No-escape}
 use Rattle.search.specs.declared.Ended.{Ended}

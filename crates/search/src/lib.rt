@@ -5,7 +5,8 @@
 // The worklist stands in scratch, as scratch/specs/Map says: fronts from 8192, backs from 16384, letters from 24576, parents
 // from 32768 (low byte) and 40960 (high byte), and from 49152 a byte for each state.
 use preimages::list_preimages;
-use table::image;
+use searchlist::begin;
+use searchlist::expand;
 use table::product;
 ghost use mathlib.Core.Path.{_≡_};
 ghost use Prim.Native.Nat.{_≤_, _<_};
@@ -14,133 +15,8 @@ ghost use Rattle.table.specs.Table.{Table, morphismAt};
 ghost use Rattle.theory.proofs.Codes.{value-at};
 ghost use Rattle.theory.proofs.Turns.{turned};
 ghost use Rattle.scratch.specs.Map.{pairsFrom};
-ghost use Rattle.search.specs.Queue.{Queue};
-ghost use Rattle.search.specs.Steps.{StorePlace, Stored, AddPlace, Added, BeginPlace, BegunWith, Begun, beforeLetter, ExpandPlace, Taken, Expanded, splitMarked, Visited};
+ghost use Rattle.searchlist.specs.Steps.{ExpandPlace, splitMarked, Visited};
 ghost use Rattle.search.specs.Search.{SearchPlace, RunPlace, Searching, Searched, AllPlace, EscapePlace, Escaped};
-
-// Writes an entry of the worklist.
-fn store(scratch: &mut [u8], count: usize, x: usize, y: usize, from: usize, letter: usize)
-    requires { ⌜ StorePlace (now scratch) count x y from letter ⌝ }
-    ensures { λ r. ⌜ Stored (now (scratch .entry)) (now (scratch .exit)) count x y from letter ⌝ }
-{
-    scratch[8192 + count] = x as u8;
-    scratch[16384 + count] = y as u8;
-    scratch[24576 + count] = letter as u8;
-    scratch[32768 + count] = (from % 256) as u8;
-    scratch[40960 + count] = (from / 256) as u8;
-}
-
-// Adds a state that was found from an entry by a letter, unless it is there.
-fn add(
-    scratch: &mut [u8],
-    n: usize,
-    s: usize,
-    count: usize,
-    x: usize,
-    y: usize,
-    from: usize,
-    letter: usize,
-) -> usize
-    requires { ⌜ AddPlace n s (now scratch) count x y from letter ⌝ }
-    ensures { λ r. ⌜ Added n s (now (scratch .entry)) count x y from letter (now (scratch .exit)) r ⌝ }
-{
-    let place = 49152 + (x * 65 + y);
-    let seen = scratch[place] as usize;
-    if seen == s + 1 {
-        return count;
-    }
-    scratch[place] = (s + 1) as u8;
-    store(scratch, count, x, y, from, letter);
-    count + 1
-}
-
-// Adds the state with e in front where the pair (s, e) is marked.
-fn begin_with(scratch: &mut [u8], n: usize, s: usize, first: usize, e: usize, count: usize) -> usize
-    requires { ⌜ BeginPlace n s (now scratch) first count ⌝ }
-    requires { ⌜ e < n ⌝ }
-    ensures { λ r. ⌜ BegunWith n s (pairsFrom (now (scratch .entry)) first) e (now (scratch .entry)) count (now (scratch .exit)) r ⌝ }
-{
-    let mark = scratch[first + (s * 64 + e)];
-    if 0 < mark {
-        return add(scratch, n, s, count, e, n, 0, 0);
-    }
-    count
-}
-
-// Adds every state that the search begins with.
-fn begin(scratch: &mut [u8], n: usize, s: usize, first: usize) -> usize
-    requires { ⌜ BeginPlace n s (now scratch) first 0 ⌝ }
-    ensures { λ r. ⌜ Begun n s (pairsFrom (now (scratch .entry)) first) n (now (scratch .entry)) (now (scratch .exit)) r ⌝ }
-{
-    let mut count = 0;
-    for e in 0..n {
-        count = begin_with(scratch, n, s, first, e, count);
-    }
-    count
-}
-
-// The element of a letter and then the value with number y.
-fn back_with(rule: &[u8], n: usize, k: usize, a: usize, y: usize) -> usize
-    requires { ⌜ Table (now rule) n k ⌝ }
-    requires { ⌜ (a < k) × (y ≤ n) ⌝ }
-    ensures { λ r. ⌜ r ≡ beforeLetter (morphismAt (now (rule .entry)) n k) a y ⌝ }
-{
-    let h = image(rule, n, a);
-    if y < n {
-        return product(rule, n, h, y);
-    }
-    h
-}
-
-// Hands the letter a over: adds a state for each value that the letter takes to the front of the entry.
-fn take_letter(
-    rule: &[u8],
-    n: usize,
-    k: usize,
-    scratch: &mut [u8],
-    s: usize,
-    count: usize,
-    from: usize,
-    a: usize,
-) -> usize
-    requires { ⌜ Table (now rule) n k ⌝ }
-    requires { ⌜ ExpandPlace (morphismAt (now rule) n k) s (now scratch) count from ⌝ }
-    requires { ⌜ a < k ⌝ }
-    ensures { λ r. ⌜ Taken (morphismAt (now (rule .entry)) n k) s (now (scratch .entry)) count from a (now (scratch .exit)) r ⌝ }
-{
-    let x = scratch[8192 + from] as usize;
-    let y = scratch[16384 + from] as usize;
-    let back = back_with(rule, n, k, a, y);
-    let mut total = count;
-    let mut rest = scratch[57344 + (a * 65 + x)] as usize;
-    while 0 < rest {
-        let c = rest - 1;
-        total = add(scratch, n, s, total, c, back, from, a);
-        rest = scratch[59392 + (a * 65 + c)] as usize;
-    }
-    total
-}
-
-// Hands every letter over.
-fn expand(
-    rule: &[u8],
-    n: usize,
-    k: usize,
-    scratch: &mut [u8],
-    s: usize,
-    count: usize,
-    from: usize,
-) -> usize
-    requires { ⌜ Table (now rule) n k ⌝ }
-    requires { ⌜ ExpandPlace (morphismAt (now rule) n k) s (now scratch) count from ⌝ }
-    ensures { λ r. ⌜ Expanded (morphismAt (now (rule .entry)) n k) s (now (scratch .entry)) count from k (now (scratch .exit)) r ⌝ }
-{
-    let mut total = count;
-    for a in 0..k {
-        total = take_letter(rule, n, k, scratch, s, total, from, a);
-    }
-    total
-}
 
 // The value with number y and then the element x.
 fn turn(rule: &[u8], n: usize, k: usize, x: usize, y: usize) -> usize

@@ -17,9 +17,9 @@ use Rattle.table.specs.Table.{morphismAt}
 use Rattle.format.specs.Format.{elementsOf, lettersOf, morphismOf, marksSection, markStart, markCycle, marksIn}
 use Rattle.format.specs.RuleChecks.{trailingCheck, markChecks, secondMarksChecks}
 use Rattle.layout.specs.Answers.{SectionAnswer, SectionPassed}
-use Rattle.rulefile.specs.declared.Fault.{Fault}
-use Rattle.rulefile.specs.declared.Fault.the-variants.{Nothing, Refused}
-use Rattle.rulefile.specs.Answers.{FaultAnswer, MarksRoom, MarksLaid, MarksAnswer, marksAmong}
+use Rattle.markchecks.specs.declared.Fault.{Fault}
+use Rattle.markchecks.specs.declared.Fault.the-variants.{Nothing, Refused}
+use Rattle.markchecks.specs.Faults.{FaultAnswer, MarksRoom, MarksLaid, MarksAnswer, marksAmong}
 use Rattle.secondmarks.specs.SecondMarks.{MarksSpace, SecondAnswer}
 
 -- the section's answer, known by its case

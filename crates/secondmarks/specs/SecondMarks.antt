@@ -5,9 +5,9 @@ use mathlib.Core.Path.{_≡_}
 use mathlib.Core.List.{List}
 use lib.ListN.{length, getD}
 use Rattle.format.specs.Format.{marksIn}
-use Rattle.rulefile.specs.declared.Fault.{Fault}
-use Rattle.rulefile.specs.declared.Fault.the-variants.{Nothing, Refused}
-use Rattle.rulefile.specs.Answers.{MarksLaid}
+use Rattle.markchecks.specs.declared.Fault.{Fault}
+use Rattle.markchecks.specs.declared.Fault.the-variants.{Nothing, Refused}
+use Rattle.markchecks.specs.Faults.{MarksLaid}
 
 -- room for a byte for each pair, none marked yet
 pub record MarksSpace (table : List ℕ) : Type 0 where

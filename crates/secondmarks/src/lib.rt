@@ -2,15 +2,15 @@
 // that reads the marks of a rule file, with places that count from its own first byte.
 use answer::Refusal;
 use layout::marks_section;
-use rulefile::Fault;
-use rulefile::mark_fault;
+use markchecks::Fault;
+use markchecks::mark_fault;
 use rulefile::rest_after;
 use sections::Counted;
 ghost use mathlib.Core.Path.{_≡_};
 ghost use Rattle.table.specs.Table.{Table};
 ghost use Rattle.format.specs.Format.{elementsOf, lettersOf};
 ghost use Rattle.format.specs.RuleChecks.{secondMarksChecks};
-ghost use Rattle.rulefile.specs.Answers.{FaultAnswer};
+ghost use Rattle.markchecks.specs.Faults.{FaultAnswer};
 ghost use Rattle.secondmarks.specs.SecondMarks.{MarksSpace, SecondAnswer};
 
 // Checks the section, and lays its marks out in the blank table, a byte for each pair.

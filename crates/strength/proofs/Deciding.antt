@@ -16,7 +16,7 @@ use Rattle.scratch.specs.Map.{pairsFrom}
 use Rattle.scratch.specs.Preimages.{PreimagesRoom}
 use Rattle.closure.specs.Closure.{ClosureRoom, ClosureLaid, ClosureAnswer, ClosedAnswer}
 use Rattle.closure.proofs.Agreement.{SameOn, same-back, strong-agrees, laid-closure, closed-strong}
-use Rattle.search.specs.Queue.{seenAt}
+use Rattle.searchlist.specs.Queue.{seenAt}
 use Rattle.search.specs.Search.{Stands, EscapePlace, EscapeAnswer, Escaped}
 use Rattle.search.specs.declared.Escape.{Escape}
 use Rattle.search.specs.declared.Escape.the-variants.{At, Nothing}

@@ -11,7 +11,7 @@ use Rattle.theory.specs.Smallest.{Reduction}
 use Rattle.format.specs.Format.{morphismOf, pairsOf}
 use Rattle.format.specs.RuleChecks.{bufferCheck}
 use Rattle.rulefile.specs.Answers.{checkedChecks, RuleCounts}
-use Rattle.classes.specs.Classes.{ClassCounts}
+use Rattle.classnumbers.specs.Classes.{ClassCounts}
 use Rattle.reduction.specs.Promise.{ruleSize, ruleOf, scratchAfter}
 use Rattle.summary.specs.declared.Summary.{Summary}
 use Rattle.summary.specs.declared.Summary.the-variants.{Counts, Refused}

@@ -11,9 +11,9 @@ use Rattle.format.specs.Format.{morphismOf, pairsOf}
 use Rattle.monitor.specs.declared.Monitor.{Monitor}
 use Rattle.monitor.specs.Monitor.{noValue}
 use Rattle.monitor.specs.Promises.{monitorChecks}
-use Rattle.monitor.specs.Histories.{Action, sinceWord, beforeWord, Run}
+use Rattle.histories.specs.Histories.{Action, sinceWord, beforeWord, Run}
 use Rattle.monitor.proofs.Numbers.{value-element}
-use Rattle.monitor.proofs.Histories.{run-follows}
+use Rattle.histories.proofs.Histories.{run-follows}
 use Rattle.verdict.specs.declared.Judged.the-variants.{Accepted, NotAccepted}
 use Rattle.verdict.specs.Promise.{verdictChecks, LassoWith, VerdictPromise}
 

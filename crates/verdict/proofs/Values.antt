@@ -6,8 +6,8 @@ use Rattle.answer.specs.declared.Refusal.{Refusal}
 use Rattle.answer.specs.declared.Refusal.the-variants.{EntryOutOfRange, WordLength}
 use Rattle.answer.specs.Checks.{Check, refused, FirstFailure}
 use Rattle.answer.proofs.Order.{first-passes, first-fails}
-use Rattle.rulefile.specs.declared.Fault.{Fault}
-use Rattle.rulefile.specs.declared.Fault.the-variants.{Nothing, Refused}
+use Rattle.markchecks.specs.declared.Fault.{Fault}
+use Rattle.markchecks.specs.declared.Fault.the-variants.{Nothing, Refused}
 use Rattle.monitor.specs.declared.Monitor.{Monitor}
 use Rattle.monitor.specs.Monitor.{noValue, IsStray, StrayAt}
 use Rattle.monitor.specs.Promises.{GoodNumber}

@@ -8,8 +8,8 @@ use Rattle.answer.specs.Checks.{Check, refused, FirstFailure}
 use Rattle.theory.specs.Rules.{Morphism, Pairs}
 use Rattle.theory.specs.Acceptance.{Strong}
 use Rattle.theory.specs.Pairs.{LinkedOnly}
-use Rattle.rulefile.specs.declared.Fault.{Fault}
-use Rattle.rulefile.specs.declared.Fault.the-variants.{Nothing, Refused as Fault-refused}
+use Rattle.markchecks.specs.declared.Fault.{Fault}
+use Rattle.markchecks.specs.declared.Fault.the-variants.{Nothing, Refused as Fault-refused}
 use Rattle.search.specs.Search.{Stands}
 use Rattle.monitor.specs.declared.Monitor.{Monitor}
 use Rattle.monitor.specs.Monitor.{noValue, StrayAt}

@@ -1,9 +1,9 @@
 // The verdict of a monitor (document 01: follower's verdict): whether the rule accepts the lassos whose start has the value before
 // and whose cycle has the value since. It is for strong rules only, where those lassos are all accepted or all not.
 use answer::Refusal;
+use markchecks::Fault;
 use monitor::Monitor;
 use rulefile::Checked;
-use rulefile::Fault;
 use rulefile::check;
 use sections::zero;
 use strength::decide;

@@ -3,7 +3,7 @@ use Prim.Native.Nat.{ℕ, _+_, _-_, _≤_}
 use mathlib.Core.Path.{_≡_, sym, subst, subst₂}
 use mathlib.Core.Logic.{⊎-elim}
 use native.Mathlib.Omega.{arith}
-use Rattle.classes.specs.Cells.{CellCounts}
+use Rattle.classnumbers.specs.Cells.{CellCounts}
 use Rattle.classes.proofs.Counting.{counts-none, counts-own, counts-linked, counts-other, counted-le}
 use Rattle.classes.proofs.count.Statement.{statement}
 use Rattle.classes.proofs.count.Tie as tie

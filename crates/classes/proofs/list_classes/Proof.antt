@@ -5,7 +5,7 @@ use native.Mathlib.Omega.{arith}
 use borrow.Author.Needs.{needs}
 use Rattle.theory.specs.Rules.{Lawful}
 use Rattle.table.specs.Table.{Table, morphismAt}
-use Rattle.classes.proofs.Bytes.{pairs-small}
+use Rattle.classnumbers.proofs.Bytes.{pairs-small}
 use Rattle.classes.proofs.Listing.{out-short, listed-refused, listed-table, listed-lawful, listed-counts}
 use Rattle.classes.proofs.list_classes.Statement.{statement}
 use Rattle.classes.proofs.list_classes.Tie as tie

@@ -4,9 +4,9 @@ use mathlib.Core.Path.{_≡_, _∙_, subst}
 use native.Mathlib.Omega.{arith}
 use native.Mathlib.Nat.{zero-mul}
 use Rattle.table.specs.Table.{morphismAt}
-use Rattle.classes.specs.Cells.{Advanced}
-use Rattle.classes.proofs.Bytes.{pairs-small, kept-none}
-use Rattle.classes.proofs.Passes.{advanced-both, advanced-row, advanced-all}
+use Rattle.classnumbers.specs.Cells.{Advanced}
+use Rattle.classnumbers.proofs.Bytes.{pairs-small, kept-none}
+use Rattle.classnumbers.proofs.Passes.{advanced-both, advanced-row, advanced-all}
 use Rattle.classes.proofs.write_classes.Statement.{statement}
 use Rattle.classes.proofs.write_classes.Tie as tie
 

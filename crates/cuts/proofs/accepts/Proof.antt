@@ -4,7 +4,7 @@ use native.Mathlib.Omega.{arith}
 use borrow.Author.Needs.{needs}
 use Rattle.table.specs.Table.{morphismAt}
 use Rattle.theory.proofs.Values.{inside-of}
-use Rattle.cuts.proofs.Cutting.{BothTables, both-tables, cut-values, membership}
+use Rattle.turns.proofs.Cutting.{BothTables, both-tables, cut-values, membership}
 use Rattle.cuts.proofs.accepts.Statement.{statement}
 use Rattle.cuts.proofs.accepts.Tie as tie
 

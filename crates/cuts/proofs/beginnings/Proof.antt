@@ -6,7 +6,7 @@ use native.Mathlib.Omega.{arith}
 use lib.ListN.{length}
 use mir.Facts.{fits-8-64}
 use Rattle.table.proofs.Facts.{table-place}
-use Rattle.cuts.specs.Cuts.{KeptAround}
+use Rattle.turns.specs.Cuts.{KeptAround}
 use Rattle.cuts.proofs.Passes.{letter-place, letter-inside, begun-inside}
 use Rattle.cuts.proofs.Tables.{BeginningsTo, beginnings-start, beginnings-next, beginnings-values, beginnings-others}
 use Rattle.cuts.proofs.beginnings.Statement.{statement}

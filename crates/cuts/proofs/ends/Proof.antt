@@ -5,7 +5,7 @@ use native.Mathlib.Omega.{arith}
 use lib.ListN.{length}
 use mir.Facts.{fits-8-64}
 use Rattle.table.proofs.Facts.{table-place}
-use Rattle.cuts.specs.Cuts.{KeptAround}
+use Rattle.turns.specs.Cuts.{KeptAround}
 use Rattle.cuts.proofs.Passes.{letter-place, letter-inside, ended-inside}
 use Rattle.cuts.proofs.Tables.{EndsFrom, ends-start, ends-next, ends-values, ends-others}
 use Rattle.cuts.proofs.ends.Statement.{statement}

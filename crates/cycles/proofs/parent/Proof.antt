@@ -3,7 +3,7 @@ use mathlib.Core.Path.{refl}
 use native.Mathlib.Omega.{arith}
 use mir.Facts.{fits-8-64}
 use borrow.Author.Needs.{needs}
-use Rattle.search.specs.Queue.{parentAt}
+use Rattle.searchlist.specs.Queue.{parentAt}
 use Rattle.cycles.proofs.parent.Statement.{statement}
 use Rattle.cycles.proofs.parent.Tie as tie
 

@@ -2,7 +2,7 @@
 use Prim.Native.Nat.{_-_, _≤_}
 use borrow.Author.Needs.{needs}
 use Rattle.matrices.specs.Bytes.{letterEntry}
-use Rattle.matrices.proofs.Rows.{RowsOf, rows-none, rows-more}
+use Rattle.matrixproducts.proofs.Rows.{RowsOf, rows-none, rows-more}
 use Rattle.matrices.proofs.Letters.{letter-filled}
 use Rattle.matrices.proofs.letter_matrix.Statement.{statement}
 use Rattle.matrices.proofs.letter_matrix.Tie as tie

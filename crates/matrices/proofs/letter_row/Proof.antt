@@ -1,9 +1,9 @@
 -- The loop holds that the first q entries of the row are those of the letter's matrix. Assumes nothing.
 use Prim.Native.Nat.{_-_, _≤_}
 use borrow.Author.Needs.{needs}
-use Rattle.matrices.specs.Arrays.{RowOf}
+use Rattle.matrixproducts.specs.Arrays.{RowOf}
 use Rattle.matrices.specs.Bytes.{letterEntry}
-use Rattle.matrices.proofs.Rows.{row-none, row-more, row-all}
+use Rattle.matrixproducts.proofs.Rows.{row-none, row-more, row-all}
 use Rattle.matrices.proofs.Letters.{entry-place}
 use Rattle.matrices.proofs.letter_row.Statement.{statement}
 use Rattle.matrices.proofs.letter_row.Tie as tie

@@ -2,7 +2,7 @@
 use Prim.Native.Nat.{_-_, _≤_}
 use borrow.Author.Needs.{needs}
 use Rattle.matrices.specs.Bytes.{matrixFrom}
-use Rattle.matrices.proofs.Rows.{RowsOf, rows-none, rows-more}
+use Rattle.matrixproducts.proofs.Rows.{RowsOf, rows-none, rows-more}
 use Rattle.matrices.proofs.Storing.{row-room, row-loaded, loaded}
 use Rattle.matrices.proofs.load_matrix.Statement.{statement}
 use Rattle.matrices.proofs.load_matrix.Tie as tie

@@ -2,9 +2,9 @@
 use Prim.Native.Nat.{_-_, _≤_}
 use mathlib.Core.Path.{refl}
 use borrow.Author.Needs.{needs}
-use Rattle.matrices.specs.Arrays.{RowOf}
+use Rattle.matrixproducts.specs.Arrays.{RowOf}
 use Rattle.matrices.specs.Bytes.{bytesFrom}
-use Rattle.matrices.proofs.Rows.{row-none, row-more, row-all}
+use Rattle.matrixproducts.proofs.Rows.{row-none, row-more, row-all}
 use Rattle.matrices.proofs.load_row.Statement.{statement}
 use Rattle.matrices.proofs.load_row.Tie as tie
 

@@ -3,7 +3,7 @@ use Prim.Native.Nat.{_-_, _≤_}
 use native.Mathlib.Omega.{arith}
 use Rattle.numbering.specs.Steps.{Numbered}
 use Rattle.numbering.proofs.Steps.{numbered-none, numbered-more, numbered-all}
-use Rattle.rounds.proofs.Bytes.{kept-room}
+use Rattle.firstround.proofs.Bytes.{kept-room}
 use Rattle.numbering.proofs.number_elements.Statement.{statement}
 use Rattle.numbering.proofs.number_elements.Tie as tie
 

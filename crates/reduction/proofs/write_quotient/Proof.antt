@@ -1,7 +1,7 @@
 -- `reduction::write_quotient` meets its contract: the tables are laid out one after the other, and then written. Assumes nothing.
 use mathlib.Core.Path.{_∙_}
 use borrow.Author.Needs.{needs}
-use Rattle.rounds.proofs.Bytes.{kept-room}
+use Rattle.firstround.proofs.Bytes.{kept-room}
 use Rattle.reduction.proofs.Laid.{images-place, marks-place, quotient-written}
 use Rattle.reduction.proofs.write_quotient.Statement.{statement}
 use Rattle.reduction.proofs.write_quotient.Tie as tie

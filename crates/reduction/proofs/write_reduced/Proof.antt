@@ -1,7 +1,7 @@
 -- `reduction::write_reduced` meets its contract: the rounds, the numbers of the blocks, and the rule of the blocks. Assumes nothing.
 use mathlib.Core.Path.{_∙_}
 use borrow.Author.Needs.{needs}
-use Rattle.rounds.proofs.Bytes.{kept-room}
+use Rattle.firstround.proofs.Bytes.{kept-room}
 use Rattle.reduction.proofs.Reducing.{quotient-place, reduced-written}
 use Rattle.reduction.proofs.write_reduced.Statement.{statement}
 use Rattle.reduction.proofs.write_reduced.Tie as tie

@@ -3,9 +3,9 @@ use Prim.Native.Nat.{_-_}
 use native.Mathlib.Omega.{arith}
 use Rattle.table.specs.Table.{morphismAt}
 use Rattle.minimality.specs.Rounds.{StillTogether}
-use Rattle.rounds.specs.Map.{InOneBlock}
-use Rattle.rounds.proofs.BlockBytes.{NoneBelow, none-start, none-next, none-found, none-all}
-use Rattle.rounds.proofs.Products.{still-refl}
+use Rattle.firstround.specs.Map.{InOneBlock}
+use Rattle.firstround.proofs.BlockBytes.{NoneBelow, none-start, none-next, none-found, none-all}
+use Rattle.firstround.proofs.Products.{still-refl}
 use Rattle.rounds.proofs.first_kept.Statement.{statement}
 use Rattle.rounds.proofs.first_kept.Tie as tie
 

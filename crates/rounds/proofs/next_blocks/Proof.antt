@@ -3,11 +3,11 @@ use Prim.Native.Nat.{_-_}
 use native.Mathlib.Omega.{arith}
 use Rattle.table.specs.Table.{morphismAt}
 use Rattle.minimality.specs.Rounds.{StillTogether}
-use Rattle.rounds.specs.Map.{InOneBlock}
-use Rattle.rounds.specs.Steps.{BlocksWritten}
-use Rattle.rounds.proofs.Bytes.{kept-room}
-use Rattle.rounds.proofs.BlockBytes.{written-none, written-all}
-use Rattle.rounds.proofs.Writing.{next-more}
+use Rattle.firstround.specs.Map.{InOneBlock}
+use Rattle.firstround.specs.Steps.{BlocksWritten}
+use Rattle.firstround.proofs.Bytes.{kept-room}
+use Rattle.firstround.proofs.BlockBytes.{written-none, written-all}
+use Rattle.firstround.proofs.Writing.{next-more}
 use Rattle.rounds.proofs.next_blocks.Statement.{statement}
 use Rattle.rounds.proofs.next_blocks.Tie as tie
 

@@ -3,7 +3,7 @@ use Prim.Native.Nat.{_<_}
 use native.Mathlib.Omega.{arith}
 use borrow.Author.Needs.{needs}
 use Rattle.table.proofs.Facts.{table-place, product-below}
-use Rattle.rounds.proofs.Products.{letter-below, right-apart, left-apart, both-together}
+use Rattle.firstround.proofs.Products.{letter-below, right-apart, left-apart, both-together}
 use Rattle.rounds.proofs.products_together.Statement.{statement}
 use Rattle.rounds.proofs.products_together.Tie as tie
 

@@ -4,8 +4,8 @@ use Prim.Native.Nat.{_-_}
 use mathlib.Core.Path.{_∙_}
 use native.Mathlib.Omega.{arith}
 use Rattle.table.specs.Table.{morphismAt}
-use Rattle.rounds.proofs.Bytes.{kept-room}
-use Rattle.rounds.proofs.Comparing.{not-true, not-false}
+use Rattle.firstround.proofs.Bytes.{kept-room}
+use Rattle.firstround.proofs.Comparing.{not-true, not-false}
 use Rattle.rounds.proofs.Settling.{Started, started, Running, running-start, running-bound, running-next, running-settled}
 use Rattle.rounds.proofs.settle.Statement.{statement}
 use Rattle.rounds.proofs.settle.Tie as tie

@@ -2,9 +2,9 @@
 use Prim.Native.Nat.{_-_}
 use native.Mathlib.Omega.{arith}
 use Rattle.table.specs.Table.{morphismAt}
-use Rattle.rounds.specs.Map.{InOneBlock}
-use Rattle.rounds.proofs.Comparing.{not-true, not-false}
-use Rattle.rounds.proofs.Products.{TogetherBelow, still-not, still-start, still-next, still-parted, still-all}
+use Rattle.firstround.specs.Map.{InOneBlock}
+use Rattle.firstround.proofs.Comparing.{not-true, not-false}
+use Rattle.firstround.proofs.Products.{TogetherBelow, still-not, still-start, still-next, still-parted, still-all}
 use Rattle.rounds.proofs.still_together.Statement.{statement}
 use Rattle.rounds.proofs.still_together.Tie as tie
 

@@ -1,8 +1,8 @@
 -- `rounds::take_blocks` meets its contract: the blocks that were passed are taken over. Assumes nothing.
 use Prim.Native.Nat.{_-_, _≤_}
 use native.Mathlib.Omega.{arith}
-use Rattle.rounds.specs.Steps.{TakenOver}
-use Rattle.rounds.proofs.Bytes.{kept-room}
+use Rattle.firstround.specs.Steps.{TakenOver}
+use Rattle.firstround.proofs.Bytes.{kept-room}
 use Rattle.rounds.proofs.Taking.{taken-none, taken-more, taken-all}
 use Rattle.rounds.proofs.take_blocks.Statement.{statement}
 use Rattle.rounds.proofs.take_blocks.Tie as tie

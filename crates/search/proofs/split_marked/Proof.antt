@@ -2,7 +2,7 @@
 use Prim.Native.Nat.{_<_}
 use native.Mathlib.Omega.{arith}
 use borrow.Author.Needs.{needs}
-use Rattle.search.proofs.Values.{product-inside, product-place, turned-inside, split-byte}
+use Rattle.searchlist.proofs.Values.{product-inside, product-place, turned-inside, split-byte}
 use Rattle.search.proofs.split_marked.Statement.{statement}
 use Rattle.search.proofs.split_marked.Tie as tie
 

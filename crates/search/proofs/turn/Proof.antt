@@ -2,7 +2,7 @@
 use mathlib.Core.Path.{sym, _∙_}
 use borrow.Author.Needs.{needs}
 use Rattle.table.specs.Table.{morphismAt}
-use Rattle.search.proofs.Values.{turned-element, turned-none}
+use Rattle.searchlist.proofs.Values.{turned-element, turned-none}
 use Rattle.search.proofs.turn.Statement.{statement}
 use Rattle.search.proofs.turn.Tie as tie
 

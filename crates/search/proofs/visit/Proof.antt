@@ -3,8 +3,8 @@ use native.Mathlib.Omega.{arith}
 use mir.Facts.{fits-8-64}
 use borrow.Author.Needs.{needs}
 use Rattle.scratch.specs.Map.{pairsFrom}
-use Rattle.search.specs.Queue.{frontAt, backAt}
-use Rattle.search.proofs.Growth.{queue-few}
+use Rattle.searchlist.specs.Queue.{frontAt, backAt}
+use Rattle.searchlist.proofs.Growth.{queue-few}
 use Rattle.search.proofs.Visiting.{visited-stop, visited-on}
 use Rattle.search.proofs.visit.Statement.{statement}
 use Rattle.search.proofs.visit.Tie as tie

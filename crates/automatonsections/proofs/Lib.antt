@@ -1,0 +1,3 @@
+pub mod TripleBytes
+pub mod Sectioned
+pub mod Rows

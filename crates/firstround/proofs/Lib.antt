@@ -1,0 +1,6 @@
+pub mod Bytes
+pub mod OutcomeBytes
+pub mod Comparing
+pub mod BlockBytes
+pub mod Products
+pub mod Writing

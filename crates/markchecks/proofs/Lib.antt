@@ -1,0 +1,2 @@
+pub mod MarkOrder
+pub mod Laid

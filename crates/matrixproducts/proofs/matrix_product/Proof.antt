@@ -1,0 +1,54 @@
+-- The loop holds that the first p rows are those of the product. Assumes nothing.
+use Prim.Native.Nat.{_-_, _≤_}
+use borrow.Author.Needs.{needs}
+use Rattle.buchi.proofs.Products.{product}
+use Rattle.matrixproducts.specs.Arrays.{entryIn}
+use Rattle.matrixproducts.proofs.Rows.{RowsOf, rows-none, rows-more}
+use Rattle.matrixproducts.proofs.Products.{product-filled}
+use Rattle.matrixproducts.proofs.matrix_product.Statement.{statement}
+use Rattle.matrixproducts.proofs.matrix_product.Tie as tie
+
+abbrev Inv-loop : tie.InvT-loop
+Inv-loop n left right out₀ p₀ out p = (p ≤ n) × RowsOf (product n (entryIn left) (entryIn right)) p n out
+
+abbrev μ-loop : tie.MeasureT-loop
+μ-loop n left right out₀ p₀ out p = n - p
+
+loop-holds : tie.Need-loop-holds Inv-loop μ-loop
+loop-holds c = (search needs, rows-none)
+
+product-row-requires : tie.Need-product-row-requires Inv-loop μ-loop
+product-row-requires c κs = search needs
+
+mul-out : tie.Need-mul-out Inv-loop μ-loop
+mul-out c = search needs
+
+array-set-from-out : tie.Need-array-set-from-out Inv-loop μ-loop
+array-set-from-out c = search needs
+
+add-p : tie.Need-add-p Inv-loop μ-loop
+add-p c = search needs
+
+loop-less : tie.Need-loop-less Inv-loop μ-loop
+loop-less c = search needs
+
+loop-again : tie.Need-loop-again Inv-loop μ-loop
+loop-again c = (search needs, rows-more (c .before .before .loop .inv .1) (search needs) (c .product-row .ensures))
+
+returns : tie.Need-returns Inv-loop μ-loop
+returns c = product-filled (c .before .before .pre .0) (c .before .before .pre .1 .0) (c .before .before .pre .1 .1) (c .before .loop .inv .0) (c .loop-test .left) (c .before .loop .inv .1)
+
+pub matrix-product-spec : {M : Type 1} → statement M
+matrix-product-spec =
+    tie.close
+    (tie.spec
+    Inv-loop
+    μ-loop
+    loop-holds
+    product-row-requires
+    mul-out
+    array-set-from-out
+    add-p
+    loop-less
+    loop-again
+    returns)

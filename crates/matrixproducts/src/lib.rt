@@ -1,0 +1,69 @@
+// The product of two matrices of six rows of six entries, by value: an entry is the greatest of those of all pairs (p, r) and (r, q)
+// with neither 0.
+ghost use mathlib.Core.Path.{_≡_};
+ghost use Prim.Native.Nat.{max, _≤_, _<_};
+ghost use Rattle.buchi.proofs.Products.{through, product};
+ghost use Rattle.matrixproducts.specs.Arrays.{entryIn, MatrixShape, RowOf, IsProduct};
+
+// The greater of two entries.
+pub fn greater(x: u8, y: u8) -> u8
+    ensures { λ r. ⌜ r ≡ max x y ⌝ }
+{
+    if x < y {
+        return y;
+    }
+    x
+}
+
+// The greater of two entries, 0 where one of them is 0.
+pub fn through(x: u8, y: u8) -> u8
+    ensures { λ r. ⌜ r ≡ through x y ⌝ }
+{
+    if x == 0 {
+        return 0;
+    }
+    if y == 0 {
+        return 0;
+    }
+    greater(x, y)
+}
+
+// An entry of the product.
+pub fn product_entry(n: usize, left: [[u8; 6]; 6], right: [[u8; 6]; 6], p: usize, q: usize) -> u8
+    requires { ⌜ (n ≤ 6) × (p < 6) × (q < 6) ⌝ }
+    ensures { λ r. ⌜ r ≡ product n (entryIn left) (entryIn right) p q ⌝ }
+{
+    let mut best = 0u8;
+    for r in 0..n {
+        let x = left[p][r];
+        let y = right[r][q];
+        let z = through(x, y);
+        best = greater(z, best);
+    }
+    best
+}
+
+// A row of the product.
+pub fn product_row(n: usize, left: [[u8; 6]; 6], right: [[u8; 6]; 6], p: usize) -> [u8; 6]
+    requires { ⌜ (n ≤ 6) × (p < 6) ⌝ }
+    ensures { λ r. ⌜ RowOf (product n (entryIn left) (entryIn right) p) n r ⌝ }
+{
+    let mut row = [0u8; 6];
+    for q in 0..n {
+        row[q] = product_entry(n, left, right, p, q);
+    }
+    row
+}
+
+// The product of two matrices over n states.
+pub fn matrix_product(n: usize, left: [[u8; 6]; 6], right: [[u8; 6]; 6]) -> [[u8; 6]; 6]
+    requires { ⌜ n ≤ 6 ⌝ }
+    requires { ⌜ (MatrixShape n left) × (MatrixShape n right) ⌝ }
+    ensures { λ r. ⌜ IsProduct n left right r ⌝ }
+{
+    let mut out = [[0u8; 6]; 6];
+    for p in 0..n {
+        out[p] = product_row(n, left, right, p);
+    }
+    out
+}

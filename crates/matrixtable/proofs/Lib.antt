@@ -1,0 +1,6 @@
+pub mod Filling
+pub mod Staying
+pub mod Numbers
+pub mod Tests
+pub mod Marks
+pub mod Rows

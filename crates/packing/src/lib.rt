@@ -1,0 +1,159 @@
+// Answers packed into one number of 64 bits, as specs/Packing says.
+use answer::Refusal;
+use answer::number;
+use automaton::Translated;
+use classes::Listed;
+use complement::Complemented;
+use inclusion::Inclusion;
+use lasso::Membership;
+use monitor::Moved;
+use reduction::Reduced;
+use strength::Strength;
+use verdict::Judged;
+ghost use mathlib.Core.Path.{_≡_};
+ghost use Rattle.answer.specs.Refusals.{numberOf};
+ghost use Rattle.packing.specs.Packing.{packRefusal, packFields, packListed, packStrength, packMembership, packComplemented, packInclusion, packMoved, packReduced, packTranslated, packJudged};
+
+pub fn pack_refusal(refusal: Refusal, input: usize, place: usize) -> u64
+    ensures { λ r. ⌜ r ≡ packRefusal (numberOf refusal) input place ⌝ }
+{
+    let number = number(refusal) as u64;
+    let input_byte = input as u64 % 256;
+    let place_bits = place as u64 % 281474976710656;
+    number + (256 * input_byte + 65536 * place_bits)
+}
+
+pub fn pack_fields(a: usize, b: usize, c: usize) -> u64
+    ensures { λ r. ⌜ r ≡ packFields a b c ⌝ }
+{
+    let first = a as u64 % 65536;
+    let second = b as u64 % 65536;
+    let third = c as u64 % 65536;
+    65536 * first + (4294967296 * second + 281474976710656 * third)
+}
+
+pub fn pack_listed(answer: Listed) -> u64
+    ensures { λ r. ⌜ r ≡ packListed answer ⌝ }
+{
+    match answer {
+        Listed::Counts {
+            linked,
+            classes,
+            joins,
+        } => pack_fields(linked, classes, joins),
+        Listed::Refused {
+            refusal,
+            input,
+            place,
+        } => pack_refusal(refusal, input, place),
+    }
+}
+
+pub fn pack_strength(answer: Strength) -> u64
+    ensures { λ r. ⌜ r ≡ packStrength answer ⌝ }
+{
+    match answer {
+        Strength::Strong => pack_fields(1, 0, 0),
+        Strength::Weak => pack_fields(0, 0, 0),
+        Strength::Refused {
+            refusal,
+            input,
+            place,
+        } => pack_refusal(refusal, input, place),
+    }
+}
+
+pub fn pack_membership(answer: Membership) -> u64
+    ensures { λ r. ⌜ r ≡ packMembership answer ⌝ }
+{
+    match answer {
+        Membership::Accepted => pack_fields(1, 0, 0),
+        Membership::NotAccepted => pack_fields(0, 0, 0),
+        Membership::Refused {
+            refusal,
+            input,
+            place,
+        } => pack_refusal(refusal, input, place),
+    }
+}
+
+pub fn pack_complemented(answer: Complemented) -> u64
+    ensures { λ r. ⌜ r ≡ packComplemented answer ⌝ }
+{
+    match answer {
+        Complemented::Rule(length) => pack_fields(length, 0, 0),
+        Complemented::Refused {
+            refusal,
+            input,
+            place,
+        } => pack_refusal(refusal, input, place),
+    }
+}
+
+pub fn pack_inclusion(answer: Inclusion) -> u64
+    ensures { λ r. ⌜ r ≡ packInclusion answer ⌝ }
+{
+    match answer {
+        Inclusion::Included => pack_fields(1, 0, 0),
+        Inclusion::NotIncluded { u, v } => pack_fields(0, u, v),
+        Inclusion::Refused {
+            refusal,
+            input,
+            place,
+        } => pack_refusal(refusal, input, place),
+    }
+}
+
+pub fn pack_moved(answer: Moved) -> u64
+    ensures { λ r. ⌜ r ≡ packMoved answer ⌝ }
+{
+    match answer {
+        Moved::To(m) => pack_fields(m.before, m.since, 0),
+        Moved::Refused {
+            monitor: _,
+            refusal,
+            input,
+            place,
+        } => pack_refusal(refusal, input, place),
+    }
+}
+
+pub fn pack_reduced(answer: Reduced) -> u64
+    ensures { λ r. ⌜ r ≡ packReduced answer ⌝ }
+{
+    match answer {
+        Reduced::Rule(length) => pack_fields(length, 0, 0),
+        Reduced::Refused {
+            refusal,
+            input,
+            place,
+        } => pack_refusal(refusal, input, place),
+    }
+}
+
+pub fn pack_translated(answer: Translated) -> u64
+    ensures { λ r. ⌜ r ≡ packTranslated answer ⌝ }
+{
+    match answer {
+        Translated::Rule(length) => pack_fields(length, 0, 0),
+        Translated::Refused {
+            refusal,
+            input,
+            place,
+        } => pack_refusal(refusal, input, place),
+    }
+}
+
+pub fn pack_judged(answer: Judged) -> u64
+    ensures { λ r. ⌜ r ≡ packJudged answer ⌝ }
+{
+    match answer {
+        Judged::Accepted => pack_fields(1, 0, 0),
+        Judged::NotAccepted => pack_fields(0, 0, 0),
+        Judged::Refused {
+            refusal,
+            input,
+            place,
+        } => pack_refusal(refusal, input, place),
+    }
+}

@@ -1,0 +1,5 @@
+pub mod Storing
+pub mod Growth
+pub mod Values
+pub mod Beginning
+pub mod Taking

@@ -1,0 +1,50 @@
+-- What stands in lent bytes while a lasso is tested: a marking, and the values of the beginnings and of the ends of a word; and
+-- the search of a cycle's cuts over them. Assumes nothing.
+use Prim.Native.Nat.{ℕ, suc, _+_, _*_, _≤_, _<_}
+use mathlib.Core.Path.{_≡_}
+use mathlib.Core.Bool.{Bool, cond}
+use mathlib.Core.List.{List}
+use lib.ListN.{length, getD, take, drop}
+use lib.Dec.{ltb}
+use Rattle.finite.proofs.Search.{anyBelow}
+use Rattle.theory.specs.Rules.{Morphism, Pairs, element, value}
+use Rattle.theory.proofs.Membership.{turn-test}
+
+-- the pairs that a table of bytes marks: (s, e) has a byte at s·64 + e
+unfoldable pub markedIn : List ℕ → Pairs
+markedIn bytes s e = ltb 0 (getD bytes (s * 64 + e) 0)
+
+-- byte base + j is the value of the word's first j + 1 letters
+pub record Beginnings (m : Morphism) (w bytes : List ℕ) (base : ℕ) : Type 0 where
+  pub beginning : (j : ℕ) → j < length w → value m (take (suc j) w) ≡ element (getD bytes (base + j) 0)
+
+-- byte base + j is the value of the word's letters from place j on
+pub record Ends (m : Morphism) (w bytes : List ℕ) (base : ℕ) : Type 0 where
+  pub end : (j : ℕ) → j < length w → value m (drop j w) ≡ element (getD bytes (base + j) 0)
+
+-- only the count bytes from base on may differ
+pub record KeptAround (entry exit : List ℕ) (base count : ℕ) : Type 0 where
+  pub same-length : length exit ≡ length entry
+  pub before : (i : ℕ) → i < base → getD exit i 0 ≡ getD entry i 0
+  pub after : (i : ℕ) → base + count ≤ i → getD exit i 0 ≡ getD entry i 0
+
+-- the values of the beginnings from byte 4096 on and of the ends from byte 8320 on, of a word with len letters, are elements
+pub record CutValues (bytes : List ℕ) (n len : ℕ) : Type 0 where
+  pub short : len ≤ 4224
+  pub long : 12544 ≤ length bytes
+  pub beginning-inside : (j : ℕ) → j < len → getD bytes (4096 + j) 0 < n
+  pub end-inside : (j : ℕ) → j < len → getD bytes (8320 + j) 0 < n
+
+-- the value of one turn from the cut after j + 1 letters on: that of the end behind the cut, then that of the beginning
+-- before it; behind the last letter there is no end
+unfoldable pub turnValue : Morphism → List ℕ → ℕ → ℕ → ℕ
+turnValue m bytes len j =
+    cond (ltb (j + 1) len) (m .product (getD bytes (8320 + j + 1) 0) (getD bytes (4096 + j) 0)) (getD bytes (4096 + j) 0)
+
+-- the cut after j + 1 letters passes, after a start of value s
+unfoldable pub cutAt : Morphism → Pairs → ℕ → List ℕ → ℕ → ℕ → Bool
+cutAt m P s bytes len j = turn-test m P (m .product s (getD bytes (4096 + j) 0)) (turnValue m bytes len j)
+
+-- one of the len cuts of a turn does
+unfoldable pub someCut : Morphism → Pairs → ℕ → List ℕ → ℕ → Bool
+someCut m P s bytes len = anyBelow len (cutAt m P s bytes len)
