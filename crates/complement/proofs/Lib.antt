@@ -1,3 +1,4 @@
 pub mod Complements
 pub mod Writing
 pub mod Calling
+pub mod OneAnswer

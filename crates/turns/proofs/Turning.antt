@@ -1,14 +1,17 @@
 -- The search for a marked pair among the powers of a turn's value: its invariant, and what it gives where the search ends.
 -- Assumes nothing.
-use Prim.Native.Nat.{ℕ, _+_, _≤_, _<_}
+use Prim.Native.Nat.{ℕ, suc, _+_, _%_, _≤_, _<_}
 use mathlib.Core.Path.{_≡_, sym, ap, _∙_, subst}
 use mathlib.Core.Bool.{true, false}
 use mathlib.Core.List.{List}
 use native.Mathlib.Numerals.{add-one}
+use native.Mathlib.Omega.{arith}
+use native.Mathlib.Nat.{mod-lt}
+use lib.Dec.{T}
 use Rattle.finite.proofs.Search.{anyBelow}
 use Rattle.theory.specs.Rules.{Lawful, Pairs}
-use Rattle.theory.proofs.Powers.{times, idempotent-of}
-use Rattle.theory.proofs.Membership.{turn-look, turn-test}
+use Rattle.theory.proofs.Powers.{times, idempotent-of, settling}
+use Rattle.theory.proofs.Membership.{turn-look, turn-test, past-mod}
 use Rattle.table.specs.declared.Power.{Power}
 use Rattle.table.specs.declared.Power.the-variants.{Idempotent as Idempotent-power, Nothing as No-power}
 use Rattle.table.specs.Table.{Table, productAt, morphismAt}
@@ -79,6 +82,28 @@ module _ {bytes : List ℕ} {n k : ℕ} {p r e : ℕ} where
       → true ≡ turn-test (morphismAt bytes n k) P p r
   turn-found {P} {s} {j} t h e = any-true _ j h (look-is t ∙ e) ∙ test-is t
 
-  -- all n pairs were looked at
-  pub turn-none : {P : Pairs} {s j : ℕ} → TurnLooked bytes n k P p r e s j → n ≤ j → false ≡ turn-test (morphismAt bytes n k) P p r
-  turn-none t h = any-false (t .none) h ∙ test-is t
+-- the search while it looks, with what it was handed
+pub record Looking (bytes : List ℕ) (n k : ℕ) (P : Pairs) (p r e exponent s j : ℕ) : Type 0 where
+  pub turn : TurnLooked bytes n k P p r e s j
+  pub law : Lawful (morphismAt bytes n k)
+  pub p-inside : p < n
+  pub power : LeastPower (morphismAt bytes n k) r e exponent
+
+module _ {bytes : List ℕ} {n k : ℕ} {P : Pairs} {p r e exponent s j : ℕ} (l : Looking bytes n k P p r e exponent s j) where
+  pub exponent-small : exponent ≤ n
+  exponent-small = omega (arith, l .power .is-exponent, l .power .below)
+
+  -- p·e·r^i comes again after as many as the exponent of e
+  comes-again : (i : ℕ) → turn-look (morphismAt bytes n k) P p r e i ≡ turn-look (morphismAt bytes n k) P p r e (i % suc (settling n (productAt bytes n) r))
+  unfolding turn-look
+  comes-again i = ap (λ (x : ℕ). P x e) (rw (l .turn .is-power) (past-mod (l .law) (l .p-inside) (l .turn .r-inside) i))
+
+  none-at-all : exponent ≤ j → (i : ℕ) → ¬ T (turn-look (morphismAt bytes n k) P p r e i)
+  none-at-all h i u =
+      l .turn .none .fails (i % suc (settling n (productAt bytes n) r))
+      (omega (arith, mod-lt i (let z : 0 < suc (settling n (productAt bytes n) r) = omega arith in z), least-power-is (l .law) (l .turn .r-inside) (l .power) .is-exponent))
+      (subst T (comes-again i) u)
+
+  -- every power was looked at
+  pub turn-none : exponent ≤ j → false ≡ turn-test (morphismAt bytes n k) P p r
+  turn-none h = any-false {j = n} (record { fails = λ i b. none-at-all h i }) (omega arith) ∙ test-is (l .turn)

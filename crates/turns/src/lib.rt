@@ -8,7 +8,36 @@ ghost use lib.ListN.{length};
 ghost use Rattle.theory.specs.Rules.{Lawful, element, value};
 ghost use Rattle.theory.proofs.Membership.{turn-test};
 ghost use Rattle.table.specs.Table.{Table, morphismAt};
+ghost use Rattle.table.specs.Answers.{LeastPower};
 ghost use Rattle.turns.specs.Cuts.{markedIn, CutValues, someCut};
+
+// Whether a pair (p·e·r^j, e) is marked, e the idempotent power of r. They come again after as many as the exponent of e.
+fn powers_marked(
+    rule: &[u8],
+    n: usize,
+    k: usize,
+    marks: &[u8],
+    p: usize,
+    r: usize,
+    e: usize,
+    exponent: usize,
+) -> bool
+    requires { ⌜ Table (now rule) n k ⌝ }
+    requires { ⌜ Lawful (morphismAt (now rule) n k) ⌝ }
+    requires { ⌜ 4096 ≤ length (now marks) ⌝ }
+    requires { ⌜ (p < n) × (r < n) ⌝ }
+    requires { ⌜ LeastPower (morphismAt (now rule) n k) r e exponent ⌝ }
+    ensures { λ b. ⌜ b ≡ turn-test (morphismAt (now (rule .entry)) n k) (markedIn (now (marks .entry))) p r ⌝ }
+{
+    let mut s = product(rule, n, p, e);
+    for j in 0..exponent {
+        if 0 < marks[s * 64 + e] {
+            return true;
+        }
+        s = product(rule, n, s, r);
+    }
+    false
+}
 
 // Whether a pair (p·e·r^j, e) is marked, e the idempotent power of r.
 pub fn turn_accepts(rule: &[u8], n: usize, k: usize, marks: &[u8], p: usize, r: usize) -> bool
@@ -18,23 +47,12 @@ pub fn turn_accepts(rule: &[u8], n: usize, k: usize, marks: &[u8], p: usize, r: 
     requires { ⌜ (p < n) × (r < n) ⌝ }
     ensures { λ b. ⌜ b ≡ turn-test (morphismAt (now (rule .entry)) n k) (markedIn (now (marks .entry))) p r ⌝ }
 {
-    let e = match idempotent_power(rule, n, k, r) {
-        Power::Idempotent {
-            element,
-            exponent: _,
-        } => element,
-        Power::Nothing => {
-            return false;
+    match idempotent_power(rule, n, k, r) {
+        Power::Idempotent { element, exponent } => {
+            powers_marked(rule, n, k, marks, p, r, element, exponent)
         }
-    };
-    let mut s = product(rule, n, p, e);
-    for j in 0..n {
-        if 0 < marks[s * 64 + e] {
-            return true;
-        }
-        s = product(rule, n, s, r);
+        Power::Nothing => false,
     }
-    false
 }
 
 // Whether some cut of one turn of v, after u of value s, is marked.

@@ -1,0 +1,180 @@
+//! Refusals, and the answers that the archive packs into one number.
+//!
+//! Byte 0 of an answer is 0 for a result, else the number of the refusal. Of a refusal byte 1 is the input, and the place
+//! stands from bit 16 on. A result has three fields of 16 bits, from bits 16, 32 and 48 on.
+
+/// Why a call refuses; the discriminant is the refusal's number.
+#[derive(Clone, Copy, Debug, PartialEq, Eq, Hash, PartialOrd, Ord)]
+#[repr(u8)]
+pub enum Refusal {
+    /// The bytes end inside a count or a section. Place: the length of the input.
+    Truncated = 1,
+    /// A count lies outside its range. Place: its first byte.
+    CountOutOfRange = 2,
+    /// An entry names no element, state, letter or state kind (place: its byte), or a monitor's value is neither an element
+    /// nor [`NONE`](crate::NONE) (place 0).
+    EntryOutOfRange = 3,
+    /// Bytes follow the last section. Place: the first such byte.
+    TrailingBytes = 4,
+    /// (a·b)·c differs from a·(b·c). Place: a·4,096 + b·64 + c.
+    NotAssociative = 5,
+    /// An element is no word's value. Place: the least such element.
+    Unreachable = 6,
+    /// A marked pair is not linked. Place: its first byte.
+    NotLinked = 7,
+    /// A pair or a transition stands twice. Place: the first byte of the later.
+    Duplicate = 8,
+    /// No power of an element is idempotent. Never answered: an associative table always has one.
+    NoIdempotentPower = 9,
+    /// A word or an event has a letter that the rule does not have. Place: its position, 0 for an event.
+    UnknownLetter = 10,
+    /// u (input 1) or v (input 2) does not have 1 to [`WORD`](crate::WORD) letters, or a verdict is wanted of a monitor that
+    /// lacks a value.
+    WordLength = 11,
+    /// The rule is not strong.
+    NotStrong = 12,
+    /// A lent buffer is too short. Nothing was written, to no buffer.
+    BufferTooShort = 13,
+    /// An automaton has more than 64 matrices.
+    TooManyMatrices = 14,
+}
+
+impl Refusal {
+    /// The refusal's number, 1 to 14.
+    pub fn number(self) -> u8 {
+        self as u8
+    }
+
+    /// The refusal of a number, if there is one.
+    pub fn from_number(number: u8) -> Option<Refusal> {
+        Some(match number {
+            1 => Refusal::Truncated,
+            2 => Refusal::CountOutOfRange,
+            3 => Refusal::EntryOutOfRange,
+            4 => Refusal::TrailingBytes,
+            5 => Refusal::NotAssociative,
+            6 => Refusal::Unreachable,
+            7 => Refusal::NotLinked,
+            8 => Refusal::Duplicate,
+            9 => Refusal::NoIdempotentPower,
+            10 => Refusal::UnknownLetter,
+            11 => Refusal::WordLength,
+            12 => Refusal::NotStrong,
+            13 => Refusal::BufferTooShort,
+            14 => Refusal::TooManyMatrices,
+            _ => return None,
+        })
+    }
+}
+
+/// A refused call: the first check that fails.
+#[derive(Clone, Copy, Debug, PartialEq, Eq, Hash)]
+pub struct Refused {
+    /// Why.
+    pub refusal: Refusal,
+    /// Which input it lies in: 2 for a second marks section and for the word v, otherwise 1.
+    pub input: u8,
+    /// Where in that input; [`Refusal`] says what it counts.
+    pub place: u64,
+}
+
+impl std::fmt::Display for Refused {
+    fn fmt(&self, f: &mut std::fmt::Formatter<'_>) -> std::fmt::Result {
+        let Refused {
+            refusal,
+            input,
+            place,
+        } = self;
+        write!(
+            f,
+            "refused by {} ({refusal:?}), input {input}, place {place}",
+            refusal.number()
+        )
+    }
+}
+
+impl std::error::Error for Refused {}
+
+/// The three fields of a result, or the refusal. A number that no answer is packed into is a fault of the archive, and panics.
+pub(crate) fn unpack(packed: u64) -> Result<[usize; 3], Refused> {
+    let [number, input, ..] = packed.to_le_bytes();
+    if number == 0 {
+        if input != 0 {
+            foreign(packed, "byte 1 of a result is not 0");
+        }
+        let field = |from: u32| ((packed >> from) & 0xffff) as usize;
+        return Ok([field(16), field(32), field(48)]);
+    }
+    let Some(refusal) = Refusal::from_number(number) else {
+        foreign(packed, "there is no such refusal");
+    };
+    if input != 1 && input != 2 {
+        foreign(packed, "the input of a refusal is neither 1 nor 2");
+    }
+    Err(Refused {
+        refusal,
+        input,
+        place: packed >> 16,
+    })
+}
+
+/// A result that is yes or no.
+pub(crate) fn unpack_bool(packed: u64) -> Result<bool, Refused> {
+    match unpack(packed)? {
+        [0, 0, 0] => Ok(false),
+        [1, 0, 0] => Ok(true),
+        _ => foreign(packed, "the result is neither yes nor no"),
+    }
+}
+
+/// A result that is the number of bytes written to a buffer of `room` bytes.
+pub(crate) fn unpack_length(packed: u64, room: usize) -> Result<usize, Refused> {
+    match unpack(packed)? {
+        [length, 0, 0] if length <= room => Ok(length),
+        _ => foreign(packed, "the result is no length within the buffer"),
+    }
+}
+
+/// Ends a call whose answer is packed as no answer is.
+pub(crate) fn foreign(packed: u64, why: &str) -> ! {
+    panic!("duknavet: the archive answered {packed:#018x}, which packs no answer: {why}")
+}
+
+#[cfg(test)]
+mod tests {
+    use super::{unpack, unpack_bool, unpack_length, Refusal, Refused};
+    use std::panic::catch_unwind;
+
+    #[test]
+    fn numbers_and_refusals_agree() {
+        for number in 0..=255 {
+            match Refusal::from_number(number) {
+                Some(refusal) => assert_eq!(refusal.number(), number),
+                None => assert!(number == 0 || number > 14),
+            }
+        }
+    }
+
+    #[test]
+    fn answers_are_unpacked() {
+        assert_eq!(unpack(0x0003_0002_0001_0000), Ok([1, 2, 3]));
+        let refused = Refused {
+            refusal: Refusal::UnknownLetter,
+            input: 2,
+            place: 4223,
+        };
+        assert_eq!(unpack(0x0000_0000_107f_020a), Err(refused));
+        assert_eq!(unpack_bool(0x1_0000), Ok(true));
+        assert_eq!(unpack_length(0x3014_0000, 12_308), Ok(12_308));
+    }
+
+    #[test]
+    fn what_packs_no_answer_panics() {
+        for packed in [0x0000_010f, 0x0100, 0x0001, 0x0301] {
+            assert!(catch_unwind(|| unpack(packed)).is_err());
+        }
+        assert!(catch_unwind(|| unpack_bool(0x2_0000)).is_err());
+        assert!(catch_unwind(|| unpack_bool(0x1_0001_0000)).is_err());
+        assert!(catch_unwind(|| unpack_length(0x3015_0000, 12_308)).is_err());
+    }
+}

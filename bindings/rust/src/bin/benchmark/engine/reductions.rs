@@ -1,0 +1,88 @@
+//! Reduction by rounds.
+
+use super::file::{check, reached, write};
+use super::markings::decide;
+use super::{lengths, on_scratch, Refusal, Rule, RULE_OUT, SCRATCH, SECOND, WORK};
+
+/// The least element of each element's block, once no round changes anything.
+fn blocks(rule: &Rule, outcomes: &[u8]) -> [u8; 64] {
+    let n = rule.n;
+    let alike = |s: usize, t: usize| {
+        outcomes[s * 64..][..n] == outcomes[t * 64..][..n]
+            && (0..n).all(|z| outcomes[z * 64 + s] == outcomes[z * 64 + t])
+    };
+    let mut blocks = [0u8; 64];
+    for (s, block) in blocks[..n].iter_mut().enumerate() {
+        *block = (0..s).find(|t| alike(*t, s)).unwrap_or(s) as u8;
+    }
+    loop {
+        let kept = |s: usize, t: usize| {
+            let together = |s: usize, t: usize| blocks[s] == blocks[t];
+            together(s, t)
+                && rule.images.iter().all(|h| {
+                    let h = *h as usize;
+                    together(rule.product(s, h), rule.product(t, h))
+                        && together(rule.product(h, s), rule.product(h, t))
+                })
+        };
+        let mut next = [0u8; 64];
+        for (s, block) in next[..n].iter_mut().enumerate() {
+            *block = (0..s).find(|t| kept(*t, s)).unwrap_or(s) as u8;
+        }
+        if next == blocks {
+            return blocks;
+        }
+        blocks = next;
+    }
+}
+
+pub fn reduce(bytes: &[u8], out: &mut [u8], scratch: &mut [u8]) -> Result<usize, Refusal> {
+    lengths(&[(out.len(), RULE_OUT), (scratch.len(), SCRATCH)])?;
+    on_scratch(scratch, |scratch| {
+        let rule = check(bytes, scratch)?;
+        if !decide(&rule, scratch) {
+            return Err((12, 1, 0));
+        }
+        let n = rule.n;
+        let (tables, work) = scratch.split_at_mut(WORK);
+        let closure = &tables[SECOND..];
+        let (outcomes, table) = work.split_at_mut(4_096);
+        for z in 0..n {
+            let (e, _) = rule.idempotent_power(z).expect("a checked rule");
+            for s in 0..n {
+                outcomes[s * 64 + z] = closure[rule.product(s, e) * 64 + e];
+            }
+        }
+        let blocks = blocks(&rule, outcomes);
+        // Blocks are numbered by the first of their elements in the order of first words.
+        let reached = reached(&rule);
+        let (mut numbers, mut elements, mut count) = ([64u8; 64], [0u8; 64], 0);
+        for s in &reached.order[..n] {
+            let block = blocks[*s as usize] as usize;
+            if numbers[block] == 64 {
+                numbers[block] = count as u8;
+                elements[count] = *s;
+                count += 1;
+            }
+        }
+        let number = |s: usize| numbers[blocks[s] as usize];
+        for s in 0..count {
+            for t in 0..count {
+                let product = rule.product(elements[s] as usize, elements[t] as usize);
+                table[s * 64 + t] = number(product);
+            }
+        }
+        let mut images = [0; 16];
+        for (a, image) in rule.images.iter().enumerate() {
+            images[a] = number(*image as usize);
+        }
+        let at = |s: usize, t: usize| table[s * 64 + t] as usize;
+        let marked = |s: usize, e: usize| {
+            at(e, e) == e
+                && at(s, e) == s
+                && outcomes[elements[s] as usize * 64 + elements[e] as usize] != 0
+        };
+        let images = &images[..rule.images.len()];
+        Ok(write(out, (count, 64), table, images, marked))
+    })
+}

@@ -1,0 +1,59 @@
+//! Safe calls to Duknavet, an engine for rules over endless event sequences that is proved in Rattle.
+//!
+//! A rule is a finite associative product table (a morphism into a finite semigroup), an element for each letter, and marked
+//! pairs. It accepts a lasso, u then v for ever, if some writing of the same endless word as p then w for ever has
+//! (value of p, value of w) marked. A rule is strong if the values of u and v decide whether the lasso is accepted.
+//!
+//! Every call takes any bytes, of any length: what is wrong with them is answered as a [`Refused`]. Calls that get a rule are
+//! lent a scratch of [`SCRATCH`] bytes or more, and leave it as zeros. After a refusal the result buffers keep every byte; where
+//! a buffer is too short (refusal 13) the scratch does too. Longer buffers pass, and bytes past a result are not touched.
+//!
+//! ```
+//! use duknavet::{member, Membership, SCRATCH};
+//!
+//! // Letters 0 and 1; accepts the lassos in which letter 0 occurs without end.
+//! let rule = [2, 0, 0, 0, 1, 2, 0, 1, 1, 0, 0, 0];
+//! let mut scratch = vec![0; SCRATCH];
+//! assert_eq!(member(&rule, &[1], &[0], &mut scratch), Ok(Membership::Accepted));
+//! ```
+
+#![deny(missing_docs)]
+#![deny(unsafe_code)]
+
+mod answer;
+mod automata;
+mod lassos;
+mod markings;
+mod monitors;
+#[allow(unsafe_code)]
+mod raw;
+mod reductions;
+
+pub use answer::{Refusal, Refused};
+pub use automata::{automaton_rule, Translated};
+pub use lassos::{member, Membership};
+pub use markings::{classes, complement, included, strong};
+pub use markings::{Classes, Complemented, Inclusion, Strength};
+pub use monitors::{event, fresh, mark, verdict, Monitor, NotMoved, Verdict};
+pub use reductions::{reduce, Reduced};
+
+/// The bytes that a scratch must have; a longer one passes.
+pub const SCRATCH: usize = 65_536;
+
+/// The bytes that a buffer for a rule file must have: the longest rule file.
+pub const RULE_OUT: usize = 12_308;
+
+/// The bytes that a buffer for the classes must have: two for each pair of 64 elements.
+pub const CLASSES_OUT: usize = 8_192;
+
+/// The bytes that the buffer for the start u of a lasso must have.
+pub const U_OUT: usize = 64;
+
+/// The bytes that the buffer for the cycle v of a lasso must have.
+pub const V_OUT: usize = 4_224;
+
+/// The most letters that u or v of a lasso may have.
+pub const WORD: usize = 4_224;
+
+/// The value of a monitor that stands for no letters.
+pub const NONE: usize = 64;

@@ -1,0 +1,84 @@
+//! Monitors: events are read one by one, and marks divide them into what came before and what came since.
+
+use crate::answer::{foreign, unpack, unpack_bool};
+use crate::{raw, Refused};
+
+/// What a monitor keeps of the events: two values, each an element or [`NONE`](crate::NONE).
+#[derive(Clone, Copy, Debug, PartialEq, Eq, Hash)]
+pub struct Monitor {
+    /// The value of the letters before the last mark.
+    pub before: usize,
+    /// The value of the letters since.
+    pub since: usize,
+}
+
+/// A refused event or mark, with the monitor as it was.
+#[derive(Clone, Copy, Debug, PartialEq, Eq, Hash)]
+pub struct NotMoved {
+    /// The monitor that the call was given.
+    pub monitor: Monitor,
+    /// Why the call refused.
+    pub refused: Refused,
+}
+
+impl std::fmt::Display for NotMoved {
+    fn fmt(&self, f: &mut std::fmt::Formatter<'_>) -> std::fmt::Result {
+        self.refused.fmt(f)
+    }
+}
+
+impl std::error::Error for NotMoved {}
+
+/// Whether the lassos that have a monitor's values are accepted.
+#[derive(Clone, Copy, Debug, PartialEq, Eq, Hash)]
+pub enum Verdict {
+    /// They are.
+    Accepted,
+    /// They are not.
+    NotAccepted,
+}
+
+/// A monitor that has seen nothing: [`NONE`](crate::NONE) twice.
+pub fn fresh() -> Monitor {
+    let packed = raw::fresh();
+    match unpack(packed) {
+        Ok([before, since, 0]) => Monitor { before, since },
+        _ => foreign(packed, "a fresh monitor is never refused"),
+    }
+}
+
+/// The monitor after an event: `since` times the letter's element, or that element alone. The rule may be weak.
+pub fn event(
+    rule: &[u8],
+    monitor: Monitor,
+    letter: u8,
+    scratch: &mut [u8],
+) -> Result<Monitor, NotMoved> {
+    let packed = raw::event(rule, monitor.before, monitor.since, letter, scratch);
+    moved(monitor, packed)
+}
+
+/// The monitor after a mark: what came since now counts as before. With nothing since, nothing changes. The rule may be weak.
+pub fn mark(rule: &[u8], monitor: Monitor, scratch: &mut [u8]) -> Result<Monitor, NotMoved> {
+    let packed = raw::mark(rule, monitor.before, monitor.since, scratch);
+    moved(monitor, packed)
+}
+
+/// Whether a strong rule accepts the lassos whose start has the value `before` and whose cycle has the value `since`.
+///
+/// A monitor without one of its values, and a weak rule, are refused.
+pub fn verdict(rule: &[u8], monitor: Monitor, scratch: &mut [u8]) -> Result<Verdict, Refused> {
+    let packed = raw::verdict(rule, monitor.before, monitor.since, scratch);
+    Ok(match unpack_bool(packed)? {
+        true => Verdict::Accepted,
+        false => Verdict::NotAccepted,
+    })
+}
+
+fn moved(monitor: Monitor, packed: u64) -> Result<Monitor, NotMoved> {
+    match unpack(packed) {
+        Ok([before, since, 0]) => Ok(Monitor { before, since }),
+        Ok(_) => foreign(packed, "a monitor has two values"),
+        Err(refused) => Err(NotMoved { monitor, refused }),
+    }
+}

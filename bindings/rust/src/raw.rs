@@ -1,0 +1,247 @@
+//! The archive's functions, each behind a safe function over slices. All unsafe code of the package is here.
+//!
+//! Each exported function is proved to return, for every input, having read and written nothing but its slices within their
+//! lengths. What it asks of a caller is what Rust's references already promise: pointers that are good for their lengths, and
+//! no overlap of a slice that is written with any other.
+
+mod exported {
+    extern "C" {
+        pub fn duknavet_classes(
+            rule: *const u8,
+            rule_length: usize,
+            out: *mut u8,
+            out_length: usize,
+            scratch: *mut u8,
+            scratch_length: usize,
+        ) -> u64;
+        pub fn duknavet_strong(
+            rule: *const u8,
+            rule_length: usize,
+            scratch: *mut u8,
+            scratch_length: usize,
+        ) -> u64;
+        pub fn duknavet_member(
+            rule: *const u8,
+            rule_length: usize,
+            u: *const u8,
+            u_length: usize,
+            v: *const u8,
+            v_length: usize,
+            scratch: *mut u8,
+            scratch_length: usize,
+        ) -> u64;
+        pub fn duknavet_complement(
+            rule: *const u8,
+            rule_length: usize,
+            out: *mut u8,
+            out_length: usize,
+            scratch: *mut u8,
+            scratch_length: usize,
+        ) -> u64;
+        pub fn duknavet_included(
+            rule: *const u8,
+            rule_length: usize,
+            second: *const u8,
+            second_length: usize,
+            u: *mut u8,
+            u_length: usize,
+            v: *mut u8,
+            v_length: usize,
+            scratch: *mut u8,
+            scratch_length: usize,
+        ) -> u64;
+        pub fn duknavet_fresh() -> u64;
+        pub fn duknavet_event(
+            rule: *const u8,
+            rule_length: usize,
+            before: usize,
+            since: usize,
+            letter: u8,
+            scratch: *mut u8,
+            scratch_length: usize,
+        ) -> u64;
+        pub fn duknavet_mark(
+            rule: *const u8,
+            rule_length: usize,
+            before: usize,
+            since: usize,
+            scratch: *mut u8,
+            scratch_length: usize,
+        ) -> u64;
+        pub fn duknavet_verdict(
+            rule: *const u8,
+            rule_length: usize,
+            before: usize,
+            since: usize,
+            scratch: *mut u8,
+            scratch_length: usize,
+        ) -> u64;
+        pub fn duknavet_reduce(
+            rule: *const u8,
+            rule_length: usize,
+            out: *mut u8,
+            out_length: usize,
+            scratch: *mut u8,
+            scratch_length: usize,
+        ) -> u64;
+        pub fn duknavet_automaton_rule(
+            automaton: *const u8,
+            automaton_length: usize,
+            out: *mut u8,
+            out_length: usize,
+            scratch: *mut u8,
+            scratch_length: usize,
+        ) -> u64;
+    }
+}
+
+pub fn classes(rule: &[u8], out: &mut [u8], scratch: &mut [u8]) -> u64 {
+    // SAFETY: each pointer and length are those of one live slice; `out` and `scratch` are borrowed mutably, so they overlap
+    // nothing.
+    unsafe {
+        exported::duknavet_classes(
+            rule.as_ptr(),
+            rule.len(),
+            out.as_mut_ptr(),
+            out.len(),
+            scratch.as_mut_ptr(),
+            scratch.len(),
+        )
+    }
+}
+
+pub fn strong(rule: &[u8], scratch: &mut [u8]) -> u64 {
+    // SAFETY: as for `classes`.
+    unsafe {
+        exported::duknavet_strong(
+            rule.as_ptr(),
+            rule.len(),
+            scratch.as_mut_ptr(),
+            scratch.len(),
+        )
+    }
+}
+
+pub fn member(rule: &[u8], u: &[u8], v: &[u8], scratch: &mut [u8]) -> u64 {
+    // SAFETY: as for `classes`; `rule`, `u` and `v` may overlap, since they are only read.
+    unsafe {
+        exported::duknavet_member(
+            rule.as_ptr(),
+            rule.len(),
+            u.as_ptr(),
+            u.len(),
+            v.as_ptr(),
+            v.len(),
+            scratch.as_mut_ptr(),
+            scratch.len(),
+        )
+    }
+}
+
+pub fn complement(rule: &[u8], out: &mut [u8], scratch: &mut [u8]) -> u64 {
+    // SAFETY: as for `classes`.
+    unsafe {
+        exported::duknavet_complement(
+            rule.as_ptr(),
+            rule.len(),
+            out.as_mut_ptr(),
+            out.len(),
+            scratch.as_mut_ptr(),
+            scratch.len(),
+        )
+    }
+}
+
+pub fn included(rule: &[u8], second: &[u8], u: &mut [u8], v: &mut [u8], scratch: &mut [u8]) -> u64 {
+    // SAFETY: as for `classes`; `u`, `v` and `scratch` are borrowed mutably, so they overlap nothing.
+    unsafe {
+        exported::duknavet_included(
+            rule.as_ptr(),
+            rule.len(),
+            second.as_ptr(),
+            second.len(),
+            u.as_mut_ptr(),
+            u.len(),
+            v.as_mut_ptr(),
+            v.len(),
+            scratch.as_mut_ptr(),
+            scratch.len(),
+        )
+    }
+}
+
+pub fn fresh() -> u64 {
+    // SAFETY: it takes nothing and touches no memory of the caller's.
+    unsafe { exported::duknavet_fresh() }
+}
+
+pub fn event(rule: &[u8], before: usize, since: usize, letter: u8, scratch: &mut [u8]) -> u64 {
+    // SAFETY: as for `classes`; every number is allowed for `before`, `since` and `letter`.
+    unsafe {
+        exported::duknavet_event(
+            rule.as_ptr(),
+            rule.len(),
+            before,
+            since,
+            letter,
+            scratch.as_mut_ptr(),
+            scratch.len(),
+        )
+    }
+}
+
+pub fn mark(rule: &[u8], before: usize, since: usize, scratch: &mut [u8]) -> u64 {
+    // SAFETY: as for `event`.
+    unsafe {
+        exported::duknavet_mark(
+            rule.as_ptr(),
+            rule.len(),
+            before,
+            since,
+            scratch.as_mut_ptr(),
+            scratch.len(),
+        )
+    }
+}
+
+pub fn verdict(rule: &[u8], before: usize, since: usize, scratch: &mut [u8]) -> u64 {
+    // SAFETY: as for `event`.
+    unsafe {
+        exported::duknavet_verdict(
+            rule.as_ptr(),
+            rule.len(),
+            before,
+            since,
+            scratch.as_mut_ptr(),
+            scratch.len(),
+        )
+    }
+}
+
+pub fn reduce(rule: &[u8], out: &mut [u8], scratch: &mut [u8]) -> u64 {
+    // SAFETY: as for `classes`.
+    unsafe {
+        exported::duknavet_reduce(
+            rule.as_ptr(),
+            rule.len(),
+            out.as_mut_ptr(),
+            out.len(),
+            scratch.as_mut_ptr(),
+            scratch.len(),
+        )
+    }
+}
+
+pub fn automaton_rule(automaton: &[u8], out: &mut [u8], scratch: &mut [u8]) -> u64 {
+    // SAFETY: as for `classes`.
+    unsafe {
+        exported::duknavet_automaton_rule(
+            automaton.as_ptr(),
+            automaton.len(),
+            out.as_mut_ptr(),
+            out.len(),
+            scratch.as_mut_ptr(),
+            scratch.len(),
+        )
+    }
+}

@@ -1,0 +1,104 @@
+//! Automata to rules.
+
+use super::{lengths, Comparison};
+use crate::definitions::acceptance::{accepts, Marking};
+use crate::definitions::checks::{self, Automaton, Refusal};
+use crate::definitions::rule::Rule;
+use duknavet::{RULE_OUT, SCRATCH};
+
+pub const AUTOMATON_SIZES: [usize; 2] = [RULE_OUT, SCRATCH];
+
+impl Comparison {
+    /// The rule that was made, if one was.
+    pub fn automaton_rule(&mut self, bytes: &[u8], sizes: [usize; 2]) -> Option<Vec<u8>> {
+        let [mut out, mut scratch] = self.lend(sizes);
+        let answer = duknavet::automaton_rule(bytes, out.slice(), scratch.slice());
+        let read = || -> Result<_, Refusal> {
+            lengths(sizes, AUTOMATON_SIZES)?;
+            let automaton = checks::automaton(bytes)?;
+            let matrices = automaton.matrices().ok_or((14, 1, 0))?;
+            Ok((automaton, matrices.len()))
+        };
+        let found = self.agreed(
+            "automaton_rule",
+            &[bytes],
+            answer,
+            read(),
+            (&[&out], &scratch),
+        );
+        let (answer, (automaton, count)) = found?;
+        let written = out.written(answer.length).to_vec();
+        let rule = checks::rule(&written).expect("a rule file");
+        if let Err(fault) = compare(&automaton, count, &rule) {
+            panic!("rule of the automaton {bytes:?}: {fault}");
+        }
+        self.runs(&automaton, &rule);
+        self.tally.count("automaton_rule", "written");
+        if count == 64 {
+            self.tally.count("automaton_rule", "64 matrices");
+        }
+        Some(written)
+    }
+
+    /// The rule and the automaton accept the same of some lassos.
+    fn runs(&mut self, automaton: &Automaton, rule: &Rule) {
+        let marking = Marking::new(rule.morphism.n, &rule.marks);
+        for _ in 0..6 {
+            let lengths = (self.random.within(1, 5), self.random.within(1, 7));
+            let u = self.random.word(lengths.0, automaton.letters);
+            let v = self.random.word(lengths.1, automaton.letters);
+            let accepted = automaton.accepts(&u, &v);
+            let found = accepts(&rule.morphism, &marking, &u, &v);
+            assert_eq!(found, accepted, "{u:?} {v:?} of {:?}", automaton.bytes());
+            let outcome = if accepted {
+                "a run on a lasso"
+            } else {
+                "no run on a lasso"
+            };
+            self.tally.count("automaton_rule", outcome);
+        }
+    }
+}
+
+/// The rule's elements are the matrices, renumbered, and its marks those of the linked pairs that are to be marked.
+fn compare(automaton: &Automaton, count: usize, rule: &Rule) -> Result<(), String> {
+    let m = &rule.morphism;
+    if m.letters() != automaton.letters || m.n != count {
+        return Err(format!(
+            "{} elements, {} letters; {count} matrices",
+            m.n,
+            m.letters()
+        ));
+    }
+    let words: Vec<Vec<u8>> = m.words().into_iter().flatten().collect();
+    let matrices: Vec<_> = words.iter().map(|word| automaton.matrix(word)).collect();
+    for a in 0..automaton.letters as u8 {
+        if automaton.matrix(&[a]) != matrices[m.images[a as usize] as usize] {
+            return Err(format!("letter {a} has not the matrix of its element"));
+        }
+    }
+    for (s, word) in words.iter().enumerate() {
+        for a in 0..automaton.letters as u8 {
+            let longer = [&word[..], &[a]].concat();
+            let product = m.product(s as u8, m.images[a as usize]) as usize;
+            if automaton.matrix(&longer) != matrices[product] {
+                return Err(format!(
+                    "the word {longer:?} has not the matrix of element {product}"
+                ));
+            }
+        }
+    }
+    // The elements' matrices are as many as all matrices; if they are distinct, they are all.
+    let repeated = |s: usize| matrices[..s].contains(&matrices[s]);
+    if (0..m.n).any(repeated) {
+        return Err("two elements have one matrix".to_string());
+    }
+    let mut marks = rule.marks.clone();
+    marks.sort_unstable();
+    let mut expected = m.linked_pairs();
+    expected.retain(|(s, e)| automaton.marks(&matrices[*s as usize], &matrices[*e as usize]));
+    match marks == expected {
+        true => Ok(()),
+        false => Err(format!("marks {marks:?}, expected {expected:?}")),
+    }
+}

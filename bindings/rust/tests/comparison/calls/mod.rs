@@ -1,0 +1,103 @@
+//! Each call made on lent buffers, and held against the definitions: the answer and every byte.
+
+mod automata;
+mod lassos;
+mod markings;
+mod monitors;
+mod reductions;
+
+use crate::definitions::checks::Refusal;
+use crate::lending::{Lent, Stale};
+use crate::random::Random;
+use crate::tally::{refusal, Tally};
+use duknavet::Refused;
+use std::fmt::Debug;
+
+pub use automata::AUTOMATON_SIZES;
+pub use lassos::MEMBER_SIZES;
+pub use markings::{CLASSES_SIZES, COMPLEMENT_SIZES, INCLUDED_SIZES, STRONG_SIZES};
+pub use monitors::MONITOR_SIZES;
+pub use reductions::REDUCE_SIZES;
+
+pub struct Comparison {
+    pub random: Random,
+    pub tally: Tally,
+    stale: Stale,
+}
+
+impl Comparison {
+    pub fn new(seed: u64) -> Comparison {
+        let mut random = Random::new(seed);
+        let stale = Stale::new(&mut random);
+        Comparison {
+            random,
+            tally: Tally::default(),
+            stale,
+        }
+    }
+
+    /// Sizes that pass: those asked for, or more.
+    pub fn enough<const N: usize>(&mut self, sizes: [usize; N]) -> [usize; N] {
+        sizes.map(|size| match self.random.once_in(3) {
+            true => size + self.random.below(70),
+            false => size,
+        })
+    }
+
+    /// Sizes of which one is too short, by one byte or more.
+    pub fn short<const N: usize>(&mut self, sizes: [usize; N]) -> [usize; N] {
+        let mut short = self.enough(sizes);
+        let at = self.random.below(N);
+        short[at] = match self.random.below(4) {
+            0 => 0,
+            1 => self.random.below(sizes[at]),
+            _ => sizes[at] - 1,
+        };
+        short
+    }
+
+    fn lend<const N: usize>(&mut self, sizes: [usize; N]) -> [Lent; N] {
+        sizes.map(|size| self.stale.lend(&mut self.random, size))
+    }
+
+    /// Holds an answer against what is expected: the refusal and the buffers after it, or that there is a result.
+    fn agreed<T: Debug, E: Debug>(
+        &mut self,
+        call: &str,
+        inputs: &[&[u8]],
+        answer: Result<T, Refused>,
+        expected: Result<E, Refusal>,
+        (outs, scratch): (&[&Lent], &Lent),
+    ) -> Option<(T, E)> {
+        match (answer, expected) {
+            (Ok(answer), Ok(expected)) => {
+                scratch.zeroed();
+                Some((answer, expected))
+            }
+            (Err(refused), Err(expected)) => {
+                let found = (refused.refusal.number(), refused.input, refused.place);
+                if found != expected {
+                    panic!("{call} on {inputs:?}: refused by {found:?}, expected {expected:?}");
+                }
+                outs.iter().for_each(|out| out.kept());
+                match found.0 {
+                    13 => scratch.kept(),
+                    _ => scratch.zeroed(),
+                }
+                self.tally.count(call, refusal(found.0, found.1));
+                None
+            }
+            (answer, expected) => {
+                panic!("{call} on {inputs:?}: {answer:?}, expected {expected:?}")
+            }
+        }
+    }
+}
+
+/// Check 13: first of all, over every buffer that is lent.
+fn lengths<const N: usize>(sizes: [usize; N], least: [usize; N]) -> Result<(), Refusal> {
+    match sizes.iter().zip(&least).any(|(size, least)| size < least) {
+        true => Err((13, 1, 0)),
+        false => Ok(()),
+    }
+}

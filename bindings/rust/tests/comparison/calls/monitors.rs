@@ -1,0 +1,126 @@
+//! Events, marks and verdicts of a monitor.
+
+use super::markings::outcomes;
+use super::{lengths, Comparison};
+use crate::definitions::checks::{self, Refusal};
+use crate::lending::Lent;
+use crate::subject::Subject;
+use duknavet::{Monitor, NotMoved, Refused, Verdict, NONE, SCRATCH};
+
+pub const MONITOR_SIZES: [usize; 1] = [SCRATCH];
+
+/// What a refused call hands back is what it was given.
+fn unmoved(answer: Result<Monitor, NotMoved>, given: Monitor) -> Result<Monitor, Refused> {
+    answer.map_err(|NotMoved { monitor, refused }| {
+        assert_eq!(monitor, given, "a refused call changed the monitor");
+        refused
+    })
+}
+
+impl Comparison {
+    /// The monitor after the event, if it was not refused; likewise below.
+    pub fn event(
+        &mut self,
+        subject: &Subject,
+        monitor: Monitor,
+        letter: u8,
+        sizes: [usize; 1],
+    ) -> Option<Monitor> {
+        let [mut scratch] = self.lend(sizes);
+        let answer = duknavet::event(&subject.bytes, monitor, letter, scratch.slice());
+        let Monitor { before, since } = monitor;
+        let read = || -> Result<_, Refusal> {
+            lengths(sizes, MONITOR_SIZES)?;
+            let known = subject.read.as_ref().map_err(|refusal| *refusal)?;
+            let m = known.morphism();
+            checks::monitor(m, before, since)?;
+            let image = *m.images.get(letter as usize).ok_or((10, 1, 0))?;
+            let since = match since {
+                NONE => image,
+                since => m.product(since as u8, image),
+            };
+            Ok((before, since as usize))
+        };
+        self.moved("event", subject, unmoved(answer, monitor), read(), &scratch)
+    }
+
+    pub fn mark(
+        &mut self,
+        subject: &Subject,
+        monitor: Monitor,
+        sizes: [usize; 1],
+    ) -> Option<Monitor> {
+        let [mut scratch] = self.lend(sizes);
+        let answer = duknavet::mark(&subject.bytes, monitor, scratch.slice());
+        let Monitor { before, since } = monitor;
+        let read = || -> Result<_, Refusal> {
+            lengths(sizes, MONITOR_SIZES)?;
+            let known = subject.read.as_ref().map_err(|refusal| *refusal)?;
+            checks::monitor(known.morphism(), before, since)?;
+            Ok(match (before, since) {
+                (before, NONE) => (before, NONE),
+                (NONE, since) => (since, NONE),
+                (before, since) => {
+                    let product = known.morphism().product(before as u8, since as u8);
+                    (product as usize, NONE)
+                }
+            })
+        };
+        self.moved("mark", subject, unmoved(answer, monitor), read(), &scratch)
+    }
+
+    fn moved(
+        &mut self,
+        call: &str,
+        subject: &Subject,
+        answer: Result<Monitor, Refused>,
+        expected: Result<(usize, usize), Refusal>,
+        scratch: &Lent,
+    ) -> Option<Monitor> {
+        self.count_values(call, subject, &expected);
+        let inputs: [&[u8]; 1] = [&subject.bytes];
+        let found = self.agreed(call, &inputs, answer, expected, (&[], scratch));
+        let (answer, expected) = found?;
+        assert_eq!(
+            (answer.before, answer.since),
+            expected,
+            "{call} on {inputs:?}"
+        );
+        self.tally.count(call, "moved");
+        Some(answer)
+    }
+
+    pub fn verdict(&mut self, subject: &Subject, monitor: Monitor, sizes: [usize; 1]) {
+        let [mut scratch] = self.lend(sizes);
+        let answer = duknavet::verdict(&subject.bytes, monitor, scratch.slice());
+        let Monitor { before, since } = monitor;
+        let mut read = || -> Result<_, Refusal> {
+            lengths(sizes, MONITOR_SIZES)?;
+            let known = subject.read.as_ref().map_err(|refusal| *refusal)?;
+            checks::monitor(known.morphism(), before, since)?;
+            if before == NONE || since == NONE {
+                return Err((11, 1, 0));
+            }
+            let known = self.asked_strong(subject)?;
+            Ok(outcomes(known)[before * known.morphism().n + since])
+        };
+        let expected = read();
+        self.count_values("verdict", subject, &expected);
+        let inputs: [&[u8]; 1] = [&subject.bytes];
+        let found = self.agreed("verdict", &inputs, answer, expected, (&[], &scratch));
+        let Some((answer, expected)) = found else {
+            return;
+        };
+        let accepted = answer == Verdict::Accepted;
+        assert_eq!(accepted, expected, "verdict of {monitor:?} on {inputs:?}");
+        let outcome = if accepted { "accepted" } else { "not accepted" };
+        self.tally.count("verdict", outcome);
+    }
+
+    /// Counts refusal 3 of a monitor's value apart from that of a file's entry.
+    fn count_values<T>(&mut self, call: &str, subject: &Subject, expected: &Result<T, Refusal>) {
+        if subject.read.is_ok() && matches!(expected, Err((3, _, _))) {
+            self.tally.count(call, "a monitor's value refused");
+        }
+    }
+}

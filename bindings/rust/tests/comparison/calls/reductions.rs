@@ -1,0 +1,101 @@
+//! Reduction: strong, the same lassos, the marks that it must have, and no larger than the syntactic classes.
+
+use super::markings::outcomes;
+use super::{lengths, Comparison};
+use crate::definitions::acceptance::{accepts, Marking};
+use crate::definitions::contexts;
+use crate::definitions::cycles::Decided;
+use crate::definitions::rule::Morphism;
+use crate::definitions::splits;
+use crate::subject::{Known, Subject};
+use duknavet::{RULE_OUT, SCRATCH};
+
+pub const REDUCE_SIZES: [usize; 2] = [RULE_OUT, SCRATCH];
+
+impl Comparison {
+    pub fn reduce(&mut self, subject: &Subject, sizes: [usize; 2]) {
+        let [mut out, mut scratch] = self.lend(sizes);
+        let answer = duknavet::reduce(&subject.bytes, out.slice(), scratch.slice());
+        let expected = lengths(sizes, REDUCE_SIZES).and_then(|()| self.asked_strong(subject));
+        let expected = expected.map(|_| ());
+        let inputs: [&[u8]; 1] = [&subject.bytes];
+        let found = self.agreed("reduce", &inputs, answer, expected, (&[&out], &scratch));
+        let Some((answer, ())) = found else { return };
+        let written = Subject::new(out.written(answer.length).to_vec());
+        let (known, reduced) = (subject.known(), written.known());
+        if let Err(fault) = compare(known, reduced) {
+            panic!("reduction of {inputs:?}: {fault}");
+        }
+        let size = reduced.morphism().n;
+        let outcome = match size < known.morphism().n {
+            true => "smaller",
+            false => "as large",
+        };
+        self.tally.count("reduce", outcome);
+        if size == 64 {
+            self.tally.count("reduce", "64 elements");
+        }
+    }
+}
+
+fn compare(known: &Known, reduced: &Known) -> Result<(), String> {
+    let (m, r) = (known.morphism(), reduced.morphism());
+    if r.letters() != m.letters() {
+        return Err(format!("{} letters", r.letters()));
+    }
+    let image = images(m, r, &known.words).ok_or("the letters' elements give no map")?;
+    let outcomes = outcomes(known);
+    // Two elements have one image exactly if no context tells them apart; every element of r is reached, so the map is onto
+    // and r is the table of the classes, renumbered.
+    let (class, count) = contexts::classes(m, outcomes);
+    let pairs = || (0..m.n).flat_map(|s| (0..s).map(move |t| (s, t)));
+    if r.n != count || pairs().any(|(s, t)| (image[s] == image[t]) != (class[s] == class[t])) {
+        return Err(format!("{} elements for {count} classes", r.n));
+    }
+    // It marks the linked pairs whose lassos the given rule accepts, and no other.
+    for (t, f) in r.elements().flat_map(|t| r.elements().map(move |f| (t, f))) {
+        let (u, v) = (&reduced.words[t as usize], &reduced.words[f as usize]);
+        let expected = r.linked((t, f)) && accepts(m, &known.marking, u, v);
+        if reduced.marking.has((t, f)) != expected {
+            return Err(format!("mark ({t}, {f}) should be {expected}"));
+        }
+    }
+    // The same lassos, one for each two values of the given rule (both are strong).
+    let marking: &Marking = &reduced.marking;
+    for (s, u) in known.words.iter().enumerate() {
+        for (z, v) in known.words.iter().enumerate() {
+            if accepts(r, marking, u, v) != outcomes[s * m.n + z] {
+                return Err(format!("the lassos of values {s} and {z} differ"));
+            }
+        }
+    }
+    let strong = match reduced.decided() {
+        Decided::Unknown => splits::strong(r, marking),
+        decided => *decided == Decided::Yes,
+    };
+    match strong {
+        true => Ok(()),
+        false => Err("it is weak".to_string()),
+    }
+}
+
+/// The map from m's elements to r's that takes the value of a word in m to its value in r, if that is a map: it then takes
+/// products with letters, hence all products, to products.
+fn images(m: &Morphism, r: &Morphism, words: &[Vec<u8>]) -> Option<Vec<u8>> {
+    let image: Vec<u8> = words.iter().map(|word| r.value(word)).collect();
+    for (a, element) in m.images.iter().enumerate() {
+        if image[*element as usize] != r.images[a] {
+            return None;
+        }
+        for s in m.elements() {
+            let (here, there) = (
+                m.product(s, *element),
+                r.product(image[s as usize], r.images[a]),
+            );
+            if image[here as usize] != there {
+                return None;
+            }
+        }
+    }
+    Some(image)
+}

@@ -1,0 +1,194 @@
+//! The refusals in document 01's order, read from its table: for each call the first check that fails.
+
+use super::rule::{Morphism, Pair, Rule};
+
+/// A refusal: its number, its input, its place.
+pub type Refusal = (u8, u8, u64);
+
+/// A file as it is read: what is left, and where that begins.
+struct Reader<'a> {
+    bytes: &'a [u8],
+    at: usize,
+    input: u8,
+}
+
+impl<'a> Reader<'a> {
+    fn refuse<T>(&self, number: u8, place: usize) -> Result<T, Refusal> {
+        Err((number, self.input, place as u64))
+    }
+
+    fn take(&mut self, length: usize) -> Result<&'a [u8], Refusal> {
+        match self.bytes.get(self.at..self.at + length) {
+            Some(part) => {
+                self.at += length;
+                Ok(part)
+            }
+            None => self.refuse(1, self.bytes.len()),
+        }
+    }
+
+    /// A count of `width` bytes, low byte first.
+    fn count(&mut self, width: usize, least: usize, most: usize) -> Result<usize, Refusal> {
+        let place = self.at;
+        let bytes = self.take(width)?;
+        let count = bytes.iter().rev().fold(0, |c, b| c * 256 + *b as usize);
+        match (least..=most).contains(&count) {
+            true => Ok(count),
+            false => self.refuse(2, place),
+        }
+    }
+
+    /// A section's entries, whose limits repeat.
+    fn entries(&mut self, count: usize, limits: &[usize]) -> Result<&'a [u8], Refusal> {
+        let place = self.at;
+        let part = self.take(count * limits.len())?;
+        let bad = |i: &usize| part[*i] as usize >= limits[*i % limits.len()];
+        match (0..part.len()).find(bad) {
+            Some(i) => self.refuse(3, place + i),
+            None => Ok(part),
+        }
+    }
+
+    fn end(&self) -> Result<(), Refusal> {
+        match self.at < self.bytes.len() {
+            true => self.refuse(4, self.at),
+            false => Ok(()),
+        }
+    }
+}
+
+/// Checks 7 and 8 of a marks section whose pairs begin at a byte.
+fn marks(m: &Morphism, pairs: &[u8], input: u8, begin: usize) -> Result<Vec<Pair>, Refusal> {
+    let mut marks: Vec<Pair> = Vec::new();
+    let mut seen = vec![false; m.n * m.n];
+    for (i, pair) in pairs.chunks(2).enumerate() {
+        let place = (begin + 2 * i) as u64;
+        let pair = (pair[0], pair[1]);
+        if !m.linked(pair) {
+            return Err((7, input, place));
+        }
+        let at = pair.0 as usize * m.n + pair.1 as usize;
+        if seen[at] {
+            return Err((8, input, place));
+        }
+        seen[at] = true;
+        marks.push(pair);
+    }
+    Ok(marks)
+}
+
+fn associative(m: &Morphism) -> Result<(), Refusal> {
+    for a in m.elements() {
+        for b in m.elements() {
+            for c in m.elements() {
+                let (left, right) = (m.product(m.product(a, b), c), m.product(a, m.product(b, c)));
+                if left != right {
+                    let place = a as u64 * 4_096 + b as u64 * 64 + c as u64;
+                    return Err((5, 1, place));
+                }
+            }
+        }
+    }
+    Ok(())
+}
+
+/// Every check of a rule file.
+pub fn rule(bytes: &[u8]) -> Result<Rule, Refusal> {
+    let mut reader = Reader {
+        bytes,
+        at: 0,
+        input: 1,
+    };
+    let n = reader.count(1, 1, 64)?;
+    let table = reader.entries(n * n, &[n])?.to_vec();
+    let k = reader.count(1, 1, 16)?;
+    let images = reader.entries(k, &[n])?.to_vec();
+    let count = reader.count(2, 0, 4_096)?;
+    let begin = reader.at;
+    let pairs = reader.entries(count, &[n, n])?;
+    reader.end()?;
+    let morphism = Morphism { n, table, images };
+    associative(&morphism)?;
+    if let Some(s) = morphism.words().iter().position(Option::is_none) {
+        return Err((6, 1, s as u64));
+    }
+    let marks = marks(&morphism, pairs, 1, begin)?;
+    Ok(Rule { morphism, marks })
+}
+
+/// The checks of a marks section as a second input.
+pub fn second(m: &Morphism, bytes: &[u8]) -> Result<Vec<Pair>, Refusal> {
+    let mut reader = Reader {
+        bytes,
+        at: 0,
+        input: 2,
+    };
+    let count = reader.count(2, 0, 4_096)?;
+    let begin = reader.at;
+    let pairs = reader.entries(count, &[m.n, m.n])?;
+    reader.end()?;
+    marks(m, pairs, 2, begin)
+}
+
+/// The checks of a lasso: both lengths, then the letters of both.
+pub fn lasso(m: &Morphism, u: &[u8], v: &[u8]) -> Result<(), Refusal> {
+    let words = [(1, u), (2, v)];
+    for (input, word) in words {
+        if word.is_empty() || word.len() > 4_224 {
+            return Err((11, input, 0));
+        }
+    }
+    for (input, word) in words {
+        let foreign = word.iter().position(|a| *a as usize >= m.letters());
+        if let Some(i) = foreign {
+            return Err((10, input, i as u64));
+        }
+    }
+    Ok(())
+}
+
+/// The check of a monitor's values.
+pub fn monitor(m: &Morphism, before: usize, since: usize) -> Result<(), Refusal> {
+    let fits = |value: usize| value < m.n || value == 64;
+    match fits(before) && fits(since) {
+        true => Ok(()),
+        false => Err((3, 1, 0)),
+    }
+}
+
+/// An automaton file, before its matrices are counted.
+#[derive(Clone, Debug, PartialEq, Eq)]
+pub struct Automaton {
+    pub kinds: Vec<u8>,
+    pub letters: usize,
+    pub transitions: Vec<(u8, u8, u8)>,
+}
+
+/// Checks 1 to 4 and 8 of an automaton file.
+pub fn automaton(bytes: &[u8]) -> Result<Automaton, Refusal> {
+    let mut reader = Reader {
+        bytes,
+        at: 0,
+        input: 1,
+    };
+    let states = reader.count(1, 1, 6)?;
+    let kinds = reader.entries(states, &[4])?.to_vec();
+    let letters = reader.count(1, 1, 16)?;
+    let count = reader.count(2, 0, 576)?;
+    let begin = reader.at;
+    let triples = reader.entries(count, &[states, letters, states])?;
+    reader.end()?;
+    let mut transitions: Vec<(u8, u8, u8)> = Vec::new();
+    for (i, triple) in triples.chunks(3).enumerate() {
+        let triple = (triple[0], triple[1], triple[2]);
+        if transitions.contains(&triple) {
+            return Err((8, 1, (begin + 3 * i) as u64));
+        }
+        transitions.push(triple);
+    }
+    Ok(Automaton {
+        kinds,
+        letters,
+        transitions,
+    })
+}

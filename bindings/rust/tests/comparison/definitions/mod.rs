@@ -1,0 +1,10 @@
+//! An engine for document 01's definitions that shares nothing with the library: it enumerates.
+
+pub mod acceptance;
+pub mod automata;
+pub mod checks;
+pub mod conjugacy;
+pub mod contexts;
+pub mod cycles;
+pub mod rule;
+pub mod splits;

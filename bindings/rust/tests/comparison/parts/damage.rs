@@ -1,0 +1,207 @@
+//! Damaged files: every cut, every byte changed to every other, several faults at once, and short buffers.
+
+use crate::calls::*;
+use crate::definitions::rule::{marks_section, Rule};
+use crate::inputs::{automata, marks, morphisms};
+use crate::subject::Subject;
+use duknavet::{Monitor, NONE};
+
+pub fn run(c: &mut Comparison, part: usize) {
+    let rules = small_rules(c);
+    // The byte changes of these files are shared out between the parts.
+    for rule in rules.iter().skip(part).step_by(2) {
+        every_damage(c, rule);
+    }
+    for _ in 0..6_000 {
+        let rule = random_rule(c);
+        let mut bytes = rule.bytes();
+        damage(c, &mut bytes);
+        let second = second_marks(c, &rule);
+        any_call(c, &Subject::new(bytes), &second);
+    }
+    // Large files, damaged as the small ones are.
+    for i in 0..400 {
+        let m = match i % 8 {
+            0 => morphisms::largest(&mut c.random, i / 8 % 5),
+            _ => morphisms::any(&mut c.random, 64),
+        };
+        let pairs = marks::mixed(&mut c.random, &m);
+        let rule = m.with(pairs);
+        let mut bytes = rule.bytes();
+        damage(c, &mut bytes);
+        let second = second_marks(c, &rule);
+        any_call(c, &Subject::new(bytes), &second);
+    }
+    for _ in 0..3_000 {
+        let (states, letters) = (c.random.within(1, 6), c.random.within(1, 16));
+        let automaton = automata::automaton(&mut c.random, states, letters, 3);
+        let mut bytes = automaton.bytes();
+        damage(c, &mut bytes);
+        let sizes = match c.random.once_in(20) {
+            true => c.short(AUTOMATON_SIZES),
+            false => c.enough(AUTOMATON_SIZES),
+        };
+        c.automaton_rule(&bytes, sizes);
+    }
+}
+
+fn random_rule(c: &mut Comparison) -> Rule {
+    let m = morphisms::any(&mut c.random, 8);
+    let pairs = marks::mixed(&mut c.random, &m);
+    m.with(pairs)
+}
+
+/// Rules W and Z of document 01, and a few more.
+fn small_rules(c: &mut Comparison) -> Vec<Rule> {
+    let w = [2, 0, 0, 0, 1, 2, 0, 1, 1, 0, 0, 0];
+    let z = [2, 0, 1, 1, 0, 2, 1, 0, 1, 0, 0, 0];
+    let read = |bytes: &[u8]| Subject::new(bytes.to_vec()).known().rule.clone();
+    let mut rules = vec![read(&w), read(&z)];
+    while rules.len() < 6 {
+        let rule = random_rule(c);
+        if rule.morphism.n >= 3 && rule.marks.len() >= 2 && rule.bytes().len() < 50 {
+            rules.push(rule);
+        }
+    }
+    rules
+}
+
+/// Every cut and every single-byte change of the rule, and of its marks as a second input.
+fn every_damage(c: &mut Comparison, rule: &Rule) {
+    let bytes = rule.bytes();
+    let second = marks_section(&rule.marks);
+    for cut in 0..=bytes.len() {
+        let subject = Subject::new(bytes[..cut].to_vec());
+        every_call(c, &subject, &second);
+    }
+    let whole = Subject::new(bytes.clone());
+    for (at, value) in (0..bytes.len()).flat_map(|at| (0..=255).map(move |value| (at, value))) {
+        let mut changed = bytes.clone();
+        changed[at] = value;
+        every_call(c, &Subject::new(changed), &second);
+    }
+    for cut in 0..=second.len() {
+        c.included(&whole, &second[..cut], INCLUDED_SIZES);
+    }
+    for (at, value) in (0..second.len()).flat_map(|at| (0..=255).map(move |value| (at, value))) {
+        let mut changed = second.clone();
+        changed[at] = value;
+        c.included(&whole, &changed, INCLUDED_SIZES);
+    }
+}
+
+/// A marks section, often damaged.
+fn second_marks(c: &mut Comparison, rule: &Rule) -> Vec<u8> {
+    let pairs = marks::mixed(&mut c.random, &rule.morphism);
+    let mut second = marks_section(&pairs);
+    if c.random.once_in(2) {
+        damage(c, &mut second);
+    }
+    second
+}
+
+/// One to three faults: bytes changed to numbers near what is allowed or to any, bytes cut off or added, entries repeated.
+fn damage(c: &mut Comparison, bytes: &mut Vec<u8>) {
+    for _ in 0..c.random.within(1, 3) {
+        if bytes.is_empty() {
+            return;
+        }
+        let at = c.random.below(bytes.len());
+        match c.random.below(8) {
+            0 => bytes.truncate(at),
+            1 => bytes.push(c.random.below(256) as u8),
+            2 => bytes[at] = c.random.below(256) as u8,
+            3 => bytes[at] = bytes[at].wrapping_add(1),
+            4 => {
+                let from = c.random.below(bytes.len());
+                bytes[at] = bytes[from];
+            }
+            5 => bytes[at] = *c.random.pick(&[0, 1, 2, 6, 7, 16, 17, 64, 65]),
+            6 => {
+                let last = bytes.len() - 1;
+                bytes.swap(at, last)
+            }
+            _ => bytes[at] = c.random.below(4) as u8,
+        }
+    }
+}
+
+/// Every call that gets a rule, on one that may have any fault.
+fn every_call(c: &mut Comparison, subject: &Subject, second: &[u8]) {
+    for which in 0..CALLS {
+        call(c, which, subject, second);
+    }
+}
+
+/// One of them.
+fn any_call(c: &mut Comparison, subject: &Subject, second: &[u8]) {
+    let which = c.random.below(CALLS);
+    call(c, which, subject, second);
+}
+
+/// How many calls get a rule.
+const CALLS: usize = 9;
+
+/// A call by number, with further inputs that may be faulty too, and buffers that may be short.
+fn call(c: &mut Comparison, which: usize, subject: &Subject, second: &[u8]) {
+    let (n, letters) = match &subject.read {
+        Ok(known) => (known.morphism().n, known.morphism().letters()),
+        Err(_) => (2, 2),
+    };
+    let lengths = (c.random.below(5), c.random.below(5));
+    let (u, v) = (
+        c.random.word(lengths.0, letters + 1),
+        c.random.word(lengths.1, letters + 1),
+    );
+    let mut value = || *c.random.pick(&[0, n - 1, n - 1, n - 1, n, NONE]);
+    let monitor = Monitor {
+        before: value(),
+        since: value(),
+    };
+    let letter = c.random.below(letters + 1) as u8;
+    let short = c.random.once_in(20);
+    fn sizes<const N: usize>(c: &mut Comparison, short: bool, least: [usize; N]) -> [usize; N] {
+        match short {
+            true => c.short(least),
+            false => c.enough(least),
+        }
+    }
+    match which {
+        0 => {
+            let sizes = sizes(c, short, CLASSES_SIZES);
+            c.classes(subject, sizes)
+        }
+        1 => {
+            let sizes = sizes(c, short, STRONG_SIZES);
+            c.strong(subject, sizes)
+        }
+        2 => {
+            let sizes = sizes(c, short, MEMBER_SIZES);
+            c.member(subject, &u, &v, sizes)
+        }
+        3 => {
+            let sizes = sizes(c, short, COMPLEMENT_SIZES);
+            c.complement(subject, sizes)
+        }
+        4 => {
+            let sizes = sizes(c, short, INCLUDED_SIZES);
+            c.included(subject, second, sizes)
+        }
+        5 => {
+            let sizes = sizes(c, short, MONITOR_SIZES);
+            c.event(subject, monitor, letter, sizes);
+        }
+        6 => {
+            let sizes = sizes(c, short, MONITOR_SIZES);
+            c.mark(subject, monitor, sizes);
+        }
+        7 => {
+            let sizes = sizes(c, short, MONITOR_SIZES);
+            c.verdict(subject, monitor, sizes)
+        }
+        _ => {
+            let sizes = sizes(c, short, REDUCE_SIZES);
+            c.reduce(subject, sizes)
+        }
+    }
+}

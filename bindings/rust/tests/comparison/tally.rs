@@ -1,0 +1,125 @@
+//! How often each outcome occurred, and how often it must.
+
+use std::collections::BTreeMap;
+
+#[derive(Default)]
+pub struct Tally(BTreeMap<(String, String), u64>);
+
+impl Tally {
+    pub fn count(&mut self, call: &str, outcome: impl Into<String>) {
+        *self
+            .0
+            .entry((call.to_string(), outcome.into()))
+            .or_default() += 1;
+    }
+
+    pub fn add(&mut self, other: Tally) {
+        for (key, count) in other.0 {
+            *self.0.entry(key).or_default() += count;
+        }
+    }
+
+    pub fn get(&self, call: &str, outcome: &str) -> u64 {
+        let key = (call.to_string(), outcome.to_string());
+        self.0.get(&key).copied().unwrap_or(0)
+    }
+
+    pub fn total(&self) -> u64 {
+        self.0.values().sum()
+    }
+
+    pub fn print(&self) {
+        for ((call, outcome), count) in &self.0 {
+            println!("{call:<16} {outcome:<34} {count:>8}");
+        }
+    }
+}
+
+/// How a refusal is counted.
+pub fn refusal(number: u8, input: u8) -> String {
+    format!("refused by {number:>2} in input {input}")
+}
+
+/// A call, and for each of its inputs the numbers of the refusals.
+type Refusals = (&'static str, &'static [(u8, &'static [u8])]);
+
+/// Which refusals each call can answer, with their inputs: every number that applies to it but 9, which no input can have.
+/// A rule's checks are 1 to 8; a second marks section has no table and no letters, so not 5 and 6.
+const REFUSALS: [Refusals; 10] = [
+    ("classes", &[(1, &[1, 2, 3, 4, 5, 6, 7, 8, 13])]),
+    ("strong", &[(1, &[1, 2, 3, 4, 5, 6, 7, 8, 13])]),
+    (
+        "member",
+        &[(1, &[1, 2, 3, 4, 5, 6, 7, 8, 10, 11, 13]), (2, &[10, 11])],
+    ),
+    ("complement", &[(1, &[1, 2, 3, 4, 5, 6, 7, 8, 12, 13])]),
+    (
+        "included",
+        &[(1, &[1, 2, 3, 4, 5, 6, 7, 8, 13]), (2, &[1, 2, 3, 4, 7, 8])],
+    ),
+    ("event", &[(1, &[1, 2, 3, 4, 5, 6, 7, 8, 10, 13])]),
+    ("mark", &[(1, &[1, 2, 3, 4, 5, 6, 7, 8, 13])]),
+    ("verdict", &[(1, &[1, 2, 3, 4, 5, 6, 7, 8, 11, 12, 13])]),
+    ("reduce", &[(1, &[1, 2, 3, 4, 5, 6, 7, 8, 12, 13])]),
+    ("automaton_rule", &[(1, &[1, 2, 3, 4, 8, 13, 14])]),
+];
+
+/// Outcomes that must occur at least so often.
+const LEAST: [(&str, &str, u64); 27] = [
+    ("classes", "counts", 1000),
+    ("strong", "weak", 100),
+    ("strong", "strong, marks closed", 1000),
+    ("strong", "strong, marks not closed", 100),
+    ("strong of 64", "weak", 10),
+    ("strong of 64", "strong, marks closed", 10),
+    ("strong of 64", "strong, marks not closed", 10),
+    ("member", "accepted", 1000),
+    ("member", "not accepted", 1000),
+    ("member", "a word of 4224 letters", 20),
+    ("complement", "written", 1000),
+    ("included", "included", 1000),
+    ("included", "not included", 100),
+    ("included", "not included, v of 3 or more", 20),
+    ("event", "moved", 1000),
+    ("event", "a monitor's value refused", 10),
+    ("mark", "moved", 1000),
+    ("mark", "a monitor's value refused", 10),
+    ("verdict", "accepted", 100),
+    ("verdict", "not accepted", 100),
+    ("verdict", "a monitor's value refused", 10),
+    ("monitor", "histories", 1000),
+    ("monitor", "verdicts on histories", 100),
+    ("reduce", "smaller", 100),
+    ("reduce", "as large", 100),
+    ("reduce", "64 elements", 1),
+    ("automaton_rule", "written", 1000),
+];
+
+/// What occurred too seldom, or though it cannot.
+pub fn faults(tally: &Tally) -> Vec<String> {
+    let mut faults = Vec::new();
+    for (call, outcome, least) in LEAST {
+        let count = tally.get(call, outcome);
+        if count < least {
+            faults.push(format!("{call}: {outcome}: {count}, fewer than {least}"));
+        }
+    }
+    for (call, inputs) in REFUSALS {
+        for input in 1..=2 {
+            for number in 1..=14 {
+                let here = |(i, numbers): &(u8, &[u8])| *i == input && numbers.contains(&number);
+                let applies = inputs.iter().any(here);
+                let occurred = tally.get(call, &refusal(number, input)) > 0;
+                if applies != occurred {
+                    let what = if applies {
+                        "never occurred"
+                    } else {
+                        "cannot apply"
+                    };
+                    faults.push(format!("{call}: {} {what}", refusal(number, input)));
+                }
+            }
+        }
+    }
+    faults
+}

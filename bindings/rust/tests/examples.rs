@@ -1,0 +1,205 @@
+//! The small rules of document 01, each with the answer that the document gives.
+
+use duknavet::{automaton_rule, classes, complement, event, fresh, included, mark, member};
+use duknavet::{reduce, strong, verdict, Classes, Inclusion, Membership, Monitor};
+use duknavet::{Refusal, Refused, Strength, Verdict};
+use duknavet::{CLASSES_OUT, NONE, RULE_OUT, SCRATCH, U_OUT, V_OUT, WORD};
+
+/// Letter 0 without end, over letters 0 and 1.
+const W: [u8; 12] = [2, 0, 0, 0, 1, 2, 0, 1, 1, 0, 0, 0];
+/// W with all 3 linked pairs marked.
+const W_ALL: [u8; 16] = [2, 0, 0, 0, 1, 2, 0, 1, 3, 0, 0, 0, 0, 1, 1, 1];
+/// The group of two elements, with one of two conjugate pairs marked.
+const Z: [u8; 12] = [2, 0, 1, 1, 0, 2, 1, 0, 1, 0, 0, 0];
+/// Z with letter 0 only.
+const Z_ONE_LETTER: [u8; 11] = [2, 0, 1, 1, 0, 1, 1, 1, 0, 0, 0];
+/// State 0 initial, state 1 final; letter 0 leads to state 1, letter 1 to state 0.
+const M10: [u8; 18] = [2, 1, 2, 2, 4, 0, 0, 0, 1, 0, 1, 0, 1, 0, 1, 1, 1, 0];
+
+fn scratch() -> Vec<u8> {
+    vec![0xa5; SCRATCH]
+}
+
+fn refused<T>(number: u8, input: u8, place: u64) -> Result<T, Refused> {
+    let refusal = Refusal::from_number(number).expect("a refusal's number");
+    Err(Refused {
+        refusal,
+        input,
+        place,
+    })
+}
+
+fn counts(rule: &[u8]) -> Result<Classes, Refused> {
+    classes(rule, &mut vec![0; CLASSES_OUT], &mut scratch())
+}
+
+fn strength(rule: &[u8]) -> Result<Strength, Refused> {
+    strong(rule, &mut scratch())
+}
+
+fn lasso(rule: &[u8], u: &[u8], v: &[u8]) -> Result<Membership, Refused> {
+    member(rule, u, v, &mut scratch())
+}
+
+fn reduced(rule: &[u8]) -> Result<Vec<u8>, Refused> {
+    let mut out = vec![0; RULE_OUT];
+    let length = reduce(rule, &mut out, &mut scratch())?.length;
+    Ok(out[..length].to_vec())
+}
+
+fn translated(automaton: &[u8]) -> Result<Vec<u8>, Refused> {
+    let mut out = vec![0; RULE_OUT];
+    let length = automaton_rule(automaton, &mut out, &mut scratch())?.length;
+    Ok(out[..length].to_vec())
+}
+
+fn found(linked: usize, classes: usize, joins: usize) -> Result<Classes, Refused> {
+    Ok(Classes {
+        linked,
+        classes,
+        joins,
+    })
+}
+
+#[test]
+fn m1_w_is_strong_and_its_own_reduction() {
+    assert_eq!(counts(&W), found(3, 3, 0));
+    assert_eq!(strength(&W), Ok(Strength::Strong));
+    assert_eq!(reduced(&W).map(|rule| rule[0]), Ok(2));
+}
+
+#[test]
+fn m2_w_accepts() {
+    assert_eq!(lasso(&W, &[1], &[0]), Ok(Membership::Accepted));
+}
+
+#[test]
+fn m3_w_does_not_accept() {
+    assert_eq!(lasso(&W, &[0], &[1]), Ok(Membership::NotAccepted));
+}
+
+#[test]
+fn m4_w_with_every_mark_reduces_to_one_element() {
+    assert_eq!(reduced(&W_ALL), Ok(vec![1, 0, 2, 0, 0, 1, 0, 0, 0]));
+}
+
+#[test]
+fn m5_z_has_one_class() {
+    assert_eq!(counts(&Z), found(2, 1, 1));
+}
+
+#[test]
+fn m6_z_is_weak() {
+    assert_eq!(strength(&Z), Ok(Strength::Weak));
+    assert_eq!(lasso(&Z, &[0], &[1]), Ok(Membership::NotAccepted));
+    assert_eq!(lasso(&Z, &[0], &[0, 0]), Ok(Membership::Accepted));
+    assert_eq!(reduced(&Z), refused(12, 1, 0));
+    let written = complement(&Z, &mut vec![0; RULE_OUT], &mut scratch());
+    assert_eq!(written, refused(12, 1, 0));
+    let monitor = Monitor {
+        before: 0,
+        since: 0,
+    };
+    assert_eq!(verdict(&Z, monitor, &mut scratch()), refused(12, 1, 0));
+}
+
+#[test]
+fn m7_one_letter_makes_z_strong() {
+    assert_eq!(strength(&Z_ONE_LETTER), Ok(Strength::Strong));
+    assert_eq!(reduced(&Z_ONE_LETTER).map(|rule| rule[0]), Ok(1));
+}
+
+#[test]
+fn m8_a_table_that_is_not_associative() {
+    let rule = [2, 1, 0, 0, 0, 1, 0, 0, 0];
+    assert_eq!(strength(&rule), refused(5, 1, 1));
+}
+
+#[test]
+fn m9_an_element_that_no_word_reaches() {
+    let rule = [2, 0, 0, 0, 1, 1, 0, 0, 0];
+    assert_eq!(strength(&rule), refused(6, 1, 1));
+}
+
+#[test]
+fn m10_an_automaton_of_three_matrices() {
+    let rule = translated(&M10).expect("few matrices");
+    assert_eq!(rule[0], 3);
+    assert_eq!(reduced(&rule).map(|rule| rule[0]), Ok(2));
+}
+
+#[test]
+fn counts_of_elements_and_letters() {
+    assert_eq!(strength(&[0]), refused(2, 1, 0));
+    assert_eq!(strength(&[65]), refused(2, 1, 0));
+    assert_eq!(strength(&[1, 0, 17]), refused(2, 1, 2));
+    let mut widest = vec![1, 0, 16];
+    widest.extend([0; 16]);
+    widest.extend([0, 0]);
+    assert_eq!(strength(&widest), Ok(Strength::Strong));
+    // The cyclic group of 64 elements.
+    let mut cyclic = vec![64];
+    cyclic.extend((0..64).flat_map(|a| (0..64).map(move |b| (a + b) % 64)));
+    cyclic.extend([1, 1, 0, 0]);
+    assert_eq!(strength(&cyclic), Ok(Strength::Strong));
+}
+
+#[test]
+fn an_unlinked_mark() {
+    let rule = [2, 0, 0, 0, 1, 2, 0, 1, 1, 0, 1, 0];
+    // 1·0 = 0 in W's table, so (1, 0) is not linked; it stands from byte 10 on.
+    assert_eq!(strength(&rule), refused(7, 1, 10));
+}
+
+#[test]
+fn lengths_of_words() {
+    assert_eq!(lasso(&W, &[1], &[]), refused(11, 2, 0));
+    assert_eq!(lasso(&W, &[1], &[0; WORD + 1]), refused(11, 2, 0));
+    assert_eq!(lasso(&W, &[1], &[0]), Ok(Membership::Accepted));
+    assert_eq!(lasso(&W, &[1], &[0; WORD]), Ok(Membership::Accepted));
+    assert_eq!(lasso(&W, &[], &[0]), refused(11, 1, 0));
+    assert_eq!(lasso(&W, &[1; WORD + 1], &[0]), refused(11, 1, 0));
+    assert_eq!(lasso(&W, &[1; WORD], &[0]), Ok(Membership::Accepted));
+}
+
+#[test]
+fn an_automaton_that_accepts_nothing() {
+    // An idle initial state, and a final one that loops where no run comes.
+    let rule = translated(&[2, 1, 2, 1, 1, 0, 1, 0, 1]).expect("few matrices");
+    assert_eq!(lasso(&rule, &[0], &[0]), Ok(Membership::NotAccepted));
+}
+
+#[test]
+fn a_monitor_of_w() {
+    let scratch = &mut scratch();
+    let start = fresh();
+    assert_eq!((start.before, start.since), (NONE, NONE));
+    assert_eq!(mark(&W, start, scratch), Ok(start));
+    assert_eq!(verdict(&W, start, scratch), refused(11, 1, 0));
+    let first = event(&W, start, 1, scratch).expect("a letter of W");
+    let marked = mark(&W, first, scratch).expect("a monitor of W");
+    assert_eq!((marked.before, marked.since), (1, NONE));
+    let second = event(&W, marked, 0, scratch).expect("a letter of W");
+    assert_eq!((second.before, second.since), (1, 0));
+    assert_eq!(verdict(&W, second, scratch), Ok(Verdict::Accepted));
+    let refusal = event(&W, second, 2, scratch).expect_err("W has two letters");
+    assert_eq!(refusal.monitor, second);
+    assert_eq!(Err::<(), _>(refusal.refused), refused(10, 1, 0));
+}
+
+#[test]
+fn complement_and_inclusion_of_w() {
+    let scratch = &mut scratch();
+    let mut out = vec![0; RULE_OUT];
+    let length = complement(&W, &mut out, scratch).expect("strong").length;
+    let other = &out[..length];
+    assert_eq!(lasso(other, &[1], &[0]), Ok(Membership::NotAccepted));
+    assert_eq!(lasso(other, &[0], &[1]), Ok(Membership::Accepted));
+    let (u, v) = (&mut vec![0; U_OUT], &mut vec![0; V_OUT]);
+    let every = &W_ALL[8..];
+    assert_eq!(included(&W, every, u, v, scratch), Ok(Inclusion::Included));
+    let Ok(Inclusion::NotIncluded { u: i, v: j }) = included(&W_ALL, &W[8..], u, v, scratch) else {
+        panic!("W does not accept letter 1 for ever");
+    };
+    assert_eq!(lasso(&W, &u[..i], &v[..j]), Ok(Membership::NotAccepted));
+}

@@ -1,0 +1,171 @@
+/* Duknavet: an engine for rules over endless event sequences, proved in Rattle. Link libexports.a (x86-64), which
+ * `rt staticlib exports` writes to target/staticlib.
+ *
+ * What a caller owes
+ *   - Each pointer is not null, also for a length of 0, and good for its length.
+ *   - A buffer that is written (out, scratch, and u and v of duknavet_included) overlaps no other argument's bytes during
+ *     the call. Bytes that are only read may overlap.
+ *   - Nothing else: any bytes of any length, and any numbers, have their answer. No call keeps a pointer, allocates, or
+ *     uses memory shared between calls; calls on different buffers may run at the same time.
+ *
+ * Buffers
+ *   - scratch has DUKNAVET_SCRATCH bytes or more. It may hold anything, and ends as zeros over its whole length.
+ *   - Result buffers have the sizes below or more. Bytes past a result keep what they had; after a refusal so does every
+ *     byte. Where a buffer is too short (DUKNAVET_BUFFER_TOO_SHORT) no buffer changes, the scratch included.
+ *
+ * Answers
+ *   Every function answers one number. Byte 0 is 0 for a result, else the number of the refusal.
+ *   - A refusal has its input in byte 1 and its place from bit 16 on.
+ *   - A result has three fields of 16 bits, from bits 16, 32 and 48 on: duknavet_field(answer, 0), .. 1, .. 2. Fields that a
+ *     function does not name are 0.
+ *
+ * Words
+ *   A rule file has n elements (n, then n * n products), k letters (k, then an element each) and marks (a two-byte count, low
+ *   byte first, then pairs (s, e) of two bytes). A lasso is u, then v for ever. A rule accepts it if the same endless word is
+ *   p, then w for ever, with (value of p, value of w) marked. A pair (s, e) is linked if e * e = e and s * e = s. A rule is
+ *   strong if the values of u and v decide whether the lasso is accepted.
+ */
+#ifndef DUKNAVET_H
+#define DUKNAVET_H
+
+#include <stddef.h>
+#include <stdint.h>
+
+#ifdef __cplusplus
+extern "C" {
+#endif
+
+/* The sizes that lent buffers must have, in bytes; longer ones pass. */
+#define DUKNAVET_SCRATCH 65536 /* scratch of every call */
+#define DUKNAVET_RULE 12308    /* out of complement, reduce and automaton_rule: the longest rule file */
+#define DUKNAVET_CLASSES 8192  /* out of classes: two bytes for each pair of 64 elements */
+#define DUKNAVET_U 64          /* u of included */
+#define DUKNAVET_V 4224        /* v of included */
+
+/* The most letters that u or v of a lasso may have; the fewest is 1. */
+#define DUKNAVET_WORD 4224
+
+/* The value of a monitor that stands for no letters. */
+#define DUKNAVET_NONE 64
+
+/* What classes writes for a pair that is not linked. */
+#define DUKNAVET_NOT_LINKED_PAIR 65535
+
+/* Why a call refuses, in byte 0 of an answer, with the place that the answer holds. The first check that fails is
+ * answered: 13, then 1 to 3 section by section, 4, 5, 6, 7 and 8 pair by pair, the second input's own, then 3 for a monitor's
+ * values, 11 for u, then v, or for a verdict, 10 in u, then v, or for an event, 12. */
+enum duknavet_refusal {
+    DUKNAVET_RESULT = 0,               /* no refusal */
+    DUKNAVET_TRUNCATED = 1,            /* bytes end inside a count or section: the length of the input */
+    DUKNAVET_COUNT_OUT_OF_RANGE = 2,   /* a count lies outside its range: its first byte */
+    DUKNAVET_ENTRY_OUT_OF_RANGE = 3,   /* an entry or a monitor's value names nothing: its byte; 0 for a monitor */
+    DUKNAVET_TRAILING_BYTES = 4,       /* bytes follow the last section: the first such byte */
+    DUKNAVET_NOT_ASSOCIATIVE = 5,      /* (a*b)*c differs from a*(b*c): a * 4096 + b * 64 + c */
+    DUKNAVET_UNREACHABLE = 6,          /* an element is no word's value: the least */
+    DUKNAVET_NOT_LINKED = 7,           /* a marked pair is not linked: its first byte */
+    DUKNAVET_DUPLICATE = 8,            /* a pair or transition stands twice: the first byte of the later */
+    DUKNAVET_NO_IDEMPOTENT_POWER = 9,  /* never answered: an associative table always has one */
+    DUKNAVET_UNKNOWN_LETTER = 10,      /* a word or event has a letter of k or more: its position; 0 for an event */
+    DUKNAVET_WORD_LENGTH = 11,         /* u or v is too short or long, or a verdict lacks a value: 0 */
+    DUKNAVET_NOT_STRONG = 12,          /* the rule is not strong: 0 */
+    DUKNAVET_BUFFER_TOO_SHORT = 13,    /* a lent buffer is too short: 0 */
+    DUKNAVET_TOO_MANY_MATRICES = 14    /* an automaton has more than 64 matrices: 0 */
+};
+
+/* The refusal of an answer; DUKNAVET_RESULT where it is a result. */
+static inline enum duknavet_refusal duknavet_refusal_of(uint64_t answer)
+{
+    return (enum duknavet_refusal)(answer & 255);
+}
+
+/* The input that a refusal lies in: 2 for the second marks section and for the word v, otherwise 1. */
+static inline unsigned duknavet_input_of(uint64_t answer)
+{
+    return (unsigned)((answer >> 8) & 255);
+}
+
+/* The place of a refusal in its input. */
+static inline uint64_t duknavet_place_of(uint64_t answer)
+{
+    return answer >> 16;
+}
+
+/* Field 0, 1 or 2 of a result. */
+static inline size_t duknavet_field(uint64_t answer, unsigned field)
+{
+    return (size_t)((answer >> (16 * (field + 1))) & 65535);
+}
+
+/* The conjugacy classes of the rule's linked pairs. Field 0: the linked pairs; 1: their classes; 2: the joins, which are the
+ * first less the second. out (DUKNAVET_CLASSES) gets two bytes, low byte first, for each pair (s, e), from byte
+ * 2 * (s * n + e) on: the least t * n + f with (t, f) conjugate to it, or 65535 where it is not linked; 2 * n * n in all. */
+uint64_t duknavet_classes(const uint8_t *rule, size_t rule_length,
+                          uint8_t *out, size_t out_length,
+                          uint8_t *scratch, size_t scratch_length);
+
+/* Field 0: 1 if the rule is strong, 0 if it is weak. */
+uint64_t duknavet_strong(const uint8_t *rule, size_t rule_length,
+                         uint8_t *scratch, size_t scratch_length);
+
+/* Field 0: 1 if the rule accepts u, then v for ever, 0 if not. A byte a letter. The rule may be weak. */
+uint64_t duknavet_member(const uint8_t *rule, size_t rule_length,
+                         const uint8_t *u, size_t u_length,
+                         const uint8_t *v, size_t v_length,
+                         uint8_t *scratch, size_t scratch_length);
+
+/* The complement of a strong rule: the same elements, marking every linked pair whose lassos are not accepted. Field 0: how
+ * many bytes of out (DUKNAVET_RULE) it has. */
+uint64_t duknavet_complement(const uint8_t *rule, size_t rule_length,
+                             uint8_t *out, size_t out_length,
+                             uint8_t *scratch, size_t scratch_length);
+
+/* Whether each lasso that the rule accepts is accepted under the marks section second (a two-byte count, then pairs) in place
+ * of the rule's own. Field 0: 1 if so, and nothing is written. Otherwise field 0 is 0, and a lasso that only the rule's own
+ * marks accept is written: field 1 is how many letters of u (DUKNAVET_U), 1 to n; field 2 how many of v (DUKNAVET_V), 1 to
+ * (n + 1) * (n + 1) - 1. The rule may be weak. */
+uint64_t duknavet_included(const uint8_t *rule, size_t rule_length,
+                           const uint8_t *second, size_t second_length,
+                           uint8_t *u, size_t u_length,
+                           uint8_t *v, size_t v_length,
+                           uint8_t *scratch, size_t scratch_length);
+
+/* The smallest strong rule with the same lassos as a strong rule. Field 0: how many bytes of out (DUKNAVET_RULE) it has. */
+uint64_t duknavet_reduce(const uint8_t *rule, size_t rule_length,
+                         uint8_t *out, size_t out_length,
+                         uint8_t *scratch, size_t scratch_length);
+
+/* The rule of the lassos on which some run of a Buchi automaton from an initial state meets a final state again and again.
+ * The automaton file: a count of states, 1 to 6, a byte each (0 plain, 1 initial, 2 final, 3 both); a count of letters, 1 to
+ * 16; a two-byte count of transitions, 0 to 576, then triples (from, letter, to). Field 0: how many bytes of out
+ * (DUKNAVET_RULE) the rule has. */
+uint64_t duknavet_automaton_rule(const uint8_t *automaton, size_t automaton_length,
+                                 uint8_t *out, size_t out_length,
+                                 uint8_t *scratch, size_t scratch_length);
+
+/* Monitors: before is the value of the letters before the last mark, since of those after it, each an element or
+ * DUKNAVET_NONE. A refused event or mark leaves the monitor as the caller has it. */
+
+/* Field 0 and 1: before and since of a monitor that has seen nothing. Never refuses. */
+uint64_t duknavet_fresh(void);
+
+/* Field 0 and 1: before and since after an event. The rule may be weak. */
+uint64_t duknavet_event(const uint8_t *rule, size_t rule_length,
+                        size_t before, size_t since, uint8_t letter,
+                        uint8_t *scratch, size_t scratch_length);
+
+/* Field 0 and 1: before and since after a mark, which changes nothing where since is DUKNAVET_NONE. The rule may be weak. */
+uint64_t duknavet_mark(const uint8_t *rule, size_t rule_length,
+                       size_t before, size_t since,
+                       uint8_t *scratch, size_t scratch_length);
+
+/* Field 0: 1 if a strong rule accepts the lassos whose start has the value before and whose cycle has the value since, 0 if
+ * not. */
+uint64_t duknavet_verdict(const uint8_t *rule, size_t rule_length,
+                          size_t before, size_t since,
+                          uint8_t *scratch, size_t scratch_length);
+
+#ifdef __cplusplus
+}
+#endif
+
+#endif
