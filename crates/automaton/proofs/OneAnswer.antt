@@ -1,16 +1,28 @@
--- The promise leaves open only how the elements are numbered: two answers for the same bytes have the same number, input and place,
--- or are both a rule, and the two rules have one table and letter images, elements renumbered. Assumes nothing.
+-- Two answers of the call for the same automaton and buffers are one, and leave out and scratch alike: of the rules of an automaton
+-- only one is numbered by first words. Assumes nothing.
 use Prim.Native.Nat.{ℕ}
-use mathlib.Core.Path.{_≡_, sym, _∙_}
-use mathlib.Core.List.{List}
+use native.Mathlib.Omega.{arith}
+use mathlib.Core.Path.{_≡_, sym, ap, _∙_, subst}
+use mathlib.Core.Logic.{_↔_}
+use mathlib.Core.List.{List, _++_}
+use lib.ListN.{length, drop}
+use Rattle.finite.proofs.Pigeonhole.{injection-le}
+use Rattle.answer.specs.Refusals.{numberOf}
+use Rattle.answer.proofs.Numbers.{same-number}
 use Rattle.answer.proofs.Order.{AllSingle, single-nil, single-cons, single-append, one-verdict}
+use Rattle.theory.specs.Words.{Lasso}
+use Rattle.theory.specs.Rules.{marked, Rule as Any-rule}
+use Rattle.theory.specs.Acceptance.{Accepts}
 use Rattle.theory.specs.Smallest.{Renumbered}
 use Rattle.buchi.proofs.Numberings.{matrices-renumbered}
 use Rattle.format.specs.RuleChecks.{ShortAt}
 use Rattle.automatonfile.proofs.OneVerdict.{read-single}
+use Rattle.rulewriter.specs.File.{fileOf}
+use Rattle.firstwords.proofs.OneFile.{one-file}
 use Rattle.automaton.specs.Meaning.{RichAt}
-use Rattle.automaton.specs.Promise.{RuleOf, ruleVerdict, translateChecks, RulePromise}
+use Rattle.automaton.specs.Promise.{RuleOf, RuleAnswer, ruleVerdict, translateChecks, RulePromise}
 use Rattle.automaton.specs.declared.Translated.{Translated}
+use Rattle.automaton.specs.declared.Translated.the-variants.{Rule, Refused}
 
 short-place : {needed : ℕ} {buffer : List ℕ} (p q : ℕ) → ShortAt needed buffer p → ShortAt needed buffer q → p ≡ q
 short-place p q a b = a .is-place ∙ sym (b .is-place)
@@ -34,7 +46,53 @@ pub one-scratch : {bytes out out-exit out-exit′ entry exit exit′ : List ℕ}
     → RulePromise bytes out out-exit′ entry exit′ answer′ → exit ≡ exit′
 one-scratch p q = p .scratch ∙ sym (q .scratch)
 
--- two rules of one automaton
-pub one-rule : {bytes entry exit entry′ exit′ : List ℕ} {r r′ : ℕ} (a : RuleOf bytes entry exit r) (b : RuleOf bytes entry′ exit′ r′)
-    → Renumbered (a .morphism) (b .morphism)
-one-rule a b = matrices-renumbered (a .lawful) (a .elements) (b .lawful) (b .elements)
+abbrev rule-of : {bytes before after : List ℕ} {r : ℕ} → RuleOf bytes before after r → Any-rule
+rule-of a = record { morphism = a .morphism; lawful = a .lawful; marks = a .marks }
+
+-- two rules of one automaton have one table, elements renumbered, and so, both being numbered by first words, one file
+module _ {bytes before after after′ : List ℕ} {r r′ : ℕ} (a : RuleOf bytes before after r) (b : RuleOf bytes before after′ r′) where
+  renumbered : Renumbered (a .morphism) (b .morphism)
+  renumbered = matrices-renumbered (a .lawful) (a .elements) (b .lawful) (b .elements)
+
+  renumbered-back : Renumbered (b .morphism) (a .morphism)
+  renumbered-back = matrices-renumbered (b .lawful) (b .elements) (a .lawful) (a .elements)
+
+  same-size : a .morphism .size ≡ b .morphism .size
+  same-size =
+      let to = injection-le (record { maps = renumbered .inside; apart = renumbered .one-to-one }) in
+      let back = injection-le (record { maps = renumbered-back .inside; apart = renumbered-back .one-to-one }) in
+      omega (arith, to, back)
+
+  same-lassos : (u v : List ℕ) → Lasso (a .morphism .letters) u v → Accepts (a .morphism) (marked (a .marks)) u v ↔ Accepts (b .morphism) (marked (b .marks)) u v
+  same-lassos u v l =
+      let k = a .accepts .accepts u v l in
+      let k′ = b .accepts .accepts u v (subst (λ n. Lasso n u v) (renumbered .same-letters) l) in
+      (λ t. k′ .1 (k .0 t), λ t. k .1 (k′ .0 t))
+
+  same-file : fileOf (b .morphism) (b .marks) ≡ fileOf (a .morphism) (a .marks)
+  same-file = one-file (rule-of a) (rule-of b) renumbered same-size (a .numbered) (b .numbered) (a .all-marked) (b .all-marked) same-lassos
+
+  one-length : r ≡ r′
+  one-length = a .written .counts ∙ ap length (sym same-file) ∙ sym (b .written .counts)
+
+  one-rule : after ≡ after′
+  one-rule = a .written .holds ∙ ap (λ (file : List ℕ). file ++ drop (length file) before) (sym same-file) ∙ sym (b .written .holds)
+
+module _ (bytes before : List ℕ) {after after′ : List ℕ} where
+  same-answer : (a b : Translated) → RuleAnswer bytes before after a → RuleAnswer bytes before after′ b → ruleVerdict a ≡ ruleVerdict b
+      → (a ≡ b) × (after ≡ after′)
+  same-answer (Rule r) (Rule r′) p q e = (ap Rule (one-length p q), one-rule p q)
+  same-answer (Rule r) (Refused k i place) p q e = absurd (let z : _≡_ {A = ℕ} 0 1 = cc in let w : ⊥ = omega arith in w)
+  same-answer (Refused k i place) (Rule r) p q e = absurd (let z : _≡_ {A = ℕ} 0 1 = cc in let w : ⊥ = omega arith in w)
+  same-answer (Refused k i place) (Refused k′ i′ place′) p q e =
+      let number : numberOf k ≡ numberOf k′ = cc in
+      let kind = same-number k k′ number in
+      let there : i ≡ i′ = cc in
+      let here : place ≡ place′ = cc in
+      (cc (kind, there, here), p ∙ sym q)
+
+-- two answers are one, and leave out alike
+pub one-answer : {bytes before after after′ entry exit exit′ : List ℕ} (answer answer′ : Translated) → RulePromise bytes before after entry exit answer
+    → RulePromise bytes before after′ entry exit′ answer′ → (answer ≡ answer′) × (after ≡ after′)
+one-answer {bytes} {before} {entry = entry} answer answer′ p q =
+    same-answer bytes before answer answer′ (p .answered) (q .answered) (rule-one-verdict bytes before entry p q)

@@ -23,7 +23,8 @@ use Rattle.rulewriter.specs.ReadBack.{WrittenRule}
 use Rattle.rulewriter.proofs.Agree.{Agree}
 use Rattle.rulewriter.proofs.Same.{SameMarks, file-same}
 use Rattle.rulewriter.proofs.ReadBack.{written-rule}
-use Rattle.examples.proofs.Reductions.{reductions-size, same-self}
+use Rattle.reduction.proofs.SameReductions.{reductions-size}
+use Rattle.examples.proofs.Reductions.{same-self}
 
 -- every pair is marked
 abbrev pub all-marked : Marking

@@ -1,11 +1,9 @@
 -- How many elements a reduction has: two reductions of rules with the same lassos have as many, so every reduction of a strong
 -- rule has as many as the model computes. Assumes nothing.
 use Prim.Native.Nat.{ℕ}
-use native.Mathlib.Omega.{arith}
-use mathlib.Core.Path.{_≡_, refl, sym, _∙_, subst}
+use mathlib.Core.Path.{_≡_, refl, _∙_}
 use mathlib.Core.Bool.{Bool, true}
 use mathlib.Core.List.{List}
-use Rattle.theory.specs.Words.{Lasso}
 use Rattle.theory.specs.Rules.{Rule, marked, AllReached}
 use Rattle.theory.specs.Acceptance.{RuleStrong}
 use Rattle.theory.specs.Pairs.{LinkedOnly}
@@ -16,6 +14,7 @@ use Rattle.minimality.proofs.Settle.{unchanged, settleFrom, settle}
 use Rattle.minimality.proofs.ReduceModel.{heads, headsOf, finalBlocks, reduced-size, reduce-model-right}
 use Rattle.rulefile.specs.GoodRule.{GoodRule}
 use Rattle.reduction.specs.Promise.{ruleOf}
+use Rattle.reduction.proofs.SameReductions.{reductions-size}
 use Rattle.format.specs.Format.{morphismOf, pairsOf}
 use Rattle.examples.specs.Files.{W, Z₀}
 use Rattle.examples.specs.Examples.{FileStrong, RuleReducesTo, ReducesTo}
@@ -28,28 +27,6 @@ unfolding reading reduced-size finalBlocks headsOf heads settle settleFrom uncha
 reducing = true
 
 -- ---- rules with the same lassos
-
-same-back : {r r′ : Rule} → SameLassos r r′ → SameLassos r′ r
-same-back s = record {
-  same-letters = sym (s .same-letters);
-  both-or-neither = λ u v l.
-      let k = s .both-or-neither u v (subst (λ n. Lasso n u v) (sym (s .same-letters)) l) in (k .1, k .0);
-}
-
-same-on : {r r′ r″ : Rule} → SameLassos r r′ → SameLassos r′ r″ → SameLassos r r″
-same-on s t = record {
-  same-letters = s .same-letters ∙ t .same-letters;
-  both-or-neither = λ u v l.
-      let k = s .both-or-neither u v l in
-      let k′ = t .both-or-neither u v (subst (λ n. Lasso n u v) (s .same-letters) l) in
-      (λ a. k′ .0 (k .0 a), λ a. k .1 (k′ .1 a));
-}
-
--- their reductions have as many elements: each is a rival of the other
-pub reductions-size : {r r′ x y : Rule} → SameLassos r r′ → Reduction r x → Reduction r′ y → x .morphism .size ≡ y .morphism .size
-reductions-size {x = x} {y = y} s p q =
-    let xy = same-on (same-back (p .same)) (same-on s (q .same)) in
-    omega (arith, p .smallest .at-least y (q .smallest .strong) xy, q .smallest .at-least x (p .smallest .strong) (same-back xy))
 
 pub same-self : (r : Rule) → SameLassos r r
 same-self r = record { same-letters = refl; both-or-neither = λ u v l. (λ a. a, λ a. a) }

@@ -7,20 +7,19 @@ use borrow.Author.Tests.{le-ltb}
 use lib.ListN.{length, replicate}
 use Rattle.finite.proofs.Select.{select, selectFrom}
 use Rattle.answer.specs.Checks.{passed, FirstFailure}
-use Rattle.answer.proofs.Order.{AllSingle, single-nil, single-cons, single-append, one-verdict, first-passes, none-left, passed-before}
+use Rattle.answer.proofs.Order.{one-verdict, first-passes, none-left, passed-before}
 use Rattle.theory.specs.Rules.{Rule, Lawful}
 use Rattle.theory.specs.Smallest.{Reduction}
 use Rattle.theory.proofs.EveryLasso.{AcceptsEvery, every-test, every-elim, one, one-rule}
 use Rattle.theory.proofs.SmallReductions.{every-reduction}
 use Rattle.format.specs.Format.{morphismOf, pairsOf}
-use Rattle.format.specs.RuleChecks.{ShortAt, scratchSize}
+use Rattle.format.specs.RuleChecks.{scratchSize}
 use Rattle.rulefile.specs.Answers.{checkedChecks, afterCall}
-use Rattle.rulefile.proofs.OneVerdict.{checked-single}
 use Rattle.rulewriter.specs.File.{tabulate, elementsBytes, lettersBytes, isMarked, markNumbers, pairBytes, marksBytes, fileOf}
-use Rattle.strength.specs.Weak.{WeakAt}
 use Rattle.reduction.specs.declared.Reduced.{Reduced}
 use Rattle.reduction.specs.declared.Reduced.the-variants.{Rule as Is-rule, Refused}
 use Rattle.reduction.specs.Promise.{ruleSize, ruleOf, reduceChecks, reducedVerdict, ReducedTo, ReducedAnswer, scratchAfter, ReducePromise}
+use Rattle.reduction.proofs.OneAnswer.{reduce-single}
 use Rattle.examples.specs.Files.{W-all, one-element}
 use Rattle.examples.specs.Examples.{StandsIn, HandsBack, ReducesToBytes}
 use Rattle.examples.proofs.Reading.{reading}
@@ -42,17 +41,6 @@ unfolding reading
 reduced-bytes law reduced red = one-file (ruleOf W-all law) (omega arith) every reduced red ∙ one-bytes
 
 -- ---- the checks
-
-short-place : {needed : ℕ} {buffer : List ℕ} (p q : ℕ) → ShortAt needed buffer p → ShortAt needed buffer q → p ≡ q
-short-place p q a b = a .is-place ∙ sym (b .is-place)
-
-weak-place : {bytes : List ℕ} (p q : ℕ) → WeakAt bytes p → WeakAt bytes q → p ≡ q
-weak-place p q a b = a .is-place ∙ sym (b .is-place)
-
-reduce-single : (bytes out scratch : List ℕ) → AllSingle (reduceChecks bytes out scratch)
-reduce-single bytes out scratch =
-    single-cons (record { one-place = short-place })
-    (single-append (checked-single 1 bytes scratch) (single-cons (record { one-place = weak-place }) single-nil))
 
 module _ (before after entry exit : List ℕ) (long : ruleSize ≤ length before) (room : scratchSize ≤ length entry) where
   all-pass : FirstFailure (reduceChecks W-all before entry) passed

@@ -1,2 +1,4 @@
 pub mod Ordered
+pub mod Unique
+pub mod OneFile
 pub mod Exclusions

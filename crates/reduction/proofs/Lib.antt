@@ -2,3 +2,5 @@ pub mod Laid
 pub mod Order
 pub mod Reducing
 pub mod Calling
+pub mod SameReductions
+pub mod OneAnswer

@@ -1,0 +1,66 @@
+-- Two answers of the call for the same rule and buffers are one, and leave out and scratch alike: of the reductions of a rule only
+-- one is numbered by first words. Assumes nothing.
+use Prim.Native.Nat.{ℕ}
+use native.Mathlib.Omega.{arith}
+use mathlib.Core.Path.{_≡_, refl, sym, ap, _∙_}
+use mathlib.Core.List.{List, _++_}
+use lib.ListN.{length, drop}
+use Rattle.answer.specs.Refusals.{numberOf}
+use Rattle.answer.proofs.Numbers.{same-number}
+use Rattle.answer.proofs.Order.{AllSingle, single-nil, single-cons, single-append, one-verdict}
+use Rattle.theory.specs.Smallest.{SameLassos}
+use Rattle.format.specs.RuleChecks.{ShortAt}
+use Rattle.rulefile.proofs.OneVerdict.{checked-single}
+use Rattle.rulewriter.specs.File.{fileOf}
+use Rattle.strength.specs.Weak.{WeakAt}
+use Rattle.reduction.specs.declared.Reduced.{Reduced}
+use Rattle.reduction.specs.declared.Reduced.the-variants.{Rule as Is-rule, Refused}
+use Rattle.reduction.specs.Promise.{reduceChecks, reducedVerdict, ruleOf, ReducedTo, ReducedAnswer, ReducePromise}
+use Rattle.reduction.proofs.SameReductions.{reductions-file}
+
+short-place : {needed : ℕ} {buffer : List ℕ} (p q : ℕ) → ShortAt needed buffer p → ShortAt needed buffer q → p ≡ q
+short-place p q a b = a .is-place ∙ sym (b .is-place)
+
+weak-place : {bytes : List ℕ} (p q : ℕ) → WeakAt bytes p → WeakAt bytes q → p ≡ q
+weak-place p q a b = a .is-place ∙ sym (b .is-place)
+
+-- each check fails at one place at most
+pub reduce-single : (bytes out entry : List ℕ) → AllSingle (reduceChecks bytes out entry)
+reduce-single bytes out entry =
+    single-cons (record { one-place = short-place })
+    (single-append (checked-single 1 bytes entry) (single-cons (record { one-place = weak-place }) single-nil))
+
+module _ {bytes before after after′ : List ℕ} {r r′ : ℕ} (a : ReducedTo bytes before after r) (b : ReducedTo bytes before after′ r′) where
+  -- the rule of the file is the same for either proof that its table is lawful
+  same-rule : SameLassos (ruleOf bytes (a .lawful)) (ruleOf bytes (b .lawful))
+  same-rule = record { same-letters = refl; both-or-neither = λ u v l. (λ k. k, λ k. k) }
+
+  same-file : fileOf (b .reduced .morphism) (b .reduced .marks) ≡ fileOf (a .reduced .morphism) (a .reduced .marks)
+  same-file = reductions-file same-rule (a .reduction) (b .reduction) (a .numbered) (b .numbered)
+
+  one-length : r ≡ r′
+  one-length = a .written .counts ∙ ap length (sym same-file) ∙ sym (b .written .counts)
+
+  one-rule : after ≡ after′
+  one-rule = a .written .holds ∙ ap (λ (file : List ℕ). file ++ drop (length file) before) (sym same-file) ∙ sym (b .written .holds)
+
+module _ (bytes before : List ℕ) {after after′ : List ℕ} where
+  same-answer : (a b : Reduced) → ReducedAnswer bytes before after a → ReducedAnswer bytes before after′ b → reducedVerdict a ≡ reducedVerdict b
+      → (a ≡ b) × (after ≡ after′)
+  same-answer (Is-rule r) (Is-rule r′) p q e = (ap Is-rule (one-length p q), one-rule p q)
+  same-answer (Is-rule r) (Refused k i place) p q e = absurd (let z : _≡_ {A = ℕ} 0 1 = cc in let w : ⊥ = omega arith in w)
+  same-answer (Refused k i place) (Is-rule r) p q e = absurd (let z : _≡_ {A = ℕ} 0 1 = cc in let w : ⊥ = omega arith in w)
+  same-answer (Refused k i place) (Refused k′ i′ place′) p q e =
+      let number : numberOf k ≡ numberOf k′ = cc in
+      let kind = same-number k k′ number in
+      let there : i ≡ i′ = cc in
+      let here : place ≡ place′ = cc in
+      (cc (kind, there, here), p ∙ sym q)
+
+module _ {bytes before after after′ entry exit exit′ : List ℕ} where
+  pub one-answer : (answer answer′ : Reduced) → ReducePromise bytes before after entry exit answer → ReducePromise bytes before after′ entry exit′ answer′
+      → (answer ≡ answer′) × (after ≡ after′)
+  one-answer answer answer′ p q = same-answer bytes before answer answer′ (p .answered) (q .answered) (one-verdict (reduce-single bytes before entry) (p .verdict) (q .verdict))
+
+  pub one-scratch : {answer answer′ : Reduced} → ReducePromise bytes before after entry exit answer → ReducePromise bytes before after′ entry exit′ answer′ → exit ≡ exit′
+  one-scratch p q = p .scratch ∙ sym (q .scratch)
