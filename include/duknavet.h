@@ -53,7 +53,7 @@ extern "C" {
 
 /* Why a call refuses, in byte 0 of an answer, with the place that the answer holds. The first check that fails is
  * answered: 13, then 1 to 3 section by section, 4, 5, 6, 7 and 8 pair by pair, the second input's own, then 3 for a monitor's
- * values, 11 for u, then v, or for a verdict, 10 in u, then v, or for an event, 12. */
+ * values, 11 for u, then v, or for a verdict, 10 in u, then v, or for an event, 12. For an automaton: 13, 1 to 4, 8, 14. */
 enum duknavet_refusal {
     DUKNAVET_RESULT = 0,               /* no refusal */
     DUKNAVET_TRUNCATED = 1,            /* bytes end inside a count or section: the length of the input */

@@ -1,4 +1,4 @@
-//! The smallest rule with the same lassos.
+//! The smallest strong rule with the same lassos.
 
 use crate::answer::unpack_length;
 use crate::{raw, Refused};
