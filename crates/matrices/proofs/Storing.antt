@@ -22,7 +22,7 @@ row-room k h = let room = k .room in omega arith
 row-place : (base i p q : ℕ) → base + (i * 64 + p * 6) + q ≡ base + (i * 64 + (p * 6 + q))
 row-place base i p q = omega arith
 
-row-bytes : (scratch : List ℕ) (base i p q : ℕ) → bytesFrom scratch (base + (i * 64 + p * 6)) q ≡ matrixFrom scratch base i p q
+pub row-bytes : (scratch : List ℕ) (base i p q : ℕ) → bytesFrom scratch (base + (i * 64 + p * 6)) q ≡ matrixFrom scratch base i p q
 unfolding bytesFrom matrixFrom
 row-bytes scratch base i p q = ap (λ j. getD scratch j 0) (row-place base i p q)
 

@@ -5,6 +5,7 @@ use mathlib.Core.Bool.{Bool, cond, _||_}
 use mathlib.Core.List.{List, []}
 use lib.ListN.{length, getD}
 use lib.Dec.{ltb, eqb}
+use Rattle.finite.proofs.Search.{allBelow}
 use Rattle.buchi.specs.Automata.{Automaton}
 use Rattle.buchi.specs.Matrices.{Matrix, SameEntries}
 use Rattle.buchi.proofs.WordMatrices.{letter-matrix}
@@ -87,6 +88,10 @@ pub record Stored (entry exit : List ℕ) (base i : ℕ) (m : List (List ℕ)) (
 -- the bytes from one on
 unfoldable pub bytesFrom : List ℕ → ℕ → ℕ → ℕ
 bytesFrom scratch at q = getD scratch (at + q) 0
+
+-- the first n entries of a row are the bytes from one on
+unfoldable pub sameBytes : List ℕ → ℕ → ℕ → List ℕ → Bool
+sameBytes scratch at n row = allBelow n (λ q. eqb (getD row q 0) (bytesFrom scratch at q))
 
 -- the first k entries of a row were written from a byte on, and no other byte changed
 pub record RowStored (entry exit : List ℕ) (at : ℕ) (row : List ℕ) (k : ℕ) : Type 0 where

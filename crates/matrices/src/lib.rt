@@ -1,11 +1,11 @@
-// The matrices of an automaton's words: the matrix of a letter, whether two matrices are the same, and how a matrix stands in lent
-// bytes.
+// The matrices of an automaton's words: the matrix of a letter, how a matrix stands in lent bytes, and whether the one that stands
+// there is the same.
 ghost use mathlib.Core.Path.{_≡_};
 ghost use Prim.Native.Nat.{_+_, _≤_, _<_};
 ghost use lib.ListN.{length};
 ghost use Rattle.buchi.proofs.MatrixTests.{same-test};
-ghost use Rattle.matrixproducts.specs.Arrays.{entryIn, RowOf, sameRow};
-ghost use Rattle.matrices.specs.Bytes.{LetterPlace, EntryPlace, letterEntry, IsLetter, MatrixPlace, bytesFrom, Loaded, Stored, RowStored};
+ghost use Rattle.matrixproducts.specs.Arrays.{entryIn, RowOf};
+ghost use Rattle.matrices.specs.Bytes.{LetterPlace, EntryPlace, letterEntry, IsLetter, MatrixPlace, matrixFrom, bytesFrom, sameBytes, Loaded, Stored, RowStored};
 
 // An entry of the matrix of a letter: 2 where a transition has a final end, 1 for another transition, 0 where there is none.
 fn letter_entry(kinds: &[u8], steps: &[u8], letter: usize, p: usize, q: usize) -> u8
@@ -49,30 +49,27 @@ pub fn letter_matrix(kinds: &[u8], n: usize, steps: &[u8], letter: usize) -> [[u
     out
 }
 
-// Whether two rows have the same first n entries.
-fn same_row(n: usize, left: [u8; 6], right: [u8; 6]) -> bool
-    requires { ⌜ n ≤ 6 ⌝ }
-    ensures { λ r. ⌜ r ≡ sameRow n left right ⌝ }
+// Whether the first n entries of a row are the bytes from one on.
+fn same_bytes(scratch: &[u8], at: usize, n: usize, row: &[u8; 6]) -> bool
+    requires { ⌜ (n ≤ 6) × (at + 6 ≤ length (now scratch)) ⌝ }
+    ensures { λ r. ⌜ r ≡ sameBytes (now (scratch .entry)) at n (now (row .entry)) ⌝ }
 {
     for q in 0..n {
-        let x = left[q];
-        let y = right[q];
-        if x != y {
+        if row[q] != scratch[at + q] {
             return false;
         }
     }
     true
 }
 
-// Whether two matrices over n states have the same entries.
-pub fn same_matrix(n: usize, left: [[u8; 6]; 6], right: [[u8; 6]; 6]) -> bool
-    requires { ⌜ n ≤ 6 ⌝ }
-    ensures { λ r. ⌜ r ≡ same-test n (entryIn left) (entryIn right) ⌝ }
+// Whether matrix i of the list that begins at a byte has the same entries over n states. It is compared where it stands, up to the
+// first row that differs.
+pub fn same_stored(scratch: &[u8], base: usize, i: usize, n: usize, m: &[[u8; 6]; 6]) -> bool
+    requires { ⌜ (n ≤ 6) × MatrixPlace (now scratch) base i ⌝ }
+    ensures { λ r. ⌜ r ≡ same-test n (entryIn (now (m .entry))) (matrixFrom (now (scratch .entry)) base i) ⌝ }
 {
     for p in 0..n {
-        let x = left[p];
-        let y = right[p];
-        if !same_row(n, x, y) {
+        if !same_bytes(scratch, base + (i * 64 + p * 6), n, &m[p]) {
             return false;
         }
     }

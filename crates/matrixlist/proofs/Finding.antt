@@ -9,12 +9,10 @@ use lib.Dec.{T}
 use Rattle.finite.proofs.Tests.{true-T}
 use Rattle.finite.proofs.Search.{least-unique, least-none, least-first, least-holds}
 use Rattle.buchi.specs.Matrices.{Matrix, OtherEntry}
-use Rattle.buchi.proofs.Products.{same-trans, same-sym}
-use Rattle.buchi.proofs.MatrixTests.{same-test, same-intro, same-elim, other-elim}
+use Rattle.buchi.proofs.MatrixTests.{same-test, same-elim, other-elim}
 use Rattle.buchi.proofs.MatrixLists.{Among, number-of}
 use Rattle.matrixproducts.specs.Arrays.{entryIn}
-use Rattle.matrices.specs.Bytes.{MatrixPlace, Loaded}
-use Rattle.matrices.proofs.Storing.{loaded-same}
+use Rattle.matrices.specs.Bytes.{MatrixPlace}
 use Rattle.matrixlist.specs.Lists.{matrixAt, MatrixList}
 
 -- a matrix of the list has its bytes
@@ -32,21 +30,15 @@ module _ {n : ℕ} {scratch : List ℕ} {count : ℕ} {m : List (List ℕ)} wher
   pub unfound-start : Unfound n scratch count m 0
   unfound-start = record { within = omega arith; others = λ j h. absurd (omega arith) }
 
-  module _ {i : ℕ} {x : List (List ℕ)} {b : Bool} (list : MatrixList n scratch count) (u : Unfound n scratch count m i) (h : i < count)
-      (l : Loaded scratch 8192 i x) (e : b ≡ same-test n (entryIn m) (entryIn x)) where
+  module _ {i : ℕ} {b : Bool} (u : Unfound n scratch count m i) (h : i < count) (e : b ≡ same-test n (entryIn m) (matrixAt scratch i)) where
     pub found-here : b ≡ true → i ≡ number-of n count (matrixAt scratch) (entryIn m)
     unfolding number-of
-    found-here t =
-        least-unique count (λ j. same-test n (entryIn m) (matrixAt scratch j)) i (omega arith)
-        (λ g. same-intro n (entryIn m) (matrixAt scratch i) (same-trans (same-elim n (entryIn m) (entryIn x) (subst T e (true-T t))) (same-sym (loaded-same (list .few-states) l))))
-        (u .others)
+    found-here t = least-unique count (λ j. same-test n (entryIn m) (matrixAt scratch j)) i (omega arith) (λ g. subst T e (true-T t)) (u .others)
 
     pub unfound-more : b ≡ false → Unfound n scratch count m (i + 1)
     unfound-more f = record {
       within = omega arith;
-      others =
-          below-more (λ j. ¬ T (same-test n (entryIn m) (matrixAt scratch j))) i (u .others)
-          (λ t. subst T f (subst T (sym e) (same-intro n (entryIn m) (entryIn x) (same-trans (same-elim n (entryIn m) (matrixAt scratch i) t) (loaded-same (list .few-states) l)))));
+      others = below-more (λ j. ¬ T (same-test n (entryIn m) (matrixAt scratch j))) i (u .others) (λ t. subst T f (subst T (sym e) t));
     }
 
   pub unfound-all : {i : ℕ} → Unfound n scratch count m i → count ≤ i → count ≡ number-of n count (matrixAt scratch) (entryIn m)

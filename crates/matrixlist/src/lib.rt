@@ -5,7 +5,7 @@
 // 64 matrices end at byte 12288.
 use matrices::letter_matrix;
 use matrices::load_matrix;
-use matrices::same_matrix;
+use matrices::same_stored;
 use matrices::store_matrix;
 use matrixproducts::matrix_product;
 ghost use mathlib.Core.Path.{_≡_};
@@ -27,8 +27,7 @@ pub fn find_matrix(scratch: &[u8], n: usize, count: usize, m: [[u8; 6]; 6]) -> u
     ensures { λ r. ⌜ r ≡ number-of n count (matrixAt (now (scratch .entry))) (entryIn m) ⌝ }
 {
     for i in 0..count {
-        let x = load_matrix(scratch, 8192, i);
-        if same_matrix(n, m, x) {
+        if same_stored(scratch, 8192, i, n, &m) {
             return i;
         }
     }

@@ -1,13 +1,10 @@
 -- The matrix of a word as the code has it: six rows of six entries, whatever the number of states. Assumes nothing.
 use Prim.Native.Nat.{ℕ, _≤_, _<_}
 use mathlib.Core.Path.{_≡_}
-use mathlib.Core.Bool.{Bool}
 use mathlib.Core.List.{List, []}
 use lib.ListN.{length, getD}
-use lib.Dec.{eqb}
-use Rattle.finite.proofs.Search.{allBelow}
 use Rattle.buchi.specs.Matrices.{Matrix, SameEntries}
-use Rattle.buchi.proofs.Products.{product}
+use Rattle.buchi.proofs.Products.{through, greatest, product}
 
 -- the entries of six rows
 unfoldable pub entryIn : List (List ℕ) → Matrix
@@ -31,9 +28,9 @@ pub record RowOf (f : ℕ → ℕ) (n : ℕ) (row : List ℕ) : Type 0 where
   pub entries : (q : ℕ) → q < n → getD row q 0 ≡ f q
   pub zeros : (q : ℕ) → n ≤ q → getD row q 0 ≡ 0
 
--- two rows have the same first n entries
-unfoldable pub sameRow : ℕ → List ℕ → List ℕ → Bool
-sameRow n left right = allBelow n (λ q. eqb (getD left q 0) (getD right q 0))
+-- the row of a product, from that row of the left factor
+unfoldable pub rowProduct : ℕ → List ℕ → List (List ℕ) → ℕ → ℕ
+rowProduct n row right q = greatest n (λ r. through (getD row r 0) (entryIn right r q))
 
 -- m is the product of two matrices over n states
 pub record IsProduct (n : ℕ) (left right m : List (List ℕ)) : Type 0 where

@@ -2,8 +2,8 @@
 // with neither 0.
 ghost use mathlib.Core.Path.{_≡_};
 ghost use Prim.Native.Nat.{max, _≤_, _<_};
-ghost use Rattle.buchi.proofs.Products.{through, product};
-ghost use Rattle.matrixproducts.specs.Arrays.{entryIn, MatrixShape, RowOf, IsProduct};
+ghost use Rattle.buchi.proofs.Products.{through};
+ghost use Rattle.matrixproducts.specs.Arrays.{rowProduct, MatrixShape, RowOf, IsProduct};
 
 // The greater of two entries.
 pub fn greater(x: u8, y: u8) -> u8
@@ -28,14 +28,14 @@ pub fn through(x: u8, y: u8) -> u8
     greater(x, y)
 }
 
-// An entry of the product.
-pub fn product_entry(n: usize, left: [[u8; 6]; 6], right: [[u8; 6]; 6], p: usize, q: usize) -> u8
-    requires { ⌜ (n ≤ 6) × (p < 6) × (q < 6) ⌝ }
-    ensures { λ r. ⌜ r ≡ product n (entryIn left) (entryIn right) p q ⌝ }
+// An entry of the product, from a row of the left factor and a column of the right one.
+pub fn product_entry(n: usize, row: &[u8; 6], right: &[[u8; 6]; 6], q: usize) -> u8
+    requires { ⌜ (n ≤ 6) × (q < 6) ⌝ }
+    ensures { λ r. ⌜ r ≡ rowProduct n (now (row .entry)) (now (right .entry)) q ⌝ }
 {
     let mut best = 0u8;
     for r in 0..n {
-        let x = left[p][r];
+        let x = row[r];
         let y = right[r][q];
         let z = through(x, y);
         best = greater(z, best);
@@ -43,16 +43,16 @@ pub fn product_entry(n: usize, left: [[u8; 6]; 6], right: [[u8; 6]; 6], p: usize
     best
 }
 
-// A row of the product.
-pub fn product_row(n: usize, left: [[u8; 6]; 6], right: [[u8; 6]; 6], p: usize) -> [u8; 6]
-    requires { ⌜ (n ≤ 6) × (p < 6) ⌝ }
-    ensures { λ r. ⌜ RowOf (product n (entryIn left) (entryIn right) p) n r ⌝ }
+// A row of the product, from that row of the left factor.
+pub fn product_row(n: usize, row: &[u8; 6], right: &[[u8; 6]; 6]) -> [u8; 6]
+    requires { ⌜ n ≤ 6 ⌝ }
+    ensures { λ r. ⌜ RowOf (rowProduct n (now (row .entry)) (now (right .entry))) n r ⌝ }
 {
-    let mut row = [0u8; 6];
+    let mut out = [0u8; 6];
     for q in 0..n {
-        row[q] = product_entry(n, left, right, p, q);
+        out[q] = product_entry(n, row, right, q);
     }
-    row
+    out
 }
 
 // The product of two matrices over n states.
@@ -63,7 +63,8 @@ pub fn matrix_product(n: usize, left: [[u8; 6]; 6], right: [[u8; 6]; 6]) -> [[u8
 {
     let mut out = [[0u8; 6]; 6];
     for p in 0..n {
-        out[p] = product_row(n, left, right, p);
+        let row = left[p];
+        out[p] = product_row(n, &row, &right);
     }
     out
 }

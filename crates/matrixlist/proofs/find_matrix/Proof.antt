@@ -14,14 +14,11 @@ abbrev μ-loop : tie.MeasureT-loop
 loop-holds : tie.Need-loop-holds Inv-loop μ-loop
 loop-holds c = unfound-start
 
-load-matrix-requires : tie.Need-load-matrix-requires Inv-loop μ-loop
-load-matrix-requires c κs = list-place (c .before .before .before .pre) (search needs)
-
-same-matrix-requires : tie.Need-same-matrix-requires Inv-loop μ-loop
-same-matrix-requires c κs = search needs
+same-stored-requires : tie.Need-same-stored-requires Inv-loop μ-loop
+same-stored-requires c κs = (search needs, list-place (c .before .before .before .before .pre) (search needs))
 
 returns : tie.Need-returns Inv-loop μ-loop
-returns c = found-here (c .before .before .before .before .before .before .pre) (c .before .before .before .before .loop .inv) (c .before .before .before .loop-test .taken) (c .before .before .load-matrix .ensures) (c .before .same-matrix .ensures) (c .if1 .taken)
+returns c = found-here (c .before .before .before .before .loop .inv) (c .before .before .before .loop-test .taken) (c .before .same-stored .ensures) (c .if1 .taken)
 
 add-i : tie.Need-add-i Inv-loop μ-loop
 add-i c = search needs
@@ -30,7 +27,7 @@ loop-less : tie.Need-loop-less Inv-loop μ-loop
 loop-less c = search needs
 
 loop-again : tie.Need-loop-again Inv-loop μ-loop
-loop-again c = unfound-more (c .before .before .before .before .before .before .pre) (c .before .before .before .before .loop .inv) (c .before .before .before .loop-test .taken) (c .before .before .load-matrix .ensures) (c .before .same-matrix .ensures) (c .if1 .left)
+loop-again c = unfound-more (c .before .before .before .before .loop .inv) (c .before .before .before .loop-test .taken) (c .before .same-stored .ensures) (c .if1 .left)
 
 returns-2 : tie.Need-returns-2 Inv-loop μ-loop
 returns-2 c = unfound-all (c .before .loop .inv) (c .loop-test .left)
@@ -42,8 +39,7 @@ find-matrix-spec =
     Inv-loop
     μ-loop
     loop-holds
-    load-matrix-requires
-    same-matrix-requires
+    same-stored-requires
     returns
     add-i
     loop-less

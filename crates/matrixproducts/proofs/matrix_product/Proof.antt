@@ -3,6 +3,7 @@ use Prim.Native.Nat.{_-_, _≤_}
 use borrow.Author.Needs.{needs}
 use Rattle.buchi.proofs.Products.{product}
 use Rattle.matrixproducts.specs.Arrays.{entryIn}
+use Rattle.matrixproducts.proofs.Entries.{row-of-product}
 use Rattle.matrixproducts.proofs.Rows.{RowsOf, rows-none, rows-more}
 use Rattle.matrixproducts.proofs.Products.{product-filled}
 use Rattle.matrixproducts.proofs.matrix_product.Statement.{statement}
@@ -16,6 +17,12 @@ abbrev μ-loop : tie.MeasureT-loop
 
 loop-holds : tie.Need-loop-holds Inv-loop μ-loop
 loop-holds c = (search needs, rows-none)
+
+mul-row : tie.Need-mul-row Inv-loop μ-loop
+mul-row c = search needs
+
+array-copy-out-row : tie.Need-array-copy-out-row Inv-loop μ-loop
+array-copy-out-row c = search needs
 
 product-row-requires : tie.Need-product-row-requires Inv-loop μ-loop
 product-row-requires c κs = search needs
@@ -33,7 +40,7 @@ loop-less : tie.Need-loop-less Inv-loop μ-loop
 loop-less c = search needs
 
 loop-again : tie.Need-loop-again Inv-loop μ-loop
-loop-again c = (search needs, rows-more (c .before .before .loop .inv .1) (search needs) (c .product-row .ensures))
+loop-again c = (search needs, rows-more (c .before .before .before .before .before .loop .inv .1) (search needs) (row-of-product _ _ _ _ (c .product-row .ensures)))
 
 returns : tie.Need-returns Inv-loop μ-loop
 returns c = product-filled (c .before .before .pre .0) (c .before .before .pre .1 .0) (c .before .before .pre .1 .1) (c .before .loop .inv .0) (c .loop-test .left) (c .before .loop .inv .1)
@@ -45,6 +52,8 @@ matrix-product-spec =
     Inv-loop
     μ-loop
     loop-holds
+    mul-row
+    array-copy-out-row
     product-row-requires
     mul-out
     array-set-from-out

@@ -6,22 +6,16 @@ use Rattle.matrixproducts.proofs.product_entry.Statement.{statement}
 use Rattle.matrixproducts.proofs.product_entry.Tie as tie
 
 abbrev Inv-loop : tie.InvT-loop
-Inv-loop n p q left right best₀ r₀ best r = Best n left right p q r best
+Inv-loop n row right q best₀ r₀ best r = Best n row right q r best
 
 abbrev μ-loop : tie.MeasureT-loop
-μ-loop n p q left right best₀ r₀ best r = n - r
+μ-loop n row right q best₀ r₀ best r = n - r
 
 loop-holds : tie.Need-loop-holds Inv-loop μ-loop
 loop-holds c = best-none
 
-mul-x : tie.Need-mul-x Inv-loop μ-loop
-mul-x c = search needs
-
-index-1-x : tie.Need-index-1-x Inv-loop μ-loop
-index-1-x c = search needs
-
-index-2-x : tie.Need-index-2-x Inv-loop μ-loop
-index-2-x c = search needs
+element-copy-out-x : tie.Need-element-copy-out-x Inv-loop μ-loop
+element-copy-out-x c = search needs
 
 mul-y : tie.Need-mul-y Inv-loop μ-loop
 mul-y c = search needs
@@ -57,9 +51,7 @@ product-entry-spec =
     Inv-loop
     μ-loop
     loop-holds
-    mul-x
-    index-1-x
-    index-2-x
+    element-copy-out-x
     mul-y
     index-1-y
     index-2-y

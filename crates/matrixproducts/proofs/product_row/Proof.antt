@@ -1,17 +1,16 @@
 -- The loop holds that the first q entries of the row are those of the product. Assumes nothing.
 use Prim.Native.Nat.{_-_, _≤_}
 use borrow.Author.Needs.{needs}
-use Rattle.buchi.proofs.Products.{product}
-use Rattle.matrixproducts.specs.Arrays.{entryIn, RowOf}
+use Rattle.matrixproducts.specs.Arrays.{RowOf, rowProduct}
 use Rattle.matrixproducts.proofs.Rows.{row-none, row-more, row-all}
 use Rattle.matrixproducts.proofs.product_row.Statement.{statement}
 use Rattle.matrixproducts.proofs.product_row.Tie as tie
 
 abbrev Inv-loop : tie.InvT-loop
-Inv-loop n left right p row₀ q₀ row q = (q ≤ n) × RowOf (product n (entryIn left) (entryIn right) p) q row
+Inv-loop n row right out₀ q₀ out q = (q ≤ n) × RowOf (rowProduct n row right) q out
 
 abbrev μ-loop : tie.MeasureT-loop
-μ-loop n left right p row₀ q₀ row q = n - q
+μ-loop n row right out₀ q₀ out q = n - q
 
 loop-holds : tie.Need-loop-holds Inv-loop μ-loop
 loop-holds c = (search needs, row-none)
@@ -19,8 +18,8 @@ loop-holds c = (search needs, row-none)
 product-entry-requires : tie.Need-product-entry-requires Inv-loop μ-loop
 product-entry-requires c κs = search needs
 
-array-write-row : tie.Need-array-write-row Inv-loop μ-loop
-array-write-row c = search needs
+array-write-out : tie.Need-array-write-out Inv-loop μ-loop
+array-write-out c = search needs
 
 add-q : tie.Need-add-q Inv-loop μ-loop
 add-q c = search needs
@@ -42,7 +41,7 @@ product-row-spec =
     μ-loop
     loop-holds
     product-entry-requires
-    array-write-row
+    array-write-out
     add-q
     loop-less
     loop-again
