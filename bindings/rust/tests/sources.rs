@@ -40,7 +40,7 @@ fn names(source: &str, name: &str) -> bool {
 
 #[test]
 fn programs_name_only_the_public_library() {
-    let allowed = ["rules", "printing"];
+    let allowed = ["rules", "exampletext"];
     let mut programs = 0;
     for program in crates() {
         let Some(text) = source(&program, "main.rt") else {

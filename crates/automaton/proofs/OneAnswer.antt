@@ -4,12 +4,10 @@ use Prim.Native.Nat.{ℕ}
 use native.Mathlib.Omega.{arith}
 use mathlib.Core.Path.{_≡_, sym, ap, _∙_, subst}
 use mathlib.Core.Logic.{_↔_}
-use mathlib.Core.List.{List, _++_}
-use lib.ListN.{length, drop}
+use mathlib.Core.List.{List}
 use Rattle.finite.proofs.Pigeonhole.{injection-le}
-use Rattle.answer.specs.Refusals.{numberOf}
-use Rattle.answer.proofs.Numbers.{same-number}
 use Rattle.answer.proofs.Order.{AllSingle, single-nil, single-cons, single-append, one-verdict}
+use Rattle.answer.proofs.Verdicts.{same-refusal, not-passed}
 use Rattle.theory.specs.Words.{Lasso}
 use Rattle.theory.specs.Rules.{marked, Rule as Any-rule}
 use Rattle.theory.specs.Acceptance.{Accepts}
@@ -18,6 +16,7 @@ use Rattle.buchi.proofs.Numberings.{matrices-renumbered}
 use Rattle.format.specs.RuleChecks.{ShortAt}
 use Rattle.automatonfile.proofs.OneVerdict.{read-single}
 use Rattle.rulewriter.specs.File.{fileOf}
+use Rattle.rulewriter.proofs.Same.{one-length, one-buffer}
 use Rattle.firstwords.proofs.OneFile.{one-file}
 use Rattle.automaton.specs.Meaning.{RichAt}
 use Rattle.automaton.specs.Promise.{RuleOf, RuleAnswer, ruleVerdict, translateChecks, RulePromise}
@@ -72,24 +71,13 @@ module _ {bytes before after after′ : List ℕ} {r r′ : ℕ} (a : RuleOf byt
   same-file : fileOf (b .morphism) (b .marks) ≡ fileOf (a .morphism) (a .marks)
   same-file = one-file (rule-of a) (rule-of b) renumbered same-size (a .numbered) (b .numbered) (a .all-marked) (b .all-marked) same-lassos
 
-  one-length : r ≡ r′
-  one-length = a .written .counts ∙ ap length (sym same-file) ∙ sym (b .written .counts)
-
-  one-rule : after ≡ after′
-  one-rule = a .written .holds ∙ ap (λ (file : List ℕ). file ++ drop (length file) before) (sym same-file) ∙ sym (b .written .holds)
-
 module _ (bytes before : List ℕ) {after after′ : List ℕ} where
   same-answer : (a b : Translated) → RuleAnswer bytes before after a → RuleAnswer bytes before after′ b → ruleVerdict a ≡ ruleVerdict b
       → (a ≡ b) × (after ≡ after′)
-  same-answer (Rule r) (Rule r′) p q e = (ap Rule (one-length p q), one-rule p q)
-  same-answer (Rule r) (Refused k i place) p q e = absurd (let z : _≡_ {A = ℕ} 0 1 = cc in let w : ⊥ = omega arith in w)
-  same-answer (Refused k i place) (Rule r) p q e = absurd (let z : _≡_ {A = ℕ} 0 1 = cc in let w : ⊥ = omega arith in w)
-  same-answer (Refused k i place) (Refused k′ i′ place′) p q e =
-      let number : numberOf k ≡ numberOf k′ = cc in
-      let kind = same-number k k′ number in
-      let there : i ≡ i′ = cc in
-      let here : place ≡ place′ = cc in
-      (cc (kind, there, here), p ∙ sym q)
+  same-answer (Rule r) (Rule r′) p q e = (ap Rule (one-length (p .written) (q .written) (same-file p q)), one-buffer (p .written) (q .written) (same-file p q))
+  same-answer (Rule r) (Refused k i place) p q e = absurd (not-passed (sym e))
+  same-answer (Refused k i place) (Rule r) p q e = absurd (not-passed e)
+  same-answer (Refused k i place) (Refused k′ i′ place′) p q e = (same-refusal Refused k k′ i i′ place place′ e, p ∙ sym q)
 
 -- two answers are one, and leave out alike
 pub one-answer : {bytes before after after′ entry exit exit′ : List ℕ} (answer answer′ : Translated) → RulePromise bytes before after entry exit answer

@@ -8,9 +8,8 @@ use mathlib.Core.List.{List}
 use lib.ListN.{getD}
 use lib.Seq.{ext-getD}
 use Rattle.finite.proofs.Numbers.{le-or-lt}
-use Rattle.answer.specs.Refusals.{numberOf}
-use Rattle.answer.proofs.Numbers.{same-number}
 use Rattle.answer.proofs.Order.{AllSingle, single-cons, one-verdict}
+use Rattle.answer.proofs.Verdicts.{same-refusal, not-passed}
 use Rattle.theory.specs.Rules.{Morphism}
 use Rattle.theory.specs.Pairs.{LinkedPairs, Classes}
 use Rattle.theory.proofs.TableTests.{counted-same}
@@ -95,22 +94,17 @@ module _ {bytes out-entry out-exit out-exit′ entry exit exit′ : List ℕ} wh
     where
       same : (a b : Listed) → ListedAnswer bytes out-entry out-exit a → ListedAnswer bytes out-entry out-exit′ b → listedVerdict a ≡ listedVerdict b → a ≡ b
       same (Counts l c j) (Counts l′ c′ j′) p q e = counts-same (morphismOf bytes) (p .1) (q .1)
-      same (Counts l c j) (Refused r i place) p q e = absurd (let z : _≡_ {A = ℕ} 0 1 = cc in let w : ⊥ = omega arith in w)
-      same (Refused r i place) (Counts l c j) p q e = absurd (let z : _≡_ {A = ℕ} 0 1 = cc in let w : ⊥ = omega arith in w)
-      same (Refused r i place) (Refused r′ i′ place′) p q e =
-          let number : numberOf r ≡ numberOf r′ = cc in
-          let kind = same-number r r′ number in
-          let there : i ≡ i′ = cc in
-          let here : place ≡ place′ = cc in
-          cc (kind, there, here)
+      same (Counts l c j) (Refused r i place) p q e = absurd (not-passed (sym e))
+      same (Refused r i place) (Counts l c j) p q e = absurd (not-passed e)
+      same (Refused r i place) (Refused r′ i′ place′) p q e = same-refusal Refused r r′ i i′ place place′ e
 
   pub one-output : (answer answer′ : Listed) → ListPromise bytes out-entry out-exit entry exit answer → ListPromise bytes out-entry out-exit′ entry exit′ answer′ → out-exit ≡ out-exit′
   one-output answer answer′ p q = same answer answer′ (p .answered) (q .answered) (one-verdict (list-single bytes out-entry entry) (p .verdict) (q .verdict))
     where
       same : (a b : Listed) → ListedAnswer bytes out-entry out-exit a → ListedAnswer bytes out-entry out-exit′ b → listedVerdict a ≡ listedVerdict b → out-exit ≡ out-exit′
       same (Counts l c j) (Counts l′ c′ j′) p q e = written-same (morphismOf bytes) (p .0) (q .0)
-      same (Counts l c j) (Refused r i place) p q e = absurd (let z : _≡_ {A = ℕ} 0 1 = cc in let w : ⊥ = omega arith in w)
-      same (Refused r i place) (Counts l c j) p q e = absurd (let z : _≡_ {A = ℕ} 0 1 = cc in let w : ⊥ = omega arith in w)
+      same (Counts l c j) (Refused r i place) p q e = absurd (not-passed (sym e))
+      same (Refused r i place) (Counts l c j) p q e = absurd (not-passed e)
       same (Refused r i place) (Refused r′ i′ place′) p q e = p ∙ sym q
 
   pub one-scratch : {answer answer′ : Listed} → ListPromise bytes out-entry out-exit entry exit answer → ListPromise bytes out-entry out-exit′ entry exit′ answer′ → exit ≡ exit′

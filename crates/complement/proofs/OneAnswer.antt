@@ -1,22 +1,19 @@
 -- Two answers of the call for the same rule and buffers are one, and leave out and scratch alike: the complement's marks are
 -- fixed, and so is its file. Assumes nothing.
 use Prim.Native.Nat.{ℕ}
-use native.Mathlib.Omega.{arith}
 use mathlib.Core.Path.{_≡_, refl, sym, ap, _∙_}
-use mathlib.Core.List.{List, _++_}
+use mathlib.Core.List.{List}
 use lib.Dec.{ltb}
-use lib.ListN.{length, drop}
 use Rattle.finite.proofs.Tests.{tests-equal}
-use Rattle.answer.specs.Refusals.{numberOf}
-use Rattle.answer.proofs.Numbers.{same-number}
 use Rattle.answer.proofs.Order.{AllSingle, single-nil, single-cons, single-append, one-verdict}
+use Rattle.answer.proofs.Verdicts.{same-refusal, not-passed}
 use Rattle.theory.specs.Rules.{level, marked}
 use Rattle.format.specs.Format.{morphismOf}
 use Rattle.format.specs.RuleChecks.{ShortAt}
 use Rattle.rulefile.proofs.OneVerdict.{checked-single}
 use Rattle.rulewriter.specs.File.{fileOf}
 use Rattle.rulewriter.proofs.Agree.{Agree}
-use Rattle.rulewriter.proofs.Same.{SameMarks, file-same}
+use Rattle.rulewriter.proofs.Same.{SameMarks, file-same, one-length, one-buffer}
 use Rattle.strength.specs.Weak.{WeakAt}
 use Rattle.complement.specs.declared.Complemented.{Complemented}
 use Rattle.complement.specs.declared.Complemented.the-variants.{Rule, Refused}
@@ -39,36 +36,25 @@ module _ {bytes before after after′ : List ℕ} {r r′ : ℕ} (a : Complement
   same-table : Agree (morphismOf bytes) (morphismOf bytes)
   same-table = record { same-size = refl; same-letters = refl; same-product = λ x y hx hy. refl; same-image = λ x h. refl }
 
-  same-marks : SameMarks (morphismOf bytes .size) (b .marks) (a .marks)
+  same-marks : SameMarks (morphismOf bytes .size) (a .marks) (b .marks)
   unfolding marked level
   same-marks = record {
     same = λ s e hs he.
         let left = a .is-complement .complement .marks s e hs he in
         let right = b .is-complement .complement .marks s e hs he in
-        tests-equal (ltb 0 (a .marks s e)) (ltb 0 (b .marks s e)) (λ t. right .1 (left .0 t)) (λ t. left .1 (right .0 t));
+        tests-equal (ltb 0 (b .marks s e)) (ltb 0 (a .marks s e)) (λ t. left .1 (right .0 t)) (λ t. right .1 (left .0 t));
   }
 
-  one-file : fileOf (morphismOf bytes) (a .marks) ≡ fileOf (morphismOf bytes) (b .marks)
+  one-file : fileOf (morphismOf bytes) (b .marks) ≡ fileOf (morphismOf bytes) (a .marks)
   one-file = file-same same-table same-marks
-
-  one-length : r ≡ r′
-  one-length = a .written .counts ∙ ap length one-file ∙ sym (b .written .counts)
-
-  one-rule : after ≡ after′
-  one-rule = a .written .holds ∙ ap (λ (file : List ℕ). file ++ drop (length file) before) one-file ∙ sym (b .written .holds)
 
 module _ (bytes before : List ℕ) {after after′ : List ℕ} where
   same-answer : (a b : Complemented) → ComplementAnswer bytes before after a → ComplementAnswer bytes before after′ b → complementVerdict a ≡ complementVerdict b
       → (a ≡ b) × (after ≡ after′)
-  same-answer (Rule r) (Rule r′) p q e = (ap Rule (one-length p q), one-rule p q)
-  same-answer (Rule r) (Refused k i place) p q e = absurd (let z : _≡_ {A = ℕ} 0 1 = cc in let w : ⊥ = omega arith in w)
-  same-answer (Refused k i place) (Rule r) p q e = absurd (let z : _≡_ {A = ℕ} 0 1 = cc in let w : ⊥ = omega arith in w)
-  same-answer (Refused k i place) (Refused k′ i′ place′) p q e =
-      let number : numberOf k ≡ numberOf k′ = cc in
-      let kind = same-number k k′ number in
-      let there : i ≡ i′ = cc in
-      let here : place ≡ place′ = cc in
-      (cc (kind, there, here), p ∙ sym q)
+  same-answer (Rule r) (Rule r′) p q e = (ap Rule (one-length (p .written) (q .written) (one-file p q)), one-buffer (p .written) (q .written) (one-file p q))
+  same-answer (Rule r) (Refused k i place) p q e = absurd (not-passed (sym e))
+  same-answer (Refused k i place) (Rule r) p q e = absurd (not-passed e)
+  same-answer (Refused k i place) (Refused k′ i′ place′) p q e = (same-refusal Refused k k′ i i′ place place′ e, p ∙ sym q)
 
 module _ {bytes before after after′ entry exit exit′ : List ℕ} where
   pub one-answer : (answer answer′ : Complemented) → ComplementPromise bytes before after entry exit answer → ComplementPromise bytes before after′ entry exit′ answer′

@@ -1,12 +1,10 @@
 -- Two answers of the call for the same rule, second marks section and buffers are one as far as they are fixed: two answers of no
 -- may have different witnesses; else the answers and the bytes of u and v are equal. Scratch is left alike. Assumes nothing.
 use Prim.Native.Nat.{ℕ}
-use native.Mathlib.Omega.{arith}
 use mathlib.Core.Path.{_≡_, refl, sym, _∙_}
 use mathlib.Core.List.{List}
-use Rattle.answer.specs.Refusals.{numberOf}
-use Rattle.answer.proofs.Numbers.{same-number}
 use Rattle.answer.proofs.Order.{AllSingle, single-cons, single-append, one-verdict}
+use Rattle.answer.proofs.Verdicts.{same-refusal, not-passed}
 use Rattle.theory.specs.Rules.{Morphism, Pairs}
 use Rattle.theory.specs.Inclusion.{Included, Witness}
 use Rattle.sections.proofs.Laws.{section-single}
@@ -58,17 +56,12 @@ module _ {bytes second u-entry u-exit u-exit′ v-entry v-exit v-exit′ entry e
       same (NotIncluded u v) (NotIncluded u′ v′) p q e = both-apart
       same Is-included (NotIncluded u v) p q e = absurd (included-or-not (p .included) (q .witness))
       same (NotIncluded u v) Is-included p q e = absurd (included-or-not (q .included) (p .witness))
-      same Is-included (Refused r i place) p q e = absurd (let z : _≡_ {A = ℕ} 0 1 = cc in let w : ⊥ = omega arith in w)
-      same (NotIncluded u v) (Refused r i place) p q e = absurd (let z : _≡_ {A = ℕ} 0 1 = cc in let w : ⊥ = omega arith in w)
-      same (Refused r i place) Is-included p q e = absurd (let z : _≡_ {A = ℕ} 0 1 = cc in let w : ⊥ = omega arith in w)
-      same (Refused r i place) (NotIncluded u v) p q e = absurd (let z : _≡_ {A = ℕ} 0 1 = cc in let w : ⊥ = omega arith in w)
+      same Is-included (Refused r i place) p q e = absurd (not-passed (sym e))
+      same (NotIncluded u v) (Refused r i place) p q e = absurd (not-passed (sym e))
+      same (Refused r i place) Is-included p q e = absurd (not-passed e)
+      same (Refused r i place) (NotIncluded u v) p q e = absurd (not-passed e)
       same (Refused r i place) (Refused r′ i′ place′) p q e =
-          let number : numberOf r ≡ numberOf r′ = cc in
-          let kind = same-number r r′ number in
-          let there : i ≡ i′ = cc in
-          let here : place ≡ place′ = cc in
-          let whole : Refused r i place ≡ Refused r′ i′ place′ = cc (kind, there, here) in
-          agree whole (p .start-kept ∙ sym (q .start-kept)) (p .cycle-kept ∙ sym (q .cycle-kept))
+          agree (same-refusal Refused r r′ i i′ place place′ e) (p .start-kept ∙ sym (q .start-kept)) (p .cycle-kept ∙ sym (q .cycle-kept))
 
   pub one-scratch : {answer answer′ : Inclusion} → InclusionPromise bytes second u-entry u-exit v-entry v-exit entry exit answer
       → InclusionPromise bytes second u-entry u-exit′ v-entry v-exit′ entry exit′ answer′ → exit ≡ exit′

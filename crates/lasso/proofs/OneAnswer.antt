@@ -1,11 +1,9 @@
 -- Two answers of the call for the same rule, lasso and scratch are one, and leave scratch alike. Assumes nothing.
 use Prim.Native.Nat.{ℕ}
-use native.Mathlib.Omega.{arith}
 use mathlib.Core.Path.{_≡_, refl, sym, _∙_}
 use mathlib.Core.List.{List}
-use Rattle.answer.specs.Refusals.{numberOf}
-use Rattle.answer.proofs.Numbers.{same-number}
 use Rattle.answer.proofs.Order.{single-append, one-verdict}
+use Rattle.answer.proofs.Verdicts.{same-refusal, not-passed}
 use Rattle.format.specs.Format.{lettersOf}
 use Rattle.rulefile.proofs.OneVerdict.{checked-single}
 use Rattle.words.proofs.Lassos.{lasso-single}
@@ -23,16 +21,11 @@ module _ {bytes u v entry exit exit′ : List ℕ} where
       same NotAccepted NotAccepted p q e = refl
       same Accepted NotAccepted p q e = absurd (q .answered (p .answered))
       same NotAccepted Accepted p q e = absurd (p .answered (q .answered))
-      same Accepted (Refused r i place) p q e = absurd (let z : _≡_ {A = ℕ} 0 1 = cc in let w : ⊥ = omega arith in w)
-      same NotAccepted (Refused r i place) p q e = absurd (let z : _≡_ {A = ℕ} 0 1 = cc in let w : ⊥ = omega arith in w)
-      same (Refused r i place) Accepted p q e = absurd (let z : _≡_ {A = ℕ} 0 1 = cc in let w : ⊥ = omega arith in w)
-      same (Refused r i place) NotAccepted p q e = absurd (let z : _≡_ {A = ℕ} 0 1 = cc in let w : ⊥ = omega arith in w)
-      same (Refused r i place) (Refused r′ i′ place′) p q e =
-          let number : numberOf r ≡ numberOf r′ = cc in
-          let kind = same-number r r′ number in
-          let there : i ≡ i′ = cc in
-          let here : place ≡ place′ = cc in
-          cc (kind, there, here)
+      same Accepted (Refused r i place) p q e = absurd (not-passed (sym e))
+      same NotAccepted (Refused r i place) p q e = absurd (not-passed (sym e))
+      same (Refused r i place) Accepted p q e = absurd (not-passed e)
+      same (Refused r i place) NotAccepted p q e = absurd (not-passed e)
+      same (Refused r i place) (Refused r′ i′ place′) p q e = same-refusal Refused r r′ i i′ place place′ e
 
   pub one-scratch : {answer answer′ : Membership} → MemberPromise bytes u v entry exit answer → MemberPromise bytes u v entry exit′ answer′ → exit ≡ exit′
   one-scratch p q = p .scratch ∙ sym (q .scratch)

@@ -1,159 +1,48 @@
 // Runs `rules::member`, `rules::stretch` and the calls on a monitor over document 01's small rules, and writes a line for
 // each. A word is written as its letters in a row.
-use libc::STDOUT_FILENO;
 use rules::Membership;
 use rules::Monitor;
 use rules::Moved;
-use rules::Refusal;
-
-// Writes a number after a word.
-fn word_and(word: &[u8], n: usize) {
-    io::write_all(STDOUT_FILENO, word);
-    io::print_decimal(STDOUT_FILENO, n as u64);
-}
-
-fn refused(refusal: Refusal, input: usize, place: usize) {
-    word_and(b"refused ", rules::number(refusal) as usize);
-    word_and(b" in ", input);
-    word_and(b" at ", place);
-}
 
 fn answer_line(answer: Membership) {
     match answer {
-        Membership::Accepted => {
-            io::write_all(STDOUT_FILENO, b"accepted");
-        }
-        Membership::NotAccepted => {
-            io::write_all(STDOUT_FILENO, b"not accepted");
-        }
+        Membership::Accepted => exampletext::word(b"accepted\n"),
+        Membership::NotAccepted => exampletext::word(b"not accepted\n"),
         Membership::Refused {
             refusal,
             input,
             place,
-        } => {
-            refused(refusal, input, place);
-        }
-    }
-    io::write_all(STDOUT_FILENO, b"\n");
-}
-
-fn tell(label: &[u8], rule: &[u8], u: &[u8], v: &[u8], scratch: &mut [u8]) {
-    io::write_all(STDOUT_FILENO, label);
-    io::write_all(STDOUT_FILENO, b": ");
-    answer_line(rules::member(rule, u, v, scratch));
-}
-
-fn of_w(scratch: &mut [u8]) {
-    let w = [2, 0, 0, 0, 1, 2, 0, 1, 1, 0, 0, 0];
-    tell(b"M2 W, u 1, v 0", &w, &[1], &[0], scratch);
-    tell(b"M3 W, u 0, v 1", &w, &[0], &[1], scratch);
-    tell(b"W, u 0, v 0 1", &w, &[0], &[0, 1], scratch);
-}
-
-fn of_z(scratch: &mut [u8]) {
-    let z = [2, 0, 1, 1, 0, 2, 1, 0, 1, 0, 0, 0];
-    tell(b"M6 Z, u 0, v 1", &z, &[0], &[1], scratch);
-    tell(b"M6 Z, u 0, v 0 0", &z, &[0], &[0, 0], scratch);
-    let one = [2, 0, 1, 1, 0, 1, 1, 1, 0, 0, 0];
-    tell(
-        b"M7 Z with letter 0 only, u 0, v 0",
-        &one,
-        &[0],
-        &[0],
-        scratch,
-    );
-}
-
-fn faults(scratch: &mut [u8]) {
-    let w = [2, 0, 0, 0, 1, 2, 0, 1, 1, 0, 0, 0];
-    tell(b"a foreign letter in u", &w, &[0, 1, 2], &[0, 2], scratch);
-    tell(b"a foreign letter in v", &w, &[0, 1], &[0, 2], scratch);
-}
-
-fn lengths(scratch: &mut [u8]) {
-    let w = [2, 0, 0, 0, 1, 2, 0, 1, 1, 0, 0, 0];
-    tell(
-        b"no letter in u, and a foreign one in v",
-        &w,
-        &[],
-        &[2],
-        scratch,
-    );
-    tell(b"no letter in v", &w, &[2], &[], scratch);
-    tell(
-        b"a rule that does not associate",
-        &[2, 1, 0, 0, 0, 1, 0, 0, 0],
-        &[],
-        &[],
-        scratch,
-    );
-}
-
-fn long_words(scratch: &mut [u8]) {
-    let w = [2, 0, 0, 0, 1, 2, 0, 1, 1, 0, 0, 0];
-    let longest = [0u8; 4224];
-    let longer = [0u8; 4225];
-    tell(b"u of 4,224 letters", &w, &longest, &[0], scratch);
-    tell(b"v of 4,224 letters", &w, &[1], &longest, scratch);
-    tell(b"u of 4,225 letters", &w, &longer, &[0], scratch);
-    tell(b"v of 4,225 letters", &w, &[1], &longer, scratch);
-}
-
-fn members(scratch: &mut [u8]) {
-    of_w(scratch);
-    of_z(scratch);
-    faults(scratch);
-    lengths(scratch);
-    long_words(scratch);
-}
-
-fn letters(w: &[u8]) {
-    for i in 0..w.len() {
-        io::print_decimal(STDOUT_FILENO, w[i] as u64);
+        } => exampletext::refused_line(rules::number(refusal), input, place),
     }
 }
 
-fn stretch_at<'a>(label: &[u8], u: &'a [u8], v: &'a [u8], position: usize) {
-    io::write_all(STDOUT_FILENO, label);
-    io::write_all(STDOUT_FILENO, b": ");
-    letters(rules::stretch(u, v, position));
-    io::write_all(STDOUT_FILENO, b"\n");
+// A word has room for one letter more than it may have.
+fn member(line: &[u8], rule: &[u8], scratch: &mut [u8]) {
+    let mut u = [0u8; 4225];
+    let mut v = [0u8; 4225];
+    let m = exampletext::numbers(line, 3, &mut u);
+    let n = exampletext::numbers(line, 4, &mut v);
+    exampletext::label(line);
+    answer_line(rules::member(rule, &u[..m], &v[..n], scratch));
 }
 
-fn stretches() {
-    let u = [1, 2, 3];
-    let v = [4, 5, 6, 7];
-    stretch_at(b"stretch at 0", &u, &v, 0);
-    stretch_at(b"stretch at 2", &u, &v, 2);
-    stretch_at(b"stretch at 3", &u, &v, 3);
-    stretch_at(b"stretch at 9", &u, &v, 9);
+fn word_line(word: &[u8]) {
+    exampletext::each(b"", word, word.len());
+    exampletext::word(b"\n");
 }
 
-fn far_stretches() {
-    let u = [1, 2, 3];
-    let v = [4, 5, 6, 7];
-    stretch_at(
-        b"stretch at the largest position",
-        &u,
-        &v,
-        18446744073709551615,
-    );
-    stretch_at(b"stretch with no start", &[], &v, 0);
-    stretch_at(b"stretch with no cycle", &u, &[], 0);
-}
-
-fn long_stretches() {
-    let longer = [9u8; 4225];
-    stretch_at(b"stretch with a long start", &longer, &[1], 0);
-    stretch_at(b"stretch with a long cycle", &[1], &longer, 0);
+fn stretch(line: &[u8], u: &[u8]) {
+    let mut v = [0u8; 4225];
+    let n = exampletext::numbers(line, 3, &mut v);
+    exampletext::label(line);
+    word_line(rules::stretch(u, &v[..n], exampletext::number(line, 4)));
 }
 
 fn monitor_line(moved: Moved) -> Monitor {
     match moved {
         Moved::To(m) => {
-            word_and(b"before ", m.before);
-            word_and(b" since ", m.since);
-            io::write_all(STDOUT_FILENO, b"\n");
+            exampletext::two(b"before ", m.before, b" since ", m.since);
+            exampletext::word(b"\n");
             m
         }
         Moved::Refused {
@@ -162,63 +51,92 @@ fn monitor_line(moved: Moved) -> Monitor {
             input,
             place,
         } => {
-            refused(refusal, input, place);
-            io::write_all(STDOUT_FILENO, b"\n");
+            exampletext::refused_line(rules::number(refusal), input, place);
             monitor
         }
     }
 }
 
-// An event or a mark of rule Z, whose letter 0 stands for 1 and letter 1 for 0.
-fn event_of_z(m: Monitor, letter: u8, scratch: &mut [u8]) -> Monitor {
-    monitor_line(rules::event(&[2, 0, 1, 1, 0, 2, 1, 0, 1, 0, 0, 0], m, letter, scratch))
-}
-
-fn mark_of_z(m: Monitor, scratch: &mut [u8]) -> Monitor {
-    monitor_line(rules::mark(&[2, 0, 1, 1, 0, 2, 1, 0, 1, 0, 0, 0], m, scratch))
-}
-
-fn first_steps(scratch: &mut [u8]) -> Monitor {
-    let m1 = mark_of_z(rules::fresh(), scratch);
-    let m2 = event_of_z(m1, 0, scratch);
-    event_of_z(m2, 2, scratch)
-}
-
-fn last_steps(m: Monitor, scratch: &mut [u8]) {
-    let m4 = mark_of_z(m, scratch);
-    let m5 = event_of_z(m4, 1, scratch);
-    mark_of_z(m5, scratch);
-}
-
-fn strays(scratch: &mut [u8]) {
-    event_of_z(
-        Monitor {
-            before: 2,
-            since: 0,
+// Events and marks move the monitor on, and `put` puts another in its place.
+fn moved(line: &[u8], rule: &[u8], m: Monitor, scratch: &mut [u8]) -> Monitor {
+    match exampletext::command(line) {
+        b'e' => monitor_line(rules::event(
+            rule,
+            m,
+            (exampletext::number(line, 3) % 256) as u8,
+            scratch,
+        )),
+        b'm' => monitor_line(rules::mark(rule, m, scratch)),
+        b'p' => Monitor {
+            before: exampletext::number(line, 3),
+            since: exampletext::number(line, 4),
         },
-        0,
-        scratch,
-    );
-    mark_of_z(
-        Monitor {
-            before: 64,
-            since: 65,
-        },
-        scratch,
-    );
+        _ => m,
+    }
 }
 
-fn follow(scratch: &mut [u8]) {
-    let m = first_steps(scratch);
-    last_steps(m, scratch);
-    strays(scratch);
+fn run(line: &[u8], m: Monitor, scratch: &mut [u8]) -> Monitor {
+    let mut first = [0u8; 4225];
+    let length = exampletext::numbers(line, 2, &mut first);
+    match exampletext::command(line) {
+        b'l' => {
+            member(line, &first[..length], scratch);
+            m
+        }
+        b's' => {
+            stretch(line, &first[..length]);
+            m
+        }
+        _ => moved(line, &first[..length], m, scratch),
+    }
+}
+
+fn run_all(text: &[u8], scratch: &mut [u8]) {
+    let mut m = rules::fresh();
+    for i in 0..text.len() {
+        m = run(exampletext::part(text, b'\n', i), m, scratch);
+    }
 }
 
 fn main() {
     let mut scratch = [7u8; 65536];
-    members(&mut scratch);
-    stretches();
-    far_stretches();
-    long_stretches();
-    follow(&mut scratch);
+    run_all(
+        b"M2 W, u 1, v 0: lasso: 2 0 0 0 1 2 0 1 1 0 0 0: 1: 0\n\
+        M3 W, u 0, v 1: lasso: 2 0 0 0 1 2 0 1 1 0 0 0: 0: 1\n\
+        W, u 0, v 0 1: lasso: 2 0 0 0 1 2 0 1 1 0 0 0: 0: 0 1\n\
+        M6 Z, u 0, v 1: lasso: 2 0 1 1 0 2 1 0 1 0 0 0: 0: 1\n\
+        M6 Z, u 0, v 0 0: lasso: 2 0 1 1 0 2 1 0 1 0 0 0: 0: 0 0\n\
+        M7 Z with letter 0 only, u 0, v 0: lasso: 2 0 1 1 0 1 1 1 0 0 0: 0: 0\n\
+        a foreign letter in u: lasso: 2 0 0 0 1 2 0 1 1 0 0 0: 0 1 2: 0 2\n\
+        a foreign letter in v: lasso: 2 0 0 0 1 2 0 1 1 0 0 0: 0 1: 0 2\n\
+        no letter in u, and a foreign one in v: lasso: 2 0 0 0 1 2 0 1 1 0 0 0: : 2\n\
+        no letter in v: lasso: 2 0 0 0 1 2 0 1 1 0 0 0: 2:\n\
+        a rule that does not associate: lasso: 2 1 0 0 0 1 0 0 0: :\n\
+        u of 4,224 letters: lasso: 2 0 0 0 1 2 0 1 1 0 0 0: 4224*0: 0\n\
+        v of 4,224 letters: lasso: 2 0 0 0 1 2 0 1 1 0 0 0: 1: 4224*0\n\
+        u of 4,225 letters: lasso: 2 0 0 0 1 2 0 1 1 0 0 0: 4225*0: 0\n\
+        v of 4,225 letters: lasso: 2 0 0 0 1 2 0 1 1 0 0 0: 1: 4225*0\n\
+        stretch at 0: stretch: 1 2 3: 4 5 6 7: 0\n\
+        stretch at 2: stretch: 1 2 3: 4 5 6 7: 2\n\
+        stretch at 3: stretch: 1 2 3: 4 5 6 7: 3\n\
+        stretch at 9: stretch: 1 2 3: 4 5 6 7: 9\n\
+        stretch at the largest position: stretch: 1 2 3: 4 5 6 7: 18446744073709551615\n\
+        stretch with no start: stretch: : 4 5 6 7: 0\n\
+        stretch with no cycle: stretch: 1 2 3: : 0\n\
+        stretch with a long start: stretch: 4225*9: 1: 0\n\
+        stretch with a long cycle: stretch: 1: 4225*9: 0\n\
+        # Events and marks of Z, whose letter 0 stands for 1 and letter 1 for 0, from a fresh monitor on.\n\
+        : mark: 2 0 1 1 0 2 1 0 1 0 0 0\n\
+        : event: 2 0 1 1 0 2 1 0 1 0 0 0: 0\n\
+        : event: 2 0 1 1 0 2 1 0 1 0 0 0: 2\n\
+        : mark: 2 0 1 1 0 2 1 0 1 0 0 0\n\
+        : event: 2 0 1 1 0 2 1 0 1 0 0 0: 1\n\
+        : mark: 2 0 1 1 0 2 1 0 1 0 0 0\n\
+        # Monitors with values that Z does not have.\n\
+        : put: : 2: 0\n\
+        : event: 2 0 1 1 0 2 1 0 1 0 0 0: 0\n\
+        : put: : 64: 65\n\
+        : mark: 2 0 1 1 0 2 1 0 1 0 0 0\n",
+        &mut scratch,
+    );
 }

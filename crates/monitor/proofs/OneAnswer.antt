@@ -1,14 +1,9 @@
--- Two answers of a call on a monitor, for the same rule, monitor, letter and scratch, are one, and leave scratch and a lent monitor
--- alike. Assumes nothing.
+-- Two answers of a call on a monitor, for the same rule, monitor, letter and scratch, are one, and leave scratch alike. Assumes nothing.
 use Prim.Native.Nat.{ℕ}
-use native.Mathlib.Omega.{arith}
-use mathlib.Core.Path.{_≡_, refl, sym, ap, _∙_}
+use mathlib.Core.Path.{_≡_, sym, ap, _∙_}
 use mathlib.Core.List.{List}
-use Rattle.answer.specs.declared.Refusal.{Refusal}
-use Rattle.answer.specs.Refusals.{numberOf}
-use Rattle.answer.specs.Checks.{passed, numbered, refused}
-use Rattle.answer.proofs.Numbers.{same-number}
 use Rattle.answer.proofs.Order.{AllSingle, single-nil, single-cons, single-append, one-verdict}
+use Rattle.answer.proofs.Verdicts.{same-refusal, not-passed}
 use Rattle.format.specs.Format.{morphismOf}
 use Rattle.rulefile.proofs.OneVerdict.{checked-single}
 use Rattle.monitor.specs.declared.Monitor.{Monitor}
@@ -32,20 +27,6 @@ monitor-single bytes f entry = single-append (checked-single 1 bytes entry) (sin
 
 pub event-single : (bytes : List ℕ) (f : Monitor) (letter : ℕ) (entry : List ℕ) → AllSingle (eventChecks bytes f letter entry)
 event-single bytes f letter entry = single-append (monitor-single bytes f entry) (single-cons (record { one-place = letter-place }) single-nil)
-
--- a refusal is known by its verdict
-pub same-refusal : {A : Type 0} (answer : Refusal → ℕ → ℕ → A) (r r′ : Refusal) (i i′ place place′ : ℕ) → refused r i place ≡ refused r′ i′ place′
-    → answer r i place ≡ answer r′ i′ place′
-same-refusal answer r r′ i i′ place place′ e =
-    let number : numberOf r ≡ numberOf r′ = cc in
-    let kind = same-number r r′ number in
-    let there : i ≡ i′ = cc in
-    let here : place ≡ place′ = cc in
-    cc (kind, there, here)
-
--- and is no other answer
-pub not-passed : {number input place : ℕ} → numbered number input place ≡ passed → ⊥
-not-passed e = let z : _≡_ {A = ℕ} 0 1 = cc in omega arith
 
 -- answers with one verdict that hand back one monitor
 same-moved : (f next : Monitor) (a b : Moved) → HandsBack f next a → HandsBack f next b → movedVerdict a ≡ movedVerdict b → a ≡ b

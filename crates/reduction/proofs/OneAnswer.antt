@@ -1,17 +1,15 @@
 -- Two answers of the call for the same rule and buffers are one, and leave out and scratch alike: of the reductions of a rule only
 -- one is numbered by first words. Assumes nothing.
 use Prim.Native.Nat.{ℕ}
-use native.Mathlib.Omega.{arith}
 use mathlib.Core.Path.{_≡_, refl, sym, ap, _∙_}
-use mathlib.Core.List.{List, _++_}
-use lib.ListN.{length, drop}
-use Rattle.answer.specs.Refusals.{numberOf}
-use Rattle.answer.proofs.Numbers.{same-number}
+use mathlib.Core.List.{List}
 use Rattle.answer.proofs.Order.{AllSingle, single-nil, single-cons, single-append, one-verdict}
+use Rattle.answer.proofs.Verdicts.{same-refusal, not-passed}
 use Rattle.theory.specs.Smallest.{SameLassos}
 use Rattle.format.specs.RuleChecks.{ShortAt}
 use Rattle.rulefile.proofs.OneVerdict.{checked-single}
 use Rattle.rulewriter.specs.File.{fileOf}
+use Rattle.rulewriter.proofs.Same.{one-length, one-buffer}
 use Rattle.strength.specs.Weak.{WeakAt}
 use Rattle.reduction.specs.declared.Reduced.{Reduced}
 use Rattle.reduction.specs.declared.Reduced.the-variants.{Rule as Is-rule, Refused}
@@ -38,24 +36,13 @@ module _ {bytes before after after′ : List ℕ} {r r′ : ℕ} (a : ReducedTo 
   same-file : fileOf (b .reduced .morphism) (b .reduced .marks) ≡ fileOf (a .reduced .morphism) (a .reduced .marks)
   same-file = reductions-file same-rule (a .reduction) (b .reduction) (a .numbered) (b .numbered)
 
-  one-length : r ≡ r′
-  one-length = a .written .counts ∙ ap length (sym same-file) ∙ sym (b .written .counts)
-
-  one-rule : after ≡ after′
-  one-rule = a .written .holds ∙ ap (λ (file : List ℕ). file ++ drop (length file) before) (sym same-file) ∙ sym (b .written .holds)
-
 module _ (bytes before : List ℕ) {after after′ : List ℕ} where
   same-answer : (a b : Reduced) → ReducedAnswer bytes before after a → ReducedAnswer bytes before after′ b → reducedVerdict a ≡ reducedVerdict b
       → (a ≡ b) × (after ≡ after′)
-  same-answer (Is-rule r) (Is-rule r′) p q e = (ap Is-rule (one-length p q), one-rule p q)
-  same-answer (Is-rule r) (Refused k i place) p q e = absurd (let z : _≡_ {A = ℕ} 0 1 = cc in let w : ⊥ = omega arith in w)
-  same-answer (Refused k i place) (Is-rule r) p q e = absurd (let z : _≡_ {A = ℕ} 0 1 = cc in let w : ⊥ = omega arith in w)
-  same-answer (Refused k i place) (Refused k′ i′ place′) p q e =
-      let number : numberOf k ≡ numberOf k′ = cc in
-      let kind = same-number k k′ number in
-      let there : i ≡ i′ = cc in
-      let here : place ≡ place′ = cc in
-      (cc (kind, there, here), p ∙ sym q)
+  same-answer (Is-rule r) (Is-rule r′) p q e = (ap Is-rule (one-length (p .written) (q .written) (same-file p q)), one-buffer (p .written) (q .written) (same-file p q))
+  same-answer (Is-rule r) (Refused k i place) p q e = absurd (not-passed (sym e))
+  same-answer (Refused k i place) (Is-rule r) p q e = absurd (not-passed e)
+  same-answer (Refused k i place) (Refused k′ i′ place′) p q e = (same-refusal Refused k k′ i i′ place place′ e, p ∙ sym q)
 
 module _ {bytes before after after′ entry exit exit′ : List ℕ} where
   pub one-answer : (answer answer′ : Reduced) → ReducePromise bytes before after entry exit answer → ReducePromise bytes before after′ entry exit′ answer′

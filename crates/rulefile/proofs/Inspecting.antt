@@ -6,9 +6,8 @@ use native.Mathlib.Omega.{arith}
 use lib.ListN.{length, replicate, length-replicate}
 use Rattle.answer.specs.declared.Refusal.{Refusal}
 use Rattle.answer.specs.Checks.{passed, FirstFailure}
-use Rattle.answer.specs.Refusals.{numberOf}
-use Rattle.answer.proofs.Numbers.{same-number}
 use Rattle.answer.proofs.Order.{passes-head, one-verdict}
+use Rattle.answer.proofs.Verdicts.{same-refusal, not-passed}
 use Rattle.format.specs.RuleChecks.{scratchSize}
 use Rattle.layout.specs.declared.Shape.{Shape}
 use Rattle.rulefile.specs.declared.Checked.{Checked}
@@ -56,14 +55,9 @@ module _ {bytes entry exit exit′ : List ℕ} where
           let s = p .values in
           let t = q .values in
           cc (s .elements-are, s .letters-are, s .marks-are, t .elements-are, t .letters-are, t .marks-are)
-      same (Inspected-rule e l c) (Inspected-refused r i place) p q v = absurd (let z : _≡_ {A = ℕ} 0 1 = cc in let w : ⊥ = omega arith in w)
-      same (Inspected-refused r i place) (Inspected-rule e l c) p q v = absurd (let z : _≡_ {A = ℕ} 0 1 = cc in let w : ⊥ = omega arith in w)
-      same (Inspected-refused r i place) (Inspected-refused r′ i′ place′) p q v =
-          let number : numberOf r ≡ numberOf r′ = cc in
-          let kind = same-number r r′ number in
-          let there : i ≡ i′ = cc in
-          let here : place ≡ place′ = cc in
-          cc (kind, there, here)
+      same (Inspected-rule e l c) (Inspected-refused r i place) p q v = absurd (not-passed (sym v))
+      same (Inspected-refused r i place) (Inspected-rule e l c) p q v = absurd (not-passed v)
+      same (Inspected-refused r i place) (Inspected-refused r′ i′ place′) p q v = same-refusal Inspected-refused r r′ i i′ place place′ v
 
   pub one-scratch : {answer answer′ : Inspected} → InspectPromise bytes entry exit answer → InspectPromise bytes entry exit′ answer′ → exit ≡ exit′
   one-scratch p q = p .scratch ∙ sym (q .scratch)

@@ -5,9 +5,10 @@ use mathlib.Core.List.{List, _∷_, _++_}
 use native.Mathlib.Omega.{arith}
 use native.Mathlib.Nat.{mod-lt, div-lt-iff-lt-mul}
 use lib.Dec.{ltb}
-use lib.ListN.{length}
+use lib.ListN.{length, drop}
 use Rattle.theory.specs.Rules.{Morphism, Marking}
 use Rattle.rulewriter.specs.File.{tabulate, elementsBytes, lettersBytes, isMarked, pairBytes, marksBytes, fileOf}
+use Rattle.rulewriter.specs.ReadBack.{WrittenRule}
 use Rattle.rulewriter.specs.Writing.{sized, pairsFrom}
 use Rattle.rulewriter.proofs.Agree.{Agree}
 use Rattle.rulewriter.proofs.Tabulated.{tabulate-same}
@@ -63,3 +64,12 @@ module _ {m m′ : Morphism} (agree : Agree m m′) where
   unfolding fileOf
   file-same {marks} {marks′} h =
       ap₂ _++_ elements-same (ap₂ _++_ letters-same (marks-same m m′ marks marks′ (agree .same-size) h))
+
+-- two rules that are written as one file leave the buffer alike
+module _ {m m′ : Morphism} {marks marks′ : Marking} {before after after′ : List ℕ} {r r′ : ℕ} (a : WrittenRule m marks before after r)
+    (b : WrittenRule m′ marks′ before after′ r′) (e : fileOf m′ marks′ ≡ fileOf m marks) where
+  pub one-length : r ≡ r′
+  one-length = a .counts ∙ ap length (sym e) ∙ sym (b .counts)
+
+  pub one-buffer : after ≡ after′
+  one-buffer = a .holds ∙ ap (λ (file : List ℕ). file ++ drop (length file) before) (sym e) ∙ sym (b .holds)

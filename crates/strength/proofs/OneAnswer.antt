@@ -1,11 +1,9 @@
 -- Two answers of the call for the same rule and scratch are one, and leave scratch alike. Assumes nothing.
 use Prim.Native.Nat.{ℕ}
-use native.Mathlib.Omega.{arith}
 use mathlib.Core.Path.{_≡_, refl, sym, _∙_}
 use mathlib.Core.List.{List}
-use Rattle.answer.specs.Refusals.{numberOf}
-use Rattle.answer.proofs.Numbers.{same-number}
 use Rattle.answer.proofs.Order.{one-verdict}
+use Rattle.answer.proofs.Verdicts.{same-refusal, not-passed}
 use Rattle.rulefile.proofs.OneVerdict.{checked-single}
 use Rattle.strength.specs.declared.Strength.{Strength}
 use Rattle.strength.specs.declared.Strength.the-variants.{Strong, Weak, Refused}
@@ -20,16 +18,11 @@ module _ {bytes entry exit exit′ : List ℕ} where
       same Weak Weak p q e = refl
       same Strong Weak p q e = absurd (q p)
       same Weak Strong p q e = absurd (p q)
-      same Strong (Refused r i place) p q e = absurd (let z : _≡_ {A = ℕ} 0 1 = cc in let w : ⊥ = omega arith in w)
-      same Weak (Refused r i place) p q e = absurd (let z : _≡_ {A = ℕ} 0 1 = cc in let w : ⊥ = omega arith in w)
-      same (Refused r i place) Strong p q e = absurd (let z : _≡_ {A = ℕ} 0 1 = cc in let w : ⊥ = omega arith in w)
-      same (Refused r i place) Weak p q e = absurd (let z : _≡_ {A = ℕ} 0 1 = cc in let w : ⊥ = omega arith in w)
-      same (Refused r i place) (Refused r′ i′ place′) p q e =
-          let number : numberOf r ≡ numberOf r′ = cc in
-          let kind = same-number r r′ number in
-          let there : i ≡ i′ = cc in
-          let here : place ≡ place′ = cc in
-          cc (kind, there, here)
+      same Strong (Refused r i place) p q e = absurd (not-passed (sym e))
+      same Weak (Refused r i place) p q e = absurd (not-passed (sym e))
+      same (Refused r i place) Strong p q e = absurd (not-passed e)
+      same (Refused r i place) Weak p q e = absurd (not-passed e)
+      same (Refused r i place) (Refused r′ i′ place′) p q e = same-refusal Refused r r′ i i′ place place′ e
 
   pub one-scratch : {answer answer′ : Strength} → StrongPromise bytes entry exit answer → StrongPromise bytes entry exit′ answer′ → exit ≡ exit′
   one-scratch p q = p .scratch ∙ sym (q .scratch)

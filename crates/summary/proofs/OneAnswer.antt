@@ -4,9 +4,8 @@ use native.Mathlib.Omega.{arith}
 use mathlib.Core.Path.{_≡_, refl, sym, ap, _∙_, subst}
 use mathlib.Core.Bool.{Bool, true, false}
 use mathlib.Core.List.{List}
-use Rattle.answer.specs.Refusals.{numberOf}
-use Rattle.answer.proofs.Numbers.{same-number}
 use Rattle.answer.proofs.Order.{AllSingle, one-verdict}
+use Rattle.answer.proofs.Verdicts.{same-refusal, not-passed}
 use Rattle.theory.specs.Words.{Lasso}
 use Rattle.theory.specs.Rules.{Rule, Lawful}
 use Rattle.theory.specs.Pairs.{LinkedPairs, Classes}
@@ -70,14 +69,9 @@ module _ {bytes before after after′ entry exit exit′ : List ℕ} where
     where
       same : (a b : Summary) → SummaryAnswer bytes a → SummaryAnswer bytes b → summaryVerdict a ≡ summaryVerdict b → a ≡ b
       same (Counts n k c l d s r) (Counts n′ k′ c′ l′ d′ s′ r′) p q e = counts-same p q
-      same (Counts n k c l d s r) (Refused refusal input place) p q e = absurd (let z : _≡_ {A = ℕ} 0 1 = cc in let w : ⊥ = omega arith in w)
-      same (Refused refusal input place) (Counts n k c l d s r) p q e = absurd (let z : _≡_ {A = ℕ} 0 1 = cc in let w : ⊥ = omega arith in w)
-      same (Refused r i place) (Refused r′ i′ place′) p q e =
-          let number : numberOf r ≡ numberOf r′ = cc in
-          let kind = same-number r r′ number in
-          let there : i ≡ i′ = cc in
-          let here : place ≡ place′ = cc in
-          cc (kind, there, here)
+      same (Counts n k c l d s r) (Refused refusal input place) p q e = absurd (not-passed (sym e))
+      same (Refused refusal input place) (Counts n k c l d s r) p q e = absurd (not-passed e)
+      same (Refused r i place) (Refused r′ i′ place′) p q e = same-refusal Refused r r′ i i′ place place′ e
 
   pub one-work : (answer answer′ : Summary) → SummaryPromise bytes before after entry exit answer → SummaryPromise bytes before after′ entry exit′ answer′ → after ≡ after′
   one-work answer answer′ p q = p .work ∙ ap (workAfter before) (one-answer answer answer′ p q) ∙ sym (q .work)

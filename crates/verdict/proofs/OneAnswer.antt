@@ -3,10 +3,11 @@ use Prim.Native.Nat.{ℕ}
 use mathlib.Core.Path.{_≡_, refl, sym, _∙_}
 use mathlib.Core.List.{List}
 use Rattle.answer.proofs.Order.{AllSingle, single-nil, single-cons, single-append, one-verdict}
+use Rattle.answer.proofs.Verdicts.{same-refusal, not-passed}
 use Rattle.theory.specs.Rules.{Morphism, Pairs}
 use Rattle.strength.specs.Weak.{WeakAt}
 use Rattle.monitor.specs.declared.Monitor.{Monitor}
-use Rattle.monitor.proofs.OneAnswer.{monitor-single, same-refusal, not-passed}
+use Rattle.monitor.proofs.OneAnswer.{monitor-single}
 use Rattle.verdict.specs.declared.Judged.{Judged}
 use Rattle.verdict.specs.declared.Judged.the-variants.{Accepted, NotAccepted, Refused}
 use Rattle.verdict.specs.Promise.{NoneAt, verdictChecks, judgedVerdict, LassoWith, LassosAccepted, LassosNotAccepted, VerdictAnswer, VerdictPromise}

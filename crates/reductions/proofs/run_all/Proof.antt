@@ -1,22 +1,25 @@
--- `reductions::marks` stays within the file and ends. Assumes nothing.
+-- `reductions::run_all` ends. Assumes nothing.
+use borrow.Author.Needs.{needs}
 use Prim.Native.Nat.{_≤_, _-_}
 use mathlib.Core.Path.{_≡_}
 use lib.ListN.{length}
-use borrow.Author.Needs.{needs}
-use Rattle.reductions.proofs.marks.Statement.{statement}
-use Rattle.reductions.proofs.marks.Tie as tie
+use Rattle.reductions.proofs.run_all.Statement.{statement}
+use Rattle.reductions.proofs.run_all.Tie as tie
 
 abbrev Inv-loop : tie.InvT-loop
-Inv-loop rule₀ at₀ i₀ rule at i = (i ≤ 4096) × (length rule ≡ length rule₀)
+Inv-loop text scratch₀ i₀ i-end scratch i = (i ≤ i-end) × (length scratch ≡ length scratch₀)
 
 abbrev μ-loop : tie.MeasureT-loop
-μ-loop rule₀ at₀ i₀ rule at i = 4096 - i
+μ-loop text scratch₀ i₀ i-end scratch i = i-end - i
 
 loop-holds : tie.Need-loop-holds Inv-loop μ-loop
 loop-holds c = search needs
 
-put-marked-requires : tie.Need-put-marked-requires Inv-loop μ-loop
-put-marked-requires c κs = search needs
+part-requires : tie.Need-part-requires Inv-loop μ-loop
+part-requires c κs = search needs
+
+run-requires : tie.Need-run-requires Inv-loop μ-loop
+run-requires c κs = search needs
 
 add-i : tie.Need-add-i Inv-loop μ-loop
 add-i c = search needs
@@ -33,14 +36,15 @@ same-length c = search needs
 returns : tie.Need-returns Inv-loop μ-loop
 returns c = search needs
 
-pub marks-spec : {M : Type 1} → statement M
-marks-spec =
+pub run-all-spec : {M : Type 1} → statement M
+run-all-spec =
     tie.close
     (tie.spec
     Inv-loop
     μ-loop
     loop-holds
-    put-marked-requires
+    part-requires
+    run-requires
     add-i
     loop-less
     loop-again
