@@ -17,8 +17,8 @@ use Rattle.buchi.proofs.MatrixTables.{TableOf, table-lawful, table-matrices}
 use Rattle.buchi.proofs.Numberings.{more-matrices}
 use Rattle.matrices.specs.Bytes.{letterEntry}
 use Rattle.matrices.proofs.Letters.{stands-letter}
-use Rattle.matrixlist.specs.Lists.{matrixAt, ListPlace, StandsHere, Kept, AllListed}
-use Rattle.matrixlist.proofs.Growing.{among-same, here-kept, place-kept}
+use Rattle.matrixsearch.specs.Lists.{matrixAt, ListPlace, StandsHere, Kept, AllListed}
+use Rattle.matrixsearch.proofs.Growing.{among-same, here-kept, place-kept}
 use Rattle.matrixtable.specs.Laying.{laidRule, laidMarks, initialStates, ProductList, LetterList, ProductNumber, LetterNumber, RuleLaid}
 use Rattle.firstwords.specs.FirstWords.{ByFirstWords}
 use Rattle.matrixtable.proofs.Filling.{kept-sym}

@@ -7,9 +7,9 @@ use lib.ListN.{length, take, drop, replicate}
 use Rattle.answer.specs.declared.Refusal.the-variants.{TooManyMatrices}
 use Rattle.answer.proofs.Order.{first-passes, first-fails, none-left}
 use Rattle.buchi.proofs.AutomatonRule.{elements-reached, marked-linked, rule-accepts-runs, rule-strong, rule-marks-accepted}
-use Rattle.matrixlist.specs.Lists.{matrixAt, AllListed, TooRich, ListAnswer, MatricesAnswer}
-use Rattle.matrixlist.specs.declared.MatrixCount.{MatrixCount}
-use Rattle.matrixlist.specs.declared.MatrixCount.the-variants.{Listed, TooMany}
+use Rattle.matrixsearch.specs.Lists.{matrixAt, AllListed, TooRich, ListAnswer, MatricesAnswer}
+use Rattle.matrixsearch.specs.declared.MatrixCount.{MatrixCount}
+use Rattle.matrixsearch.specs.declared.MatrixCount.the-variants.{Listed, TooMany}
 use Rattle.rulewriter.proofs.ReadBack.{written-rule}
 use Rattle.automaton.specs.Meaning.{automatonOf, richCheck}
 use Rattle.matrixtable.specs.Laying.{laidRule, laidMarks, ProductList, LetterList, RuleLaid, WritePlace, LaidWritten}

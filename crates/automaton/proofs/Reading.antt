@@ -9,7 +9,7 @@ use lib.Dec.{eqb, ltb}
 use Rattle.format.specs.Format.{oneIf}
 use Rattle.automatonformat.specs.Format.{statesOf, kindAt, isInitial, isFinal, hasTransition, lettersAt, transitionsAt, automatonEnd}
 use Rattle.matrices.specs.Bytes.{initialAt, finalAt, stepAt, Stands}
-use Rattle.matrixlist.specs.Lists.{ListPlace, StandsHere}
+use Rattle.matrixsearch.specs.Lists.{ListPlace, StandsHere}
 use Rattle.scratch.proofs.Parts.{part-length, part-byte}
 use Rattle.automaton.specs.Meaning.{automatonOf}
 use Rattle.automaton.specs.Promise.{ReadHere}

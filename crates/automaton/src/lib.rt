@@ -6,9 +6,9 @@
 use answer::Refusal;
 use automatonfile::AutomatonRead;
 use automatonfile::read_automaton;
-use matrixlist::MatrixCount;
 use matrixlist::list_matrices;
 use matrixmarks::lay_marks;
+use matrixsearch::MatrixCount;
 use matrixtable::lay_letters;
 use matrixtable::lay_products;
 use rulewriter::write_rule;

@@ -12,14 +12,14 @@ use Rattle.inclusion.specs.declared.Inclusion.{Inclusion}
 use Rattle.inclusion.specs.Promise.{InclusionPromise}
 use Rattle.lasso.specs.declared.Membership.{Membership}
 use Rattle.lasso.specs.Promise.{MemberPromise}
-use Rattle.monitor.specs.declared.Monitor.{Monitor}
+use Rattle.monitorstate.specs.declared.Monitor.{Monitor}
 use Rattle.monitor.specs.declared.Moved.{Moved}
 use Rattle.monitor.specs.Promises.{EventPromise, MarkPromise}
 use Rattle.reduction.specs.declared.Reduced.{Reduced}
 use Rattle.reduction.specs.Promise.{ReducePromise}
 use Rattle.strength.specs.declared.Strength.{Strength}
 use Rattle.strength.specs.Promise.{StrongPromise}
-use Rattle.verdict.specs.declared.Judged.{Judged}
+use Rattle.judging.specs.declared.Judged.{Judged}
 use Rattle.verdict.specs.Promise.{VerdictPromise}
 use Rattle.packing.specs.Packing.{packListed, packStrength, packMembership, packComplemented, packReduced, packTranslated, packInclusion, packMoved, packJudged}
 

@@ -12,11 +12,13 @@ use Rattle.theory.proofs.Values.{Inside, inside-none, inside-element, join-none
 use Rattle.format.specs.Format.{elementsOf, lettersOf, morphismOf}
 use Rattle.rulefile.specs.Answers.{checkedChecks}
 use Rattle.rulefile.proofs.Calls.{called-good}
-use Rattle.monitor.specs.declared.Monitor.{Monitor}
-use Rattle.monitor.specs.Monitor.{noValue, valueOf, numberFor, freshMonitor, afterEvent, afterMark}
-use Rattle.monitor.specs.Promises.{monitorChecks, eventChecks}
+use Rattle.monitorstate.specs.declared.Monitor.{Monitor}
+use Rattle.monitor.specs.Moves.{afterEvent, afterMark}
+use Rattle.monitorstate.specs.Monitor.{noValue, valueOf, numberFor, freshMonitor}
+use Rattle.monitorstate.specs.Ready.{monitorChecks}
+use Rattle.monitor.specs.Promises.{eventChecks}
 use Rattle.histories.specs.Histories.{Action, event, mark, sinceWord, beforeWord, Run, begun, moved-by-event, moved-by-mark, moved-in-place, event-refused, mark-refused, refused-in-place, Follows}
-use Rattle.monitor.proofs.Numbers.{value-none, value-element, number-of-value}
+use Rattle.monitorstate.proofs.Numbers.{value-none, value-element, number-of-value}
 
 -- a value of a rule with at most 64 elements is that of its number
 pub value-of-number : {m : Morphism} {x : Value} → m .size ≤ 64 → Inside m x → valueOf (numberFor x) ≡ x

@@ -6,10 +6,10 @@ use Rattle.answer.specs.declared.Refusal.{Refusal}
 use Rattle.theory.specs.Words.{Over}
 use Rattle.theory.specs.Rules.{value}
 use Rattle.format.specs.Format.{lettersOf, morphismOf}
-use Rattle.monitor.specs.declared.Monitor.{Monitor}
+use Rattle.monitorstate.specs.declared.Monitor.{Monitor}
 use Rattle.monitor.specs.declared.Moved.the-variants.{To, Refused}
 use Rattle.lentmonitor.specs.declared.Told.the-variants.{Done, Refused as Told-refused}
-use Rattle.monitor.specs.Monitor.{valueOf, freshMonitor}
+use Rattle.monitorstate.specs.Monitor.{valueOf, freshMonitor}
 use Rattle.monitor.specs.Promises.{EventPromise, MarkPromise}
 use Rattle.lentmonitor.specs.InPlace.{EventInPlace}
 

@@ -2,11 +2,11 @@
 use Prim.Native.Nat.{ℕ}
 use mathlib.Core.Path.{_≡_, sym, subst}
 use mathlib.Core.List.{List}
-use Rattle.monitor.specs.declared.Monitor.{Monitor}
+use Rattle.monitorstate.specs.declared.Monitor.{Monitor}
 use Rattle.monitor.specs.declared.Moved.{Moved}
 use Rattle.monitor.specs.declared.Moved.the-variants.{To, Refused}
 use Rattle.lentmonitor.specs.declared.Told.{Told}
-use Rattle.monitor.specs.Monitor.{afterEvent}
+use Rattle.monitor.specs.Moves.{afterEvent}
 use Rattle.monitor.specs.Promises.{EventPromise}
 use Rattle.lentmonitor.specs.InPlace.{sinceOf, toldOf, EventInPlace}
 

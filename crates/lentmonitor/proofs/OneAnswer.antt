@@ -5,8 +5,8 @@ use mathlib.Core.List.{List}
 use Rattle.answer.proofs.Order.{one-verdict}
 use Rattle.answer.proofs.Verdicts.{same-refusal, not-passed}
 use Rattle.format.specs.Format.{morphismOf}
-use Rattle.monitor.specs.declared.Monitor.{Monitor}
-use Rattle.monitor.specs.Monitor.{afterEvent}
+use Rattle.monitorstate.specs.declared.Monitor.{Monitor}
+use Rattle.monitor.specs.Moves.{afterEvent}
 use Rattle.monitor.proofs.OneAnswer.{event-single}
 use Rattle.lentmonitor.specs.declared.Told.{Told}
 use Rattle.lentmonitor.specs.declared.Told.the-variants.{Done, Refused as Told-refused}

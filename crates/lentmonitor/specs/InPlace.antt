@@ -5,12 +5,12 @@ use mathlib.Core.List.{List}
 use Rattle.answer.specs.Checks.{Verdict, passed, refused, FirstFailure}
 use Rattle.format.specs.Format.{morphismOf}
 use Rattle.rulefile.specs.Answers.{afterCall}
-use Rattle.monitor.specs.declared.Monitor.{Monitor}
+use Rattle.monitorstate.specs.declared.Monitor.{Monitor}
 use Rattle.monitor.specs.declared.Moved.{Moved}
 use Rattle.monitor.specs.declared.Moved.the-variants.{To, Refused}
 use Rattle.lentmonitor.specs.declared.Told.{Told}
 use Rattle.lentmonitor.specs.declared.Told.the-variants.{Done, Refused as Told-refused}
-use Rattle.monitor.specs.Monitor.{afterEvent}
+use Rattle.monitor.specs.Moves.{afterEvent}
 use Rattle.monitor.specs.Promises.{eventChecks}
 
 -- the number since of the monitor that a call hands back

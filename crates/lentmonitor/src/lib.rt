@@ -1,8 +1,8 @@
 // An event on a monitor that is lent: the new since is stored in it.
 use answer::Refusal;
-use monitor::Monitor;
 use monitor::Moved;
 use monitor::event;
+use monitorstate::Monitor;
 ghost use mathlib.Core.Path.{_≡_};
 ghost use Rattle.lentmonitor.specs.InPlace.{sinceOf, toldOf, EventInPlace};
 

@@ -15,11 +15,11 @@ use Rattle.buchi.proofs.WordMatrices.{letter-matrix}
 use Rattle.buchi.proofs.MatrixLists.{Among, ClosedList, step-matrix, FoundInOrder}
 use Rattle.matrices.specs.Bytes.{letterEntry}
 use Rattle.matrices.proofs.Letters.{stands-letter}
-use Rattle.matrixlist.specs.Lists.{matrixAt, ListPlace, StandsHere, MatricesAnswer}
-use Rattle.matrixlist.specs.Steps.{stepEntry, FoundMatrix, LettersListed, LettersAnswer, LettersAdded, ProductsListed, ProductsAnswer, ProductsAdded}
-use Rattle.matrixlist.specs.declared.MatrixCount.{MatrixCount}
-use Rattle.matrixlist.specs.declared.MatrixCount.the-variants.{Listed, TooMany}
-use Rattle.matrixlist.proofs.Growing.{among-same, kept-refl, kept-trans, here-kept, grown-trans, among-grown, letter-grown}
+use Rattle.matrixsearch.specs.Lists.{matrixAt, ListPlace, StandsHere, MatricesAnswer}
+use Rattle.matrixsearch.specs.Steps.{stepEntry, FoundMatrix, LettersListed, LettersAnswer, LettersAdded, ProductsListed, ProductsAnswer, ProductsAdded}
+use Rattle.matrixsearch.specs.declared.MatrixCount.{MatrixCount}
+use Rattle.matrixsearch.specs.declared.MatrixCount.the-variants.{Listed, TooMany}
+use Rattle.matrixsearch.proofs.Growing.{among-same, kept-refl, kept-trans, here-kept, grown-trans, among-grown, letter-grown}
 use Rattle.matrixlist.proofs.Letters.{rich-kept}
 use Rattle.matrixlist.proofs.Order.{among-more, among-within, product-grown, found-grown}
 

@@ -10,11 +10,11 @@ use Rattle.finite.proofs.FirstWords.{Sooner, sooner-parent, sooner-letter}
 use Rattle.buchi.proofs.Products.{same-sym, same-trans}
 use Rattle.buchi.proofs.MatrixLists.{Among}
 use Rattle.matrices.specs.Bytes.{LetterPlace, letterEntry, IsLetter}
-use Rattle.matrixlist.specs.Lists.{matrixAt, ListPlace, MatrixList, Kept, TooRich}
-use Rattle.matrixlist.specs.Steps.{AddedTo, Full, AddAnswer, Added, stepEntry, FoundMatrix, LettersListed, LettersAdded}
-use Rattle.matrixlist.specs.declared.MatrixCount.{MatrixCount}
-use Rattle.matrixlist.specs.declared.MatrixCount.the-variants.{Listed, TooMany}
-use Rattle.matrixlist.proofs.Growing.{among-same, kept-trans, here-kept, grown-refl, grown-trans, among-grown, letter-grown}
+use Rattle.matrixsearch.specs.Lists.{matrixAt, ListPlace, MatrixList, Kept, TooRich}
+use Rattle.matrixsearch.specs.Steps.{AddedTo, Full, AddAnswer, Added, stepEntry, FoundMatrix, LettersListed, LettersAdded}
+use Rattle.matrixsearch.specs.declared.MatrixCount.{MatrixCount}
+use Rattle.matrixsearch.specs.declared.MatrixCount.the-variants.{Listed, TooMany}
+use Rattle.matrixsearch.proofs.Growing.{among-same, kept-trans, here-kept, grown-refl, grown-trans, among-grown, letter-grown}
 use Rattle.matrixlist.proofs.Order.{among-more, among-within, found-grown}
 use Rattle.matrixlist.proofs.Words.{letter-word, words-added, too-rich}
 

@@ -12,11 +12,11 @@ use Rattle.buchi.proofs.MatrixLists.{Among}
 use Rattle.matrixproducts.specs.Arrays.{entryIn, MatrixShape, IsProduct}
 use Rattle.matrices.specs.Bytes.{letterEntry, IsLetter, MatrixPlace, Loaded}
 use Rattle.matrices.proofs.Storing.{loaded-same, loaded-shape}
-use Rattle.matrixlist.specs.Lists.{matrixAt, ListPlace, Kept}
-use Rattle.matrixlist.specs.Steps.{AddedTo, Full, IsWord, WordList, NewProduct, ProductsListed, ProductsAdded}
-use Rattle.matrixlist.specs.declared.MatrixCount.the-variants.{Listed, TooMany}
-use Rattle.matrixlist.proofs.Finding.{list-place}
-use Rattle.matrixlist.proofs.Growing.{among-same, kept-trans, grown-refl, grown-trans, among-grown}
+use Rattle.matrixsearch.specs.Lists.{matrixAt, ListPlace, Kept}
+use Rattle.matrixsearch.specs.Steps.{AddedTo, Full, IsWord, WordList, NewProduct, ProductsListed, ProductsAdded}
+use Rattle.matrixsearch.specs.declared.MatrixCount.the-variants.{Listed, TooMany}
+use Rattle.matrixsearch.proofs.Finding.{list-place}
+use Rattle.matrixsearch.proofs.Growing.{among-same, kept-trans, grown-refl, grown-trans, among-grown}
 use Rattle.matrixlist.proofs.Order.{among-more, among-within, product-grown, product-kept}
 use Rattle.matrixlist.proofs.Words.{word-same, word-letter, words-added, too-rich}
 use Rattle.matrixlist.proofs.Letters.{rich-kept}

@@ -7,9 +7,9 @@ use Rattle.buchi.specs.Matrices.{Matrix, SameEntries}
 use Rattle.buchi.proofs.Products.{product, product-same, same-trans, same-sym}
 use Rattle.buchi.proofs.MatrixLists.{Among}
 use Rattle.matrices.specs.Bytes.{letterEntry}
-use Rattle.matrixlist.specs.Lists.{matrixAt}
-use Rattle.matrixlist.specs.Steps.{Grown, stepEntry, FoundMatrix, NewProduct}
-use Rattle.matrixlist.proofs.Growing.{among-same, letter-grown}
+use Rattle.matrixsearch.specs.Lists.{matrixAt}
+use Rattle.matrixsearch.specs.Steps.{Grown, stepEntry, FoundMatrix, NewProduct}
+use Rattle.matrixsearch.proofs.Growing.{among-same, letter-grown}
 
 -- one of the first matrices is one of more
 pub among-more : {n i j : ℕ} {matrix : ℕ → Matrix} {M : Matrix} → i ≤ j → Among n i matrix M → Among n j matrix M

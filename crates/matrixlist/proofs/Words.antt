@@ -20,9 +20,9 @@ use Rattle.buchi.proofs.Products.{product, product-same, same-refl}
 use Rattle.buchi.proofs.WordMatrices.{letter-matrix, letter-is-matrix, matrix-same, matrix-append}
 use Rattle.matrixproducts.specs.Arrays.{entryIn}
 use Rattle.matrices.specs.Bytes.{IsLetter}
-use Rattle.matrixlist.specs.Lists.{matrixAt, StandsHere, Kept, TooRich}
-use Rattle.matrixlist.specs.Steps.{AddedTo, Full, IsWord, WordList}
-use Rattle.matrixlist.proofs.Growing.{other-sym, kept-sym, here-kept}
+use Rattle.matrixsearch.specs.Lists.{matrixAt, StandsHere, Kept, TooRich}
+use Rattle.matrixsearch.specs.Steps.{AddedTo, Full, IsWord, WordList}
+use Rattle.matrixsearch.proofs.Growing.{other-sym, kept-sym, here-kept}
 
 -- ---- one matrix
 

@@ -6,7 +6,7 @@ ghost use lib.ListN.{length};
 ghost use Rattle.markchecks.specs.Faults.{LinkedAnswer};
 ghost use Rattle.buchi.proofs.MatrixTests.{returns-at, returns-from, recurs-test};
 ghost use Rattle.matrices.specs.Bytes.{initialAt};
-ghost use Rattle.matrixlist.specs.Lists.{matrixAt};
+ghost use Rattle.matrixsearch.specs.Lists.{matrixAt};
 ghost use Rattle.matrixtable.specs.Laying.{RowFilled, RowsFilled, laidRule, initialStates, PairPlace, MarkPlace, MarkByte};
 
 // Whether the pair (s, e) is linked by the products that were laid out.

@@ -15,7 +15,7 @@ use Rattle.buchi.specs.Automata.{Automaton}
 use Rattle.buchi.specs.Matrices.{Matrix, SameEntries}
 use Rattle.buchi.specs.Rule.{Recurs}
 use Rattle.buchi.proofs.MatrixTests.{recurs-test, recurs-intro, recurs-elim}
-use Rattle.matrixlist.specs.Lists.{matrixAt}
+use Rattle.matrixsearch.specs.Lists.{matrixAt}
 use Rattle.matrixtable.specs.Laying.{KeptBelow, laidRule, initialStates, PairPlace, MarkPlace, MarkByte}
 use Rattle.matrixtable.proofs.Filling.{kept-sym, kept-less}
 use Rattle.matrixtable.proofs.Staying.{matrix-stays}

@@ -8,8 +8,8 @@ use Rattle.buchi.proofs.MatrixLists.{Among, number-of, number-below, number-sam
 use Rattle.matrixproducts.specs.Arrays.{entryIn, MatrixShape, IsProduct}
 use Rattle.matrices.specs.Bytes.{IsLetter, Loaded}
 use Rattle.matrices.proofs.Storing.{loaded-same, loaded-shape}
-use Rattle.matrixlist.specs.Lists.{matrixAt}
-use Rattle.matrixlist.proofs.Growing.{among-same}
+use Rattle.matrixsearch.specs.Lists.{matrixAt}
+use Rattle.matrixsearch.proofs.Growing.{among-same}
 use Rattle.matrixlist.proofs.Letters.{letter-place}
 use Rattle.matrixtable.specs.Laying.{ProductList, LetterListed, LetterList, ProductNumber, LetterNumber}
 

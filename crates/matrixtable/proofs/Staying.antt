@@ -11,8 +11,8 @@ use Rattle.buchi.proofs.MatrixLists.{Among}
 use Rattle.matrixproducts.specs.Arrays.{StateEntries}
 use Rattle.matrices.specs.Bytes.{matrixFrom, letterEntry}
 use Rattle.matrices.proofs.Letters.{letter-kept}
-use Rattle.matrixlist.specs.Lists.{matrixAt, MatrixList}
-use Rattle.matrixlist.proofs.Growing.{among-same, other-same}
+use Rattle.matrixsearch.specs.Lists.{matrixAt, MatrixList}
+use Rattle.matrixsearch.proofs.Growing.{among-same, other-same}
 use Rattle.matrixtable.specs.Laying.{KeptBelow, ProductList, LetterList, ProductNumber, LetterNumber}
 
 module _ {a b : List ℕ} (kept : KeptBelow 16384 a b) where

@@ -12,7 +12,7 @@ use Rattle.finite.proofs.Search.{anyBelow, any-zero, any-add-one, any-intro}
 use Rattle.buchi.specs.Matrices.{Matrix}
 use Rattle.buchi.proofs.MatrixTests.{returns-at, returns-from, recurs-test}
 use Rattle.matrices.specs.Bytes.{initialAt, matrixFrom}
-use Rattle.matrixlist.specs.Lists.{matrixAt}
+use Rattle.matrixsearch.specs.Lists.{matrixAt}
 use Rattle.matrixtable.specs.Laying.{initialStates}
 
 -- ---- a state's kind

@@ -13,7 +13,7 @@ use Rattle.buchi.specs.Rule.{Recurs}
 use Rattle.buchi.proofs.Products.{product}
 use Rattle.buchi.proofs.MatrixLists.{Among}
 use Rattle.matrices.specs.Bytes.{initialAt, finalAt, LetterPlace, letterEntry}
-use Rattle.matrixlist.specs.Lists.{matrixAt, ListPlace, MatrixList}
+use Rattle.matrixsearch.specs.Lists.{matrixAt, ListPlace, MatrixList}
 use Rattle.rulewriter.specs.File.{fileOf}
 
 -- ---- bytes that stay, and bytes that are filled

@@ -2,8 +2,8 @@
 // list in scratch as specs/Laying says.
 use matrices::letter_matrix;
 use matrices::load_matrix;
-use matrixlist::find_matrix;
 use matrixproducts::matrix_product;
+use matrixsearch::find_matrix;
 ghost use Prim.Native.Nat.{_+_, _*_, _<_};
 ghost use Rattle.matrixtable.specs.Laying.{ProductList, LetterListed, LetterList, ProductNumber, LetterNumber, RowFilled, RowsFilled};
 

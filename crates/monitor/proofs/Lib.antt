@@ -1,4 +1,2 @@
-pub mod Numbers
-pub mod Prepared
 pub mod Moves
 pub mod OneAnswer

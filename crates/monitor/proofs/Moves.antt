@@ -13,13 +13,15 @@ use Rattle.table.specs.Table.{Table, morphismAt, imageAt}
 use Rattle.format.specs.Format.{elementsOf, lettersOf, morphismOf}
 use Rattle.layout.specs.declared.Shape.{Shape}
 use Rattle.rulefile.proofs.Calls.{shape-morphism}
-use Rattle.monitor.specs.declared.Monitor.{Monitor}
-use Rattle.monitor.specs.declared.Ready.the-variants.{Rule, Refused as Not-ready}
+use Rattle.monitorstate.specs.declared.Monitor.{Monitor}
+use Rattle.monitorstate.specs.declared.Ready.the-variants.{Rule, Refused as Not-ready}
 use Rattle.monitor.specs.declared.Moved.the-variants.{To, Refused}
-use Rattle.monitor.specs.Monitor.{noValue, valueOf, numberFor, LoneForeignAt, afterEvent, afterMark}
-use Rattle.monitor.specs.Promises.{GoodNumber, joinAt, monitorChecks, ReadyPromise, EventPromise, MarkPromise}
-use Rattle.monitor.proofs.Numbers.{value-element}
-use Rattle.monitor.proofs.Prepared.{ready-table}
+use Rattle.monitor.specs.Moves.{LoneForeignAt, afterEvent, afterMark}
+use Rattle.monitorstate.specs.Monitor.{noValue, valueOf, numberFor}
+use Rattle.monitorstate.specs.Ready.{GoodNumber, joinAt, monitorChecks, ReadyPromise}
+use Rattle.monitor.specs.Promises.{EventPromise, MarkPromise}
+use Rattle.monitorstate.proofs.Numbers.{value-element}
+use Rattle.monitorstate.proofs.Prepared.{ready-table}
 
 module _ (bytes : List ℕ) (f : Monitor) (letter : ℕ) (entry exit : List ℕ) where
   abbrev letter-check : Check

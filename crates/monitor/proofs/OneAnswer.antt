@@ -6,13 +6,15 @@ use Rattle.answer.proofs.Order.{AllSingle, single-nil, single-cons, single-appe
 use Rattle.answer.proofs.Verdicts.{same-refusal, not-passed}
 use Rattle.format.specs.Format.{morphismOf}
 use Rattle.rulefile.proofs.OneVerdict.{checked-single}
-use Rattle.monitor.specs.declared.Monitor.{Monitor}
+use Rattle.monitorstate.specs.declared.Monitor.{Monitor}
 use Rattle.monitor.specs.declared.Moved.{Moved}
 use Rattle.monitor.specs.declared.Moved.the-variants.{To, Refused}
-use Rattle.monitor.specs.declared.Ready.{Ready}
-use Rattle.monitor.specs.declared.Ready.the-variants.{Rule, Refused as Not-ready}
-use Rattle.monitor.specs.Monitor.{StrayAt, LoneForeignAt, afterEvent, afterMark}
-use Rattle.monitor.specs.Promises.{monitorChecks, eventChecks, readyVerdict, ReadyShape, ReadyPromise, movedVerdict, HandsBack, EventPromise, MarkPromise}
+use Rattle.monitorstate.specs.declared.Ready.{Ready}
+use Rattle.monitorstate.specs.declared.Ready.the-variants.{Rule, Refused as Not-ready}
+use Rattle.monitor.specs.Moves.{LoneForeignAt, afterEvent, afterMark}
+use Rattle.monitorstate.specs.Monitor.{StrayAt}
+use Rattle.monitorstate.specs.Ready.{monitorChecks, readyVerdict, ReadyShape, ReadyPromise}
+use Rattle.monitor.specs.Promises.{eventChecks, movedVerdict, HandsBack, EventPromise, MarkPromise}
 
 -- stray values and a lone letter have one place each
 stray-place : {n : ℕ} {f : Monitor} (p q : ℕ) → StrayAt n f p → StrayAt n f q → p ≡ q

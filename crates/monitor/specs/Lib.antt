@@ -1,2 +1,2 @@
-pub mod Monitor
+pub mod Moves
 pub mod Promises

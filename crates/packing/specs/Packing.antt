@@ -14,15 +14,15 @@ use Rattle.inclusion.specs.declared.Inclusion.{Inclusion}
 use Rattle.inclusion.specs.declared.Inclusion.the-variants.{Included, NotIncluded, Refused as Not-compared}
 use Rattle.lasso.specs.declared.Membership.{Membership}
 use Rattle.lasso.specs.declared.Membership.the-variants.{Accepted, NotAccepted, Refused as Not-a-member}
-use Rattle.monitor.specs.declared.Monitor.{Monitor}
+use Rattle.monitorstate.specs.declared.Monitor.{Monitor}
 use Rattle.monitor.specs.declared.Moved.{Moved}
 use Rattle.monitor.specs.declared.Moved.the-variants.{To, Refused as Not-moved}
 use Rattle.reduction.specs.declared.Reduced.{Reduced}
 use Rattle.reduction.specs.declared.Reduced.the-variants.{Rule as Reduced-rule, Refused as Not-reduced}
 use Rattle.strength.specs.declared.Strength.{Strength}
 use Rattle.strength.specs.declared.Strength.the-variants.{Strong, Weak, Refused as Not-decided}
-use Rattle.verdict.specs.declared.Judged.{Judged}
-use Rattle.verdict.specs.declared.Judged.the-variants.{Accepted as Judged-accepted, NotAccepted as Judged-not-accepted, Refused as Not-judged}
+use Rattle.judging.specs.declared.Judged.{Judged}
+use Rattle.judging.specs.declared.Judged.the-variants.{Accepted as Judged-accepted, NotAccepted as Judged-not-accepted, Refused as Not-judged}
 
 -- a refusal: its number, its input, its place (no place that a call answers reaches 2 to the power 48)
 unfoldable pub packRefusal : ℕ → ℕ → ℕ → ℕ

@@ -26,7 +26,7 @@ use Rattle.search.specs.Search.{Stands}
 use Rattle.strength.specs.Deciding.{StrongIf, Decided}
 use Rattle.strength.proofs.Calling.{checked-lawful, checked-reached, checked-linked, checked-room, marks-stand, decided-file, decided-left}
 use Rattle.reduction.specs.declared.Reduced.the-variants.{Rule as Is-rule, Refused}
-use Rattle.reduction.specs.Steps.{ReducePlace, ReducedWritten}
+use Rattle.blockrule.specs.Steps.{ReducePlace, ReducedWritten}
 use Rattle.strength.specs.Weak.{weakCheck}
 use Rattle.reduction.specs.Promise.{ruleSize, reduceChecks, ruleOf, ReducedTo, scratchAfter, ReducePromise}
 use Rattle.reduction.proofs.Reducing.{reduces}

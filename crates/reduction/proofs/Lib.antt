@@ -1,4 +1,3 @@
-pub mod Laid
 pub mod Order
 pub mod Reducing
 pub mod Calling

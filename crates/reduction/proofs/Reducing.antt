@@ -28,10 +28,10 @@ use Rattle.rulewriter.proofs.Agree.{Agree}
 use Rattle.rulewriter.proofs.Same.{SameMarks, file-same}
 use Rattle.rulewriter.proofs.ReadBack.{written-rule}
 use Rattle.rulewriter.specs.ReadBack.{WrittenRule}
-use Rattle.reduction.specs.Written.{FileWritten}
-use Rattle.reduction.specs.Steps.{QuotientPlace, QuotientWritten, ReducePlace, ReducedWritten}
+use Rattle.blockrule.specs.Written.{FileWritten}
+use Rattle.blockrule.specs.Steps.{QuotientPlace, QuotientWritten, ReducePlace, ReducedWritten}
 use Rattle.reduction.proofs.Order.{quotient-by-first-words}
-use Rattle.reduction.proofs.Laid.{written-same}
+use Rattle.blockrule.proofs.Laid.{written-same}
 
 -- from the blocks of the last round to the file
 module _ {m : Morphism} {entry settled numbered out : List ℕ} {i c : ℕ} (small : m .size ≤ 64)

@@ -3,55 +3,18 @@
 // are accepted. All stands in one lent slice, as blocktable/specs/Layout
 // says.
 use answer::Refusal;
-use blockmarks::lay_marks;
-use blocktable::lay_images;
-use blocktable::lay_table;
+use blockrule::write_quotient;
 use numbering::number_blocks;
 use rounds::settle;
 use rulefile::Checked;
 use rulefile::check;
-use rulewriter::write_rule;
 use sections::zero;
 use strength::decide;
 ghost use Prim.Native.Nat.{_<_};
 ghost use lib.ListN.{length};
 ghost use Rattle.table.specs.Table.{Table, morphismAt};
-ghost use Rattle.reduction.specs.Steps.{LaidPlace, LaidWritten, QuotientPlace, QuotientWritten, ReducePlace, ReducedWritten};
+ghost use Rattle.blockrule.specs.Steps.{ReducePlace, ReducedWritten};
 ghost use Rattle.reduction.specs.Promise.{ReducePromise};
-
-// Writes the rule whose tables stand in scratch.
-fn write_laid(scratch: &[u8], c: usize, k: usize, out: &mut [u8]) -> usize
-    requires { ⌜ LaidPlace c k (now scratch) (now out) ⌝ }
-    ensures { λ r. ⌜ LaidWritten c k (now (scratch .entry)) (now (out .entry)) (now (out .exit)) r ⌝ }
-{
-    write_rule(
-        &scratch[16384..],
-        &scratch[20480..],
-        &scratch[24576..],
-        c,
-        k,
-        out,
-    )
-}
-
-// Writes the rule whose elements are the c blocks, and answers its length.
-fn write_quotient(
-    rule: &[u8],
-    n: usize,
-    k: usize,
-    c: usize,
-    scratch: &mut [u8],
-    out: &mut [u8],
-) -> usize
-    requires { ⌜ Table (now rule) n k ⌝ }
-    requires { ⌜ QuotientPlace n k c (now scratch) (now out) ⌝ }
-    ensures { λ r. ⌜ QuotientWritten (morphismAt (now (rule .entry)) n k) c (now (scratch .entry)) (now (scratch .exit)) (now (out .entry)) (now (out .exit)) r ⌝ }
-{
-    lay_table(rule, n, k, c, scratch);
-    lay_images(rule, n, k, scratch);
-    lay_marks(c, scratch);
-    write_laid(scratch, c, k, out)
-}
 
 // Writes the reduction of a strong rule, from the closure of its marks in scratch.
 fn write_reduced(rule: &[u8], n: usize, k: usize, scratch: &mut [u8], out: &mut [u8]) -> usize

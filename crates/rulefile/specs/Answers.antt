@@ -9,7 +9,7 @@ use Rattle.answer.specs.declared.Refusal.the-variants.{Unreachable}
 use Rattle.table.specs.TableChecks.{UnreachedAt}
 use Rattle.answer.specs.Checks.{Check, Verdict, passed, refused, FirstFailure}
 use Rattle.theory.specs.Rules.{Morphism}
-use Rattle.format.specs.Format.{elementsOf, lettersOf, marksOf, markingOf}
+use Rattle.format.specs.Format.{elementsOf, markingOf}
 use Rattle.format.specs.RuleChecks.{ruleChecks, bufferCheck, scratchSize}
 use Rattle.layout.specs.declared.Shape.{Shape}
 use Rattle.layout.specs.Answers.{IsShape}
@@ -17,8 +17,6 @@ use Rattle.markchecks.specs.declared.Fault.{Fault}
 use Rattle.markchecks.specs.declared.Fault.the-variants.{Nothing, Refused}
 use Rattle.rulefile.specs.declared.Checked.{Checked}
 use Rattle.rulefile.specs.declared.Checked.the-variants.{Rule, Refused as Checked-refused}
-use Rattle.rulefile.specs.declared.Inspected.{Inspected}
-use Rattle.rulefile.specs.declared.Inspected.the-variants.{Rule as Inspected-rule, Refused as Inspected-refused}
 use Rattle.markchecks.specs.Faults.{MarksLaid}
 
 -- the check of reached elements alone
@@ -61,25 +59,3 @@ checkedChecks input bytes scratch = bufferCheck scratchSize scratch ∷ ruleChec
 pub record CheckPromise (input : ℕ) (bytes entry exit : List ℕ) (answer : Checked) : Type 0 where
   pub verdict : FirstFailure (checkedChecks input bytes entry) (verdictOf answer)
   pub scratch : ScratchAfter bytes entry exit answer
-
--- document 01's number, input and place of an inspection: those of its verdict
-abbrev pub inspectedVerdict : Inspected → Verdict
-inspectedVerdict (Inspected-rule elements letters marks) = passed
-inspectedVerdict (Inspected-refused refusal input place) = refused refusal input place
-
--- the counts that a rule file states
-pub record RuleCounts (bytes : List ℕ) (elements letters marks : ℕ) : Type 0 where
-  pub elements-are : elements ≡ elementsOf bytes
-  pub letters-are : letters ≡ lettersOf bytes
-  pub marks-are : marks ≡ marksOf bytes
-
--- an inspection that finds a rule says its counts
-abbrev pub InspectedCounts : List ℕ → Inspected → Type 0
-InspectedCounts bytes (Inspected-rule elements letters marks) = RuleCounts bytes elements letters marks
-InspectedCounts bytes (Inspected-refused refusal input place) = Unit {0}
-
--- the promise of an inspection: which refusal and when; else the rule's counts; and scratch as every call leaves it
-pub record InspectPromise (bytes entry exit : List ℕ) (answer : Inspected) : Type 0 where
-  pub verdict : FirstFailure (checkedChecks 1 bytes entry) (inspectedVerdict answer)
-  pub values : InspectedCounts bytes answer
-  pub scratch : exit ≡ afterCall entry

@@ -22,7 +22,7 @@ ghost use Rattle.table.specs.Answers.{AllAssociate};
 ghost use Rattle.format.specs.RuleChecks.{tableChecks, powerChecks, contentChecks};
 ghost use Rattle.layout.specs.Answers.{LayoutPassed};
 ghost use Rattle.markchecks.specs.Faults.{FaultAnswer};
-ghost use Rattle.rulefile.specs.Answers.{reachChecks, Blank, ContentAnswer, CheckPromise, InspectPromise};
+ghost use Rattle.rulefile.specs.Answers.{reachChecks, Blank, ContentAnswer, CheckPromise};
 
 // Whether every element is some word's value.
 fn reach_fault(rule: &[u8], n: usize, k: usize) -> Fault
@@ -162,44 +162,5 @@ pub fn check(rule: &[u8], input: usize, scratch: &mut [u8]) -> Checked
                 place,
             }
         }
-    }
-}
-
-// A rule file's counts, or its refusal.
-pub enum Inspected {
-    Rule {
-        elements: usize,
-        letters: usize,
-        marks: usize,
-    },
-    Refused {
-        refusal: Refusal,
-        input: usize,
-        place: usize,
-    },
-}
-
-// Checks a rule file and says how large the rule is, or why it is none. Scratch ends as zeros, but where it is too short.
-pub fn inspect(rule: &[u8], scratch: &mut [u8]) -> Inspected
-    ensures { λ r. ⌜ InspectPromise (now (rule .entry)) (now (scratch .entry)) (now (scratch .exit)) r ⌝ }
-{
-    match check(rule, 1, scratch) {
-        Checked::Rule(shape) => {
-            zero(scratch);
-            Inspected::Rule {
-                elements: shape.elements,
-                letters: shape.letters,
-                marks: shape.marks,
-            }
-        }
-        Checked::Refused {
-            refusal,
-            input,
-            place,
-        } => Inspected::Refused {
-            refusal,
-            input,
-            place,
-        },
     }
 }

@@ -14,9 +14,10 @@ use Rattle.theory.specs.Acceptance.{Strong}
 use Rattle.theory.proofs.Included.{strong-dec}
 use Rattle.format.specs.Format.{morphismOf, pairsOf}
 use Rattle.format.specs.RuleChecks.{bufferCheck, scratchSize}
-use Rattle.rulefile.specs.declared.Inspected.{Inspected}
-use Rattle.rulefile.specs.declared.Inspected.the-variants.{Rule as Inspected-rule, Refused as Inspected-refused}
-use Rattle.rulefile.specs.Answers.{checkedChecks, afterCall, RuleCounts, InspectPromise}
+use Rattle.inspection.specs.declared.Inspected.{Inspected}
+use Rattle.inspection.specs.declared.Inspected.the-variants.{Rule as Inspected-rule, Refused as Inspected-refused}
+use Rattle.inspection.specs.Inspection.{RuleCounts, InspectPromise}
+use Rattle.rulefile.specs.Answers.{checkedChecks, afterCall}
 use Rattle.rulefile.specs.GoodRule.{GoodRule}
 use Rattle.rulefile.proofs.Promise.{zeros-after}
 use Rattle.rulefile.proofs.OneVerdict.{checked-single}

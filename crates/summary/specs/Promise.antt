@@ -10,7 +10,8 @@ use Rattle.theory.specs.Acceptance.{Strong}
 use Rattle.theory.specs.Smallest.{Reduction}
 use Rattle.format.specs.Format.{morphismOf, pairsOf}
 use Rattle.format.specs.RuleChecks.{bufferCheck}
-use Rattle.rulefile.specs.Answers.{checkedChecks, RuleCounts}
+use Rattle.inspection.specs.Inspection.{RuleCounts}
+use Rattle.rulefile.specs.Answers.{checkedChecks}
 use Rattle.classnumbers.specs.Classes.{ClassCounts}
 use Rattle.reduction.specs.Promise.{ruleSize, ruleOf, scratchAfter}
 use Rattle.summary.specs.declared.Summary.{Summary}

@@ -3,12 +3,12 @@
 use answer::Refusal;
 use classes::Listed;
 use classes::list_classes;
+use inspection::Inspected;
+use inspection::inspect;
 use reduction::Reduced;
 use reduction::reduce;
-use rulefile::Inspected;
-use rulefile::inspect;
 use sections::zero;
-ghost use Rattle.rulefile.specs.Answers.{RuleCounts};
+ghost use Rattle.inspection.specs.Inspection.{RuleCounts};
 ghost use Rattle.summary.specs.Promise.{SummaryPromise};
 ghost use Rattle.summary.specs.Steps.{CheckedPlace, SizeFound, Measured};
 

@@ -8,14 +8,15 @@ use Rattle.answer.specs.Checks.{passed, FirstFailure}
 use Rattle.answer.proofs.Order.{passed-last, passes-head}
 use Rattle.theory.specs.Acceptance.{Accepts}
 use Rattle.format.specs.Format.{morphismOf, pairsOf}
-use Rattle.monitor.specs.declared.Monitor.{Monitor}
-use Rattle.monitor.specs.Monitor.{noValue}
-use Rattle.monitor.specs.Promises.{monitorChecks}
+use Rattle.monitorstate.specs.declared.Monitor.{Monitor}
+use Rattle.monitorstate.specs.Monitor.{noValue}
+use Rattle.monitorstate.specs.Ready.{monitorChecks}
 use Rattle.histories.specs.Histories.{Action, sinceWord, beforeWord, Run}
-use Rattle.monitor.proofs.Numbers.{value-element}
+use Rattle.monitorstate.proofs.Numbers.{value-element}
 use Rattle.histories.proofs.Histories.{run-follows}
-use Rattle.verdict.specs.declared.Judged.the-variants.{Accepted, NotAccepted}
-use Rattle.verdict.specs.Promise.{verdictChecks, LassoWith, VerdictPromise}
+use Rattle.judging.specs.declared.Judged.the-variants.{Accepted, NotAccepted}
+use Rattle.judging.specs.Lassos.{LassoWith}
+use Rattle.verdict.specs.Promise.{verdictChecks, VerdictPromise}
 
 module _ {bytes : List ℕ} {f : Monitor} {history : List Action} (run : Run bytes f history) where
   -- neither value is none, and they are those of the history's words

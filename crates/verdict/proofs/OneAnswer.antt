@@ -6,11 +6,12 @@ use Rattle.answer.proofs.Order.{AllSingle, single-nil, single-cons, single-appe
 use Rattle.answer.proofs.Verdicts.{same-refusal, not-passed}
 use Rattle.theory.specs.Rules.{Morphism, Pairs}
 use Rattle.strength.specs.Weak.{WeakAt}
-use Rattle.monitor.specs.declared.Monitor.{Monitor}
+use Rattle.monitorstate.specs.declared.Monitor.{Monitor}
 use Rattle.monitor.proofs.OneAnswer.{monitor-single}
-use Rattle.verdict.specs.declared.Judged.{Judged}
-use Rattle.verdict.specs.declared.Judged.the-variants.{Accepted, NotAccepted, Refused}
-use Rattle.verdict.specs.Promise.{NoneAt, verdictChecks, judgedVerdict, LassoWith, LassosAccepted, LassosNotAccepted, VerdictAnswer, VerdictPromise}
+use Rattle.judging.specs.declared.Judged.{Judged}
+use Rattle.judging.specs.declared.Judged.the-variants.{Accepted, NotAccepted, Refused}
+use Rattle.judging.specs.Lassos.{LassoWith, LassosAccepted, LassosNotAccepted}
+use Rattle.verdict.specs.Promise.{NoneAt, verdictChecks, judgedVerdict, VerdictAnswer, VerdictPromise}
 
 -- a value that is none and a rule that is not strong have one place each
 none-place : {f : Monitor} (p q : ℕ) → NoneAt f p → NoneAt f q → p ≡ q

@@ -8,10 +8,10 @@ use Rattle.answer.specs.Checks.{Check, refused, FirstFailure}
 use Rattle.answer.proofs.Order.{first-passes, first-fails}
 use Rattle.markchecks.specs.declared.Fault.{Fault}
 use Rattle.markchecks.specs.declared.Fault.the-variants.{Nothing, Refused}
-use Rattle.monitor.specs.declared.Monitor.{Monitor}
-use Rattle.monitor.specs.Monitor.{noValue, IsStray, StrayAt}
-use Rattle.monitor.specs.Promises.{GoodNumber}
-use Rattle.monitor.proofs.Numbers.{good-not-stray, good-element}
+use Rattle.monitorstate.specs.declared.Monitor.{Monitor}
+use Rattle.monitorstate.specs.Monitor.{noValue, IsStray, StrayAt}
+use Rattle.monitorstate.specs.Ready.{GoodNumber}
+use Rattle.monitorstate.proofs.Numbers.{good-not-stray, good-element}
 use Rattle.verdict.specs.Promise.{noneCheck}
 use Rattle.verdict.specs.Judging.{valueChecks, BothElements, ValuesAnswer}
 

@@ -17,12 +17,13 @@ use Rattle.rulefile.specs.Answers.{CheckPromise, checkedChecks, afterCall}
 use Rattle.rulefile.proofs.Calls.{zeros-left, checked-length, shape-morphism}
 use Rattle.strength.specs.Weak.{weakCheck}
 use Rattle.strength.proofs.Calling.{checked-linked, marks-stand}
-use Rattle.monitor.specs.declared.Monitor.{Monitor}
-use Rattle.monitor.specs.Monitor.{IsStray}
-use Rattle.verdict.specs.declared.Judged.{Judged}
-use Rattle.verdict.specs.declared.Judged.the-variants.{Accepted, NotAccepted, Refused}
+use Rattle.monitorstate.specs.declared.Monitor.{Monitor}
+use Rattle.monitorstate.specs.Monitor.{IsStray}
+use Rattle.judging.specs.declared.Judged.{Judged}
+use Rattle.judging.specs.declared.Judged.the-variants.{Accepted, NotAccepted, Refused}
 use Rattle.verdict.specs.Promise.{verdictChecks, VerdictPromise}
-use Rattle.verdict.specs.Judging.{valueChecks, BothElements, JudgedBy, Judges}
+use Rattle.judging.specs.Judges.{JudgedBy, Judges}
+use Rattle.verdict.specs.Judging.{valueChecks, BothElements}
 
 module _ (bytes : List ℕ) (f : Monitor) (entry : List ℕ) where
   -- the rule is refused

@@ -5,17 +5,16 @@ use mathlib.Core.Logic.{_⊎_}
 use mathlib.Core.List.{List, [], _∷_, _++_}
 use Rattle.answer.specs.declared.Refusal.the-variants.{WordLength}
 use Rattle.answer.specs.Checks.{Check, Verdict, passed, refused, FirstFailure}
-use Rattle.theory.specs.Words.{Over}
-use Rattle.theory.specs.Rules.{Morphism, Pairs, element, value, WordOf}
-use Rattle.theory.specs.Acceptance.{Accepts}
+use Rattle.theory.specs.Rules.{value}
 use Rattle.format.specs.Format.{morphismOf, pairsOf}
 use Rattle.rulefile.specs.Answers.{afterCall}
-use Rattle.monitor.specs.declared.Monitor.{Monitor}
-use Rattle.monitor.specs.Monitor.{noValue}
-use Rattle.monitor.specs.Promises.{monitorChecks}
+use Rattle.monitorstate.specs.declared.Monitor.{Monitor}
+use Rattle.monitorstate.specs.Monitor.{noValue}
+use Rattle.monitorstate.specs.Ready.{monitorChecks}
 use Rattle.strength.specs.Weak.{weakCheck}
-use Rattle.verdict.specs.declared.Judged.{Judged}
-use Rattle.verdict.specs.declared.Judged.the-variants.{Accepted, NotAccepted, Refused}
+use Rattle.judging.specs.declared.Judged.{Judged}
+use Rattle.judging.specs.declared.Judged.the-variants.{Accepted, NotAccepted, Refused}
+use Rattle.judging.specs.Lassos.{LassosAccepted, LassosNotAccepted}
 
 -- 11 "a verdict is wanted with before or since none"; place 0
 pub record NoneAt (f : Monitor) (place : ℕ) : Type 0 where
@@ -34,25 +33,6 @@ abbrev pub judgedVerdict : Judged → Verdict
 judgedVerdict Accepted = passed
 judgedVerdict NotAccepted = passed
 judgedVerdict (Refused refusal input place) = refused refusal input place
-
--- a "lasso whose start has value before and whose cycle has value since": a word whose value is an element is not empty
-pub record LassoWith (m : Morphism) (before since : ℕ) (u v : List ℕ) : Type 0 where
-  pub start-over : Over (m .letters) u
-  pub cycle-over : Over (m .letters) v
-  pub start-value : value m u ≡ element before
-  pub cycle-value : value m v ≡ element since
-
--- there is such a lasso, and each is accepted
-pub record LassosAccepted (m : Morphism) (P : Pairs) (before since : ℕ) : Type 0 where
-  pub start : WordOf m before
-  pub cycle : WordOf m since
-  pub accepted : (u v : List ℕ) → LassoWith m before since u v → Accepts m P u v
-
--- there is such a lasso, and none is accepted
-pub record LassosNotAccepted (m : Morphism) (P : Pairs) (before since : ℕ) : Type 0 where
-  pub start : WordOf m before
-  pub cycle : WordOf m since
-  pub not-accepted : (u v : List ℕ) → LassoWith m before since u v → Accepts m P u v → ⊥
 
 -- "that of the lasso whose start has value before and whose cycle has value since"
 abbrev pub VerdictAnswer : List ℕ → Monitor → Judged → Type 0

@@ -42,14 +42,14 @@ use denote.Triple.Clauses.{ensured, lasts}
 use denote.Triple.Table.{entered, cited}
 use denote.Triple.Walked.{says, Stays, stay-ref, stay-none, stay-none-slice, gave-slice, walkOf, AllGo, goes-none, goes-ref, goes-none-slice, goes-gave-slice, Walks, ends-at, walked, walk-meets}
 use denote.Exit.{yes}
-use Rattle.monitor.specs.declared.Monitor.{Monitor}
+use Rattle.monitorstate.specs.declared.Monitor.{Monitor}
 use Rattle.monitor.specs.declared.Moved.{Moved}
 use Rattle.lentmonitor.specs.declared.Told.{Told}
 use Rattle.monitor.specs.Promises.{EventPromise}
 use Rattle.lentmonitor.specs.InPlace.{sinceOf, toldOf, EventInPlace}
 use Rattle.lentmonitor.proofs.InPlace.{withSince, event-stored}
-use Rattle.monitor.proofs.Monitor as T
-use Rattle.monitor.proofs.Monitor.Laws as T′
+use Rattle.monitorstate.proofs.Monitor as T
+use Rattle.monitorstate.proofs.Monitor.Laws as T′
 use Rattle.monitor.proofs.Moved as MovedT
 use Rattle.monitor.proofs.Moved.Laws as MovedT′
 use Rattle.lentmonitor.proofs.Told as ToldT

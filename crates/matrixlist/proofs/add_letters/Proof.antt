@@ -1,7 +1,7 @@
 -- The loop holds that the matrices of the letters so far are in the list. Assumes nothing.
 use Prim.Native.Nat.{_-_, _≤_}
 use borrow.Author.Needs.{needs}
-use Rattle.matrixlist.specs.Steps.{LettersListed}
+use Rattle.matrixsearch.specs.Steps.{LettersListed}
 use Rattle.matrixlist.proofs.Letters.{added-listed, added-full, letter-place, letters-start, letters-next, letters-full, letters-all}
 use Rattle.matrixlist.proofs.add_letters.Statement.{statement}
 use Rattle.matrixlist.proofs.add_letters.Tie as tie

@@ -1,7 +1,7 @@
 -- The loop holds that the products with the matrices of the letters so far are in the list. Assumes nothing.
 use Prim.Native.Nat.{_-_, _≤_}
 use borrow.Author.Needs.{needs}
-use Rattle.matrixlist.specs.Steps.{ProductsListed}
+use Rattle.matrixsearch.specs.Steps.{ProductsListed}
 use Rattle.matrixlist.proofs.Letters.{added-listed, added-full, letter-place}
 use Rattle.matrixlist.proofs.Multiplying.{from-place, products-start, left-shape, products-next, products-full, products-all}
 use Rattle.matrixlist.proofs.add_products.Statement.{statement}

@@ -2,7 +2,7 @@
 use Prim.Native.Nat.{_-_}
 use native.Mathlib.Omega.{arith}
 use borrow.Author.Needs.{needs}
-use Rattle.matrixlist.proofs.Growing.{place-kept}
+use Rattle.matrixsearch.proofs.Growing.{place-kept}
 use Rattle.matrixlist.proofs.Closing.{Closing, closing-start, closing-few, closing-next, closing-full, closing-done}
 use Rattle.matrixlist.proofs.close_list.Statement.{statement}
 use Rattle.matrixlist.proofs.close_list.Tie as tie

@@ -1,6 +1,6 @@
 -- The letters' matrices begin the list, and their products close it. Assumes nothing.
 use borrow.Author.Needs.{needs}
-use Rattle.matrixlist.proofs.Growing.{place-kept}
+use Rattle.matrixsearch.proofs.Growing.{place-kept}
 use Rattle.matrixlist.proofs.Closing.{begun-list, begun-full, begun-done}
 use Rattle.matrixlist.proofs.list_matrices.Statement.{statement}
 use Rattle.matrixlist.proofs.list_matrices.Tie as tie

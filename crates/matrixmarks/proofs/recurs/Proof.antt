@@ -2,7 +2,7 @@
 use Prim.Native.Nat.{_-_}
 use borrow.Author.Needs.{needs}
 use Rattle.buchi.proofs.MatrixTests.{returns-from}
-use Rattle.matrixlist.specs.Lists.{matrixAt}
+use Rattle.matrixsearch.specs.Lists.{matrixAt}
 use Rattle.matrixtable.specs.Laying.{initialStates}
 use Rattle.matrixtable.proofs.Tests.{NoneBelow, none-start, none-more, one-found, none-all, recurs-is}
 use Rattle.matrixmarks.proofs.recurs.Statement.{statement}

@@ -2,7 +2,7 @@
 use Prim.Native.Nat.{_-_}
 use borrow.Author.Needs.{needs}
 use Rattle.buchi.proofs.MatrixTests.{returns-at}
-use Rattle.matrixlist.specs.Lists.{matrixAt}
+use Rattle.matrixsearch.specs.Lists.{matrixAt}
 use Rattle.matrixtable.proofs.Tests.{NoneBelow, none-start, none-more, one-found, none-all, from-not-initial, from-initial}
 use Rattle.matrixmarks.proofs.returns_from.Statement.{statement}
 use Rattle.matrixmarks.proofs.returns_from.Tie as tie

@@ -1,7 +1,7 @@
 -- `monitor::event` meets its contract: a foreign letter is refused, and any other multiplies since. Assumes nothing.
 use native.Mathlib.Omega.{arith}
 use Rattle.table.proofs.Facts.{image-place}
-use Rattle.monitor.proofs.Prepared.{ready-said, not-ready, ready-table, ready-since}
+use Rattle.monitorstate.proofs.Prepared.{ready-said, not-ready, ready-table, ready-since}
 use Rattle.monitor.proofs.Moves.{event-refused, event-foreign, event-moved, image-good}
 use borrow.Author.Needs.{needs}
 use Rattle.monitor.proofs.event.Statement.{statement}

@@ -1,5 +1,5 @@
 -- `monitor::mark` meets its contract: before is multiplied by since, and since is none again. Assumes nothing.
-use Rattle.monitor.proofs.Prepared.{ready-said, not-ready, ready-table, ready-before, ready-since}
+use Rattle.monitorstate.proofs.Prepared.{ready-said, not-ready, ready-table, ready-before, ready-since}
 use Rattle.monitor.proofs.Moves.{mark-refused, mark-moved}
 use borrow.Author.Needs.{needs}
 use Rattle.monitor.proofs.mark.Statement.{statement}

@@ -1,0 +1,2 @@
+pub mod Lassos
+pub mod Judges
