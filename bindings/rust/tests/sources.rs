@@ -80,3 +80,16 @@ fn no_public_call_asks_anything_of_its_caller() {
     }
     assert!(calls >= 16, "only {calls} calls were found");
 }
+
+#[test]
+fn only_programs_use_the_text_of_the_examples() {
+    let mut users = 0;
+    for name in crates() {
+        if source(&name, "main.rt").is_some_and(|text| names(&text, "exampletext")) {
+            users += 1;
+        }
+        let library = source(&name, "lib.rt").unwrap_or_default();
+        assert!(!names(&library, "exampletext"), "{name} uses exampletext");
+    }
+    assert!(users >= 4, "only {users} programs use it");
+}
