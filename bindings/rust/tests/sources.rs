@@ -83,13 +83,19 @@ fn no_public_call_asks_anything_of_its_caller() {
 
 #[test]
 fn only_programs_use_the_text_of_the_examples() {
+    let readers = ["exampleparts", "examplelists", "exampletext"];
     let mut users = 0;
     for name in crates() {
         if source(&name, "main.rt").is_some_and(|text| names(&text, "exampletext")) {
             users += 1;
         }
+        if readers.contains(&name.as_str()) {
+            continue;
+        }
         let library = source(&name, "lib.rt").unwrap_or_default();
-        assert!(!names(&library, "exampletext"), "{name} uses exampletext");
+        for reader in readers {
+            assert!(!names(&library, reader), "{name} uses {reader}");
+        }
     }
     assert!(users >= 4, "only {users} programs use it");
 }

@@ -96,6 +96,10 @@ passes-tail {c} {checks} f = passed-last (c ∷ []) checks f
 pub record Single (c : Check) : Type 0 where
   pub one-place : (p q : ℕ) → c .Fails p → c .Fails q → p ≡ q
 
+-- it does where each place that it fails at is a known one
+pub single-at : {c : Check} {at : ℕ} → ((place : ℕ) → c .Fails place → place ≡ at) → Single c
+single-at f = record { one-place = λ p q a b. f p a ∙ sym (f q b) }
+
 -- each check of the list does
 pub data AllSingle : List Check → Type 1 where
   single-nil : AllSingle []

@@ -1,23 +1,20 @@
 -- What each way through the call for the rule of an automaton promises. Assumes nothing.
 use Prim.Native.Nat.{ℕ, _≤_, _<_}
-use mathlib.Core.Path.{_≡_, refl, sym, _∙_, subst}
-use mathlib.Core.List.{List, [], _∷_, _++_}
+use mathlib.Core.Path.{_≡_, refl, sym, subst}
+use mathlib.Core.List.{List}
 use native.Mathlib.Omega.{arith}
 use lib.ListN.{length}
-use borrow.Author.Tests.{lt-ltb, le-ltb}
 use Rattle.answer.specs.declared.Refusal.{Refusal}
 use Rattle.answer.specs.declared.Refusal.the-variants.{BufferTooShort}
-use Rattle.answer.specs.Checks.{Verdict, FirstFailure}
-use Rattle.answer.proofs.Order.{first-passes, first-fails, refused-before, passed-before}
-use Rattle.format.specs.RuleChecks.{bufferCheck}
-use Rattle.rulefile.specs.Answers.{afterCall}
+use Rattle.answer.proofs.Order.{refused-before, passed-before}
+use Rattle.format.specs.RuleChecks.{ruleSize}
+use Rattle.format.proofs.Buffers.{buffer-short, buffer-long}
+use Rattle.rulefile.proofs.Left.{short-left, long-left}
 use Rattle.automatonformat.specs.Format.{statesOf, lettersOf, hasTransition}
-use Rattle.automatonformat.specs.AutomatonChecks.{readChecks}
 use Rattle.automatonfile.specs.Answers.{TransitionsLaid, ReadPromise}
 use Rattle.automatonfile.specs.declared.AutomatonRead.the-variants.{Automaton, Refused as Read-refused}
 use Rattle.automatonfile.proofs.Calls.{scratch-long, called-good, zeros-left}
-use Rattle.automaton.specs.Meaning.{richCheck}
-use Rattle.automaton.specs.Promise.{ruleSize, ReadHere, MadePromise, translateChecks, scratchLeft, RulePromise}
+use Rattle.automaton.specs.Promise.{ReadHere, MadePromise, RulePromise}
 use Rattle.automaton.specs.declared.Translated.{Translated}
 use Rattle.automaton.specs.declared.Translated.the-variants.{Refused}
 
@@ -25,22 +22,16 @@ module _ (bytes out entry : List ℕ) where
   -- a short buffer is refused, and both are left as they came
   pub out-short : length out < ruleSize → RulePromise bytes out out entry entry (Refused BufferTooShort 1 0)
   out-short h = record {
-    verdict = first-fails (bufferCheck ruleSize out) (record { short = h; is-place = refl });
+    verdict = buffer-short h;
     answered = refl;
-    scratch = sym (simp (lt-ltb (length out) ruleSize h));
+    scratch = short-left ruleSize out entry h;
   }
 
   module _ (long : ruleSize ≤ length out) where
-    after-buffer : {v : Verdict} → FirstFailure (readChecks 1 bytes entry ++ (richCheck bytes ∷ [])) v → FirstFailure (translateChecks bytes out entry) v
-    after-buffer f = first-passes (record { nowhere = λ place s. omega (arith, s .short) }) f
-
-    left : {exit : List ℕ} → exit ≡ afterCall entry → exit ≡ scratchLeft out entry
-    left e = e ∙ sym (simp (le-ltb (length out) ruleSize long))
-
     -- the automaton is refused
     pub read-refused : {exit : List ℕ} {r : Refusal} {i place : ℕ} → ReadPromise 1 bytes entry exit (Read-refused r i place)
         → RulePromise bytes out out entry exit (Refused r i place)
-    read-refused p = record { verdict = after-buffer (refused-before _ _ (p .verdict)); answered = refl; scratch = left (p .scratch) }
+    read-refused p = record { verdict = buffer-long long (refused-before _ _ (p .verdict)); answered = refl; scratch = long-left ruleSize out entry long (p .scratch) }
 
     -- the automaton was read
     module _ {n k t : ℕ} {mid : List ℕ} (p : ReadPromise 1 bytes entry mid (Automaton n k t)) where
@@ -60,7 +51,7 @@ module _ (bytes out entry : List ℕ) where
       pub rule-promised : {out-exit exit : List ℕ} {answer : Translated} → MadePromise bytes out out-exit mid exit answer
           → RulePromise bytes out out-exit entry exit answer
       rule-promised {exit = exit} m = record {
-        verdict = after-buffer (passed-before _ _ (p .verdict) (m .verdict));
+        verdict = buffer-long long (passed-before _ _ (p .verdict) (m .verdict));
         answered = m .answered;
-        scratch = left (zeros-left 1 bytes entry (p .verdict) mid exit mid-length (m .scratch));
+        scratch = long-left ruleSize out entry long (zeros-left 1 bytes entry (p .verdict) mid exit mid-length (m .scratch));
       }

@@ -6,35 +6,29 @@ use mathlib.Core.Path.{_≡_, sym, ap, _∙_, subst}
 use mathlib.Core.Logic.{_↔_}
 use mathlib.Core.List.{List}
 use Rattle.finite.proofs.Pigeonhole.{injection-le}
-use Rattle.answer.proofs.Order.{AllSingle, single-nil, single-cons, single-append, one-verdict}
+use Rattle.answer.proofs.Order.{AllSingle, single-nil, single-at, single-cons, single-append, one-verdict}
 use Rattle.answer.proofs.Verdicts.{same-refusal, not-passed}
 use Rattle.theory.specs.Words.{Lasso}
 use Rattle.theory.specs.Rules.{marked, Rule as Any-rule}
 use Rattle.theory.specs.Acceptance.{Accepts}
 use Rattle.theory.specs.Smallest.{Renumbered}
 use Rattle.buchi.proofs.Numberings.{matrices-renumbered}
-use Rattle.format.specs.RuleChecks.{ShortAt}
+use Rattle.format.proofs.Buffers.{buffer-single}
 use Rattle.automatonfile.proofs.OneVerdict.{read-single}
 use Rattle.rulewriter.specs.File.{fileOf}
 use Rattle.rulewriter.proofs.Same.{one-length, one-buffer}
 use Rattle.firstwords.proofs.OneFile.{one-file}
-use Rattle.automaton.specs.Meaning.{RichAt}
 use Rattle.automaton.specs.Promise.{RuleOf, RuleAnswer, ruleVerdict, translateChecks, RulePromise}
 use Rattle.automaton.specs.declared.Translated.{Translated}
 use Rattle.automaton.specs.declared.Translated.the-variants.{Rule, Refused}
-
-short-place : {needed : ℕ} {buffer : List ℕ} (p q : ℕ) → ShortAt needed buffer p → ShortAt needed buffer q → p ≡ q
-short-place p q a b = a .is-place ∙ sym (b .is-place)
-
-rich-place : {bytes : List ℕ} (p q : ℕ) → RichAt bytes p → RichAt bytes q → p ≡ q
-rich-place p q a b = a .is-place ∙ sym (b .is-place)
+use Rattle.automaton.specs.Meaning.{RichAt}
 
 module _ (bytes out entry : List ℕ) where
   -- each check fails at one place at most
   all-single : AllSingle (translateChecks bytes out entry)
   all-single =
-      single-cons (record { one-place = short-place })
-      (single-append (read-single 1 bytes entry) (single-cons (record { one-place = rich-place }) single-nil))
+      buffer-single
+      (single-append (read-single 1 bytes entry) (single-cons (single-at (λ place (a : RichAt _ place). a .is-place)) single-nil))
 
   pub rule-one-verdict : {out-exit out-exit′ exit exit′ : List ℕ} {answer answer′ : Translated} → RulePromise bytes out out-exit entry exit answer
       → RulePromise bytes out out-exit′ entry exit′ answer′ → ruleVerdict answer ≡ ruleVerdict answer′

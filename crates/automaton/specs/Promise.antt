@@ -1,17 +1,15 @@
 -- What the call for the rule of an automaton promises. Assumes nothing.
 use Prim.Native.Nat.{ℕ, _≤_}
 use mathlib.Core.Path.{_≡_}
-use mathlib.Core.Bool.{cond}
 use mathlib.Core.List.{List, [], _∷_, _++_}
 use lib.ListN.{length, replicate}
-use lib.Dec.{ltb}
 use Rattle.answer.specs.Checks.{Check, Verdict, passed, refused, FirstFailure}
 use Rattle.theory.specs.Rules.{Morphism, Lawful, Marking, marked}
 use Rattle.theory.specs.Acceptance.{Strong}
 use Rattle.theory.specs.Smallest.{MarksAccepted}
 use Rattle.firstwords.specs.FirstWords.{ByFirstWords}
-use Rattle.format.specs.RuleChecks.{bufferCheck}
-use Rattle.rulefile.specs.Answers.{afterCall}
+use Rattle.format.specs.RuleChecks.{ruleSize, bufferCheck}
+use Rattle.rulefile.specs.Answers.{scratchLeft}
 use Rattle.automatonformat.specs.Format.{statesOf, lettersOf, hasTransition}
 use Rattle.automatonformat.specs.AutomatonChecks.{readChecks}
 use Rattle.automatonformat.specs.GoodAutomaton.{GoodSections}
@@ -22,10 +20,6 @@ use Rattle.rulewriter.specs.ReadBack.{WrittenRule}
 use Rattle.automaton.specs.Meaning.{automatonOf, richCheck}
 use Rattle.automaton.specs.declared.Translated.{Translated}
 use Rattle.automaton.specs.declared.Translated.the-variants.{Rule, Refused}
-
--- "Buffers: rule out 12,308 bytes"
-abbrev pub ruleSize : ℕ
-ruleSize = 12308
 
 -- an automaton of n states and k letters was read, its transitions stand in scratch, and both buffers are long enough
 pub record ReadHere (bytes : List ℕ) (n k : ℕ) (out scratch : List ℕ) : Type 0 where
@@ -72,11 +66,8 @@ pub record MadePromise (bytes out-entry out-exit entry exit : List ℕ) (answer 
 abbrev pub translateChecks : List ℕ → List ℕ → List ℕ → List Check
 translateChecks bytes out scratch = bufferCheck ruleSize out ∷ (readChecks 1 bytes scratch ++ (richCheck bytes ∷ []))
 
--- scratch as it came where a buffer is short, and else zeros
-abbrev pub scratchLeft : List ℕ → List ℕ → List ℕ
-scratchLeft out scratch = cond (ltb (length out) ruleSize) scratch (afterCall scratch)
-
+-- scratch as every call leaves it
 pub record RulePromise (bytes out-entry out-exit entry exit : List ℕ) (answer : Translated) : Type 0 where
   pub verdict : FirstFailure (translateChecks bytes out-entry entry) (ruleVerdict answer)
   pub answered : RuleAnswer bytes out-entry out-exit answer
-  pub scratch : exit ≡ scratchLeft out-entry entry
+  pub scratch : exit ≡ scratchLeft ruleSize out-entry entry

@@ -8,31 +8,22 @@ use native.Mathlib.Omega.{arith}
 use native.Mathlib.Decide.{decLt}
 use lib.ListN.{getD}
 use lib.Seq.{ext-getD}
-use Rattle.answer.proofs.Order.{AllSingle, single-nil, single-cons, single-append, one-verdict}
+use Rattle.answer.proofs.Order.{AllSingle, single-nil, single-at, single-cons, single-append, one-verdict}
 use Rattle.sections.proofs.Laws.{section-single}
-use Rattle.format.specs.RuleChecks.{TrailingAt, ShortAt}
+use Rattle.format.proofs.Buffers.{buffer-single}
 use Rattle.automatonformat.specs.Format.{transitionsAt, transitionsOf}
 use Rattle.automatonformat.specs.AutomatonChecks.{RepeatedAt, repeatedChecks, layoutChecks, automatonChecks, readChecks}
 use Rattle.automatonfile.specs.declared.AutomatonRead.{AutomatonRead}
 use Rattle.automatonfile.specs.Answers.{tripleIndex, TransitionsLaid, verdictOf, ReadPromise}
 use Rattle.automatonfile.proofs.Laid.{index-apart}
-
--- bytes that follow, a repeated transition and a short buffer have one place each
-trailing-place : {end : ℕ} {bytes : List ℕ} (p q : ℕ) → TrailingAt end bytes p → TrailingAt end bytes q → p ≡ q
-trailing-place p q a b = a .is-place ∙ sym (b .is-place)
-
-repeated-place : {bytes : List ℕ} {i : ℕ} (p q : ℕ) → RepeatedAt bytes i p → RepeatedAt bytes i q → p ≡ q
-repeated-place p q a b = a .is-place ∙ sym (b .is-place)
-
-short-place : {needed : ℕ} {buffer : List ℕ} (p q : ℕ) → ShortAt needed buffer p → ShortAt needed buffer q → p ≡ q
-short-place p q a b = a .is-place ∙ sym (b .is-place)
+use Rattle.format.specs.RuleChecks.{TrailingAt}
 
 module _ (input : ℕ) (bytes : List ℕ) where
   -- 8
   repeated-single : (i count : ℕ) → AllSingle (repeatedChecks input bytes i count)
   unfolding repeatedChecks
   repeated-single i zero = single-nil
-  repeated-single i (suc count) = single-cons (record { one-place = repeated-place }) (repeated-single (suc i) count)
+  repeated-single i (suc count) = single-cons (single-at (λ place (a : RepeatedAt _ _ place). a .is-place)) (repeated-single (suc i) count)
 
   -- 1 to 3
   layout-single : AllSingle (layoutChecks input bytes)
@@ -42,11 +33,11 @@ module _ (input : ℕ) (bytes : List ℕ) where
   -- every check of an automaton file fails at one place at most
   pub automaton-single : AllSingle (automatonChecks input bytes)
   unfolding automatonChecks
-  automaton-single = single-append layout-single (single-cons (record { one-place = trailing-place }) (repeated-single 0 (transitionsOf bytes)))
+  automaton-single = single-append layout-single (single-cons (single-at (λ place (a : TrailingAt _ _ place). a .is-place)) (repeated-single 0 (transitionsOf bytes)))
 
   -- also with that of the scratch before them
   pub read-single : (scratch : List ℕ) → AllSingle (readChecks input bytes scratch)
-  read-single scratch = single-cons (record { one-place = short-place }) automaton-single
+  read-single scratch = buffer-single automaton-single
 
   -- so two answers for the same bytes have the same number, input and place, or are both an automaton
   pub read-one-verdict : {entry exit exit′ : List ℕ} {answer answer′ : AutomatonRead} → ReadPromise input bytes entry exit answer

@@ -1,21 +1,21 @@
 -- What each way through the reading promises. Assumes nothing.
 use Prim.Native.Nat.{ℕ, _≤_, _<_}
-use mathlib.Core.Path.{_≡_, refl, sym, ap, _∙_, subst}
+use mathlib.Core.Path.{_≡_, sym, ap, _∙_, subst}
 use mathlib.Core.List.{List}
-use native.Mathlib.Omega.{arith}
 use borrow.Author.Tests.{lt-ltb}
 use lib.ListN.{length, replicate, length-replicate}
 use Rattle.answer.specs.declared.Refusal.{Refusal}
 use Rattle.answer.specs.declared.Refusal.the-variants.{BufferTooShort}
-use Rattle.answer.specs.Checks.{Verdict, passed, refused, FirstFailure}
-use Rattle.answer.proofs.Order.{first-passes, first-fails, refused-before, passed-before}
-use Rattle.format.specs.RuleChecks.{bufferCheck, scratchSize}
+use Rattle.answer.specs.Checks.{passed, refused, FirstFailure}
+use Rattle.answer.proofs.Order.{refused-before, passed-before}
+use Rattle.format.proofs.Buffers.{buffer-short, buffer-long}
+use Rattle.format.specs.RuleChecks.{scratchSize}
 use Rattle.markchecks.specs.declared.Fault.{Fault}
 use Rattle.markchecks.specs.declared.Fault.the-variants.{Nothing, Refused as Fault-refused}
 use Rattle.rulefile.specs.Answers.{afterCall}
 use Rattle.rulefile.proofs.Promise.{zeros-after}
 use Rattle.automatonformat.specs.Format.{statesOf, lettersOf, hasTransition}
-use Rattle.automatonformat.specs.AutomatonChecks.{layoutChecks, contentChecks, automatonChecks, readChecks}
+use Rattle.automatonformat.specs.AutomatonChecks.{layoutChecks, contentChecks, automatonChecks}
 use Rattle.automatonsections.specs.declared.Counts.{Counts}
 use Rattle.automatonsections.specs.declared.Layout.{Layout}
 use Rattle.automatonsections.specs.declared.Layout.the-variants.{Read, Refused as Layout-refused}
@@ -27,7 +27,7 @@ use Rattle.automatonfile.specs.Answers.{LaidAnswer, TransitionsLaid, Rea
 pub short-scratch : (input : ℕ) (bytes scratch : List ℕ) → length scratch < scratchSize → ReadPromise input bytes scratch scratch (Refused BufferTooShort 1 0)
 unfolding afterCall
 short-scratch input bytes scratch h = record {
-  verdict = first-fails (bufferCheck scratchSize scratch) (record { short = h; is-place = refl });
+  verdict = buffer-short h;
   scratch = sym (simp (lt-ltb (length scratch) scratchSize h));
 }
 
@@ -39,21 +39,18 @@ module _ (bytes : List ℕ) (answer : Layout) (known : LayoutAnswer bytes answer
   layout-refused e = subst (LayoutAnswer bytes) e known
 
 module _ (input : ℕ) (bytes entry : List ℕ) (h : scratchSize ≤ length entry) where
-  after-buffer : {v : Verdict} → FirstFailure (automatonChecks input bytes) v → FirstFailure (readChecks input bytes entry) v
-  after-buffer f = first-passes (record { nowhere = λ place s. omega (arith, s .short) }) f
-
   -- a section refuses
   pub layout-promise : {exit : List ℕ} {r : Refusal} {place : ℕ} → exit ≡ replicate (length entry) 0
       → ((input : ℕ) → FirstFailure (layoutChecks input bytes) (refused r input place)) → ReadPromise input bytes entry exit (Refused r input place)
   unfolding automatonChecks
-  layout-promise z f = record { verdict = after-buffer (refused-before _ _ (f input)); scratch = z ∙ zeros-after entry h }
+  layout-promise z f = record { verdict = buffer-long h (refused-before _ _ (f input)); scratch = z ∙ zeros-after entry h }
 
   module _ {counts : Counts} (p : LayoutPassed bytes counts) where
     -- what follows the sections refuses
     pub content-promise : {exit : List ℕ} {r : Refusal} {place : ℕ} → exit ≡ replicate (length entry) 0
         → ((input : ℕ) → FirstFailure (contentChecks input bytes) (refused r input place)) → ReadPromise input bytes entry exit (Refused r input place)
     unfolding automatonChecks
-    content-promise z f = record { verdict = after-buffer (passed-before _ _ (p .verdict input) (f input)); scratch = z ∙ zeros-after entry h }
+    content-promise z f = record { verdict = buffer-long h (passed-before _ _ (p .verdict input) (f input)); scratch = z ∙ zeros-after entry h }
 
     -- every check passes
     pub automaton-promise : {zeros exit : List ℕ} → zeros ≡ replicate (length entry) 0 → ((input : ℕ) → FirstFailure (contentChecks input bytes) passed)
@@ -61,7 +58,7 @@ module _ (input : ℕ) (bytes entry : List ℕ) (h : scratchSize ≤ length entr
         → ReadPromise input bytes entry exit (Automaton (counts .states) (counts .letters) (counts .transitions))
     unfolding automatonChecks
     automaton-promise {zeros} {exit} z f l = record {
-      verdict = after-buffer (passed-before _ _ (p .verdict input) (f input));
+      verdict = buffer-long h (passed-before _ _ (p .verdict input) (f input));
       scratch = record {
         counts-are = p .counts-are;
         laid =

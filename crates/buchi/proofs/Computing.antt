@@ -1,7 +1,8 @@
 -- One name that opens every test of this crate, so that a test of a given automaton or table can be computed: a proof names it
 -- on its `unfolding` line. Assumes nothing.
 use mathlib.Core.Bool.{Bool, true}
-use Rattle.finite.proofs.Search.{anyBelow, allBelow, leastBelow, leastFrom}
+use Rattle.finite.specs.Search.{anyBelow}
+use Rattle.finite.proofs.Search.{allBelow, leastBelow, leastFrom}
 use Rattle.theory.proofs.Words.{repeat}
 use Rattle.theory.proofs.Closure.{linked-test}
 use Rattle.theory.proofs.TableTests.{all-pairs}

@@ -9,7 +9,8 @@ use lib.ListN.{length, length-append}
 use lib.Dec.{T, eqb}
 use mir.Facts.{eqb-yes, yes-eqb}
 use Rattle.finite.proofs.Tests.{T-and, T-and-left, T-and-right, T-not, not-T}
-use Rattle.finite.proofs.Search.{anyBelow, any-intro, any-elim, allBelow, all-intro, all-elim, all-or-not}
+use Rattle.finite.specs.Search.{anyBelow}
+use Rattle.finite.proofs.Search.{any-intro, any-elim, allBelow, all-intro, all-elim, all-or-not}
 use Rattle.theory.proofs.Words.{repeat, repeat-some}
 use Rattle.buchi.specs.Automata.{Automaton, AcceptedBy}
 use Rattle.buchi.specs.Matrices.{Matrix, SameEntries, OtherEntry}

@@ -1,35 +1,32 @@
 -- What a listing of the classes promises, from what the check of the rule, the classes written and their counts promise.
 -- Assumes nothing.
 use Prim.Native.Nat.{ℕ, _*_, _-_, _≤_, _<_}
-use mathlib.Core.Path.{_≡_, refl, sym, _∙_, subst}
+use mathlib.Core.Path.{_≡_, refl, sym, subst}
 use mathlib.Core.List.{List}
-use native.Mathlib.Omega.{arith}
-use borrow.Author.Tests.{lt-ltb, le-ltb}
 use lib.ListN.{length, replicate}
 use Rattle.answer.specs.declared.Refusal.{Refusal}
 use Rattle.answer.specs.declared.Refusal.the-variants.{BufferTooShort}
-use Rattle.answer.specs.Checks.{Verdict, FirstFailure}
-use Rattle.answer.proofs.Order.{first-passes, first-fails}
 use Rattle.theory.specs.Rules.{Morphism, Lawful}
 use Rattle.table.specs.Table.{Table, morphismAt}
-use Rattle.format.specs.RuleChecks.{bufferCheck}
+use Rattle.format.proofs.Buffers.{buffer-short, buffer-long}
 use Rattle.layout.specs.declared.Shape.{Shape}
 use Rattle.rulefile.specs.declared.Checked.{Checked}
 use Rattle.rulefile.specs.declared.Checked.the-variants.{Rule, Refused as Checked-refused}
-use Rattle.rulefile.specs.Answers.{CheckPromise, checkedChecks, afterCall}
+use Rattle.rulefile.specs.Answers.{CheckPromise}
+use Rattle.rulefile.proofs.Left.{short-left, long-left}
 use Rattle.rulefile.proofs.Calls.{called-good, zeros-left, checked-rule, checked-refused, checked-length, shape-morphism, shape-table}
 use Rattle.classes.specs.declared.Listed.the-variants.{Counts, Refused}
 use Rattle.classnumbers.specs.Classes.{ClassesWritten, ClassCounts}
 use Rattle.classnumbers.specs.Cells.{CellCounts}
-use Rattle.classes.specs.Promise.{classesSize, listChecks, scratchLeft, ListPromise}
+use Rattle.classes.specs.Promise.{classesSize, ListPromise}
 use Rattle.classes.proofs.Counting.{class-counts}
 
 -- a short buffer is refused, and both are left as they came
 pub out-short : (bytes out scratch : List ℕ) → length out < classesSize → ListPromise bytes out out scratch scratch (Refused BufferTooShort 1 0)
 out-short bytes out scratch h = record {
-  verdict = first-fails (bufferCheck classesSize out) (record { short = h; is-place = refl });
+  verdict = buffer-short h;
   answered = refl;
-  scratch = sym (simp (lt-ltb (length out) classesSize h));
+  scratch = short-left classesSize out scratch h;
 }
 
 -- a checked rule, by the counts that were read
@@ -46,17 +43,11 @@ module _ (bytes entry mid : List ℕ) (answer : Checked) (known : CheckPromise 1
   listed-lawful = subst Lawful (sym (shape-morphism (rule-known .scratch .shape-is))) (called-good 1 bytes entry (rule-known .verdict) .lawful)
 
 module _ (bytes out entry mid : List ℕ) (answer : Checked) (long : classesSize ≤ length out) (known : CheckPromise 1 bytes entry mid answer) where
-  after-buffer : {v : Verdict} → FirstFailure (checkedChecks 1 bytes entry) v → FirstFailure (listChecks bytes out entry) v
-  after-buffer f = first-passes (record { nowhere = λ place s. omega (arith, s .short) }) f
-
-  left : {exit : List ℕ} → exit ≡ afterCall entry → exit ≡ scratchLeft out entry
-  left e = e ∙ sym (simp (le-ltb (length out) classesSize long))
-
   -- the check's refusal is handed on
   pub listed-refused : {r : Refusal} {input place : ℕ} → answer ≡ Checked-refused r input place → ListPromise bytes out out entry mid (Refused r input place)
   listed-refused e =
       let p = checked-refused 1 bytes entry mid answer known e in
-      record { verdict = after-buffer (p .verdict); answered = refl; scratch = left (p .scratch) }
+      record { verdict = buffer-long long (p .verdict); answered = refl; scratch = long-left classesSize out entry long (p .scratch) }
 
   -- the classes of a checked rule are written and counted, and scratch is cleared
   pub listed-counts : {shape : Shape} {out-exit exit : List ℕ} {linked classes : ℕ} → answer ≡ Rule shape → exit ≡ replicate (length mid) 0
@@ -68,10 +59,10 @@ module _ (bytes out entry mid : List ℕ) (answer : Checked) (long : classesSize
       let same = shape-morphism (p .scratch .shape-is) in
       let t = listed-table bytes entry mid answer known e in
       record {
-        verdict = after-buffer (p .verdict);
+        verdict = buffer-long long (p .verdict);
         answered = (
           subst (λ (m : Morphism). ClassesWritten m out out-exit) same w,
           subst (λ (m : Morphism). ClassCounts m linked classes (linked - classes)) same (class-counts (t .some) (t .small) w k),
         );
-        scratch = left (zeros-left 1 bytes entry (p .verdict) mid exit (checked-length (p .scratch)) z);
+        scratch = long-left classesSize out entry long (zeros-left 1 bytes entry (p .verdict) mid exit (checked-length (p .scratch)) z);
       }

@@ -8,14 +8,14 @@ use mathlib.Core.List.{List}
 use lib.ListN.{getD}
 use lib.Seq.{ext-getD}
 use Rattle.finite.proofs.Numbers.{le-or-lt}
-use Rattle.answer.proofs.Order.{AllSingle, single-cons, one-verdict}
+use Rattle.answer.proofs.Order.{AllSingle, one-verdict}
 use Rattle.answer.proofs.Verdicts.{same-refusal, not-passed}
 use Rattle.theory.specs.Rules.{Morphism}
 use Rattle.theory.specs.Pairs.{LinkedPairs, Classes}
 use Rattle.theory.proofs.TableTests.{counted-same}
 use Rattle.sections.specs.Sections.{twoBytes}
 use Rattle.format.specs.Format.{morphismOf}
-use Rattle.format.specs.RuleChecks.{ShortAt}
+use Rattle.format.proofs.Buffers.{buffer-single}
 use Rattle.rulefile.proofs.OneVerdict.{checked-single}
 use Rattle.classes.specs.declared.Listed.{Listed}
 use Rattle.classes.specs.declared.Listed.the-variants.{Counts, Refused}
@@ -82,11 +82,8 @@ counts-same m {linked} {classes} {joins} {linked′} {classes′} {joins′} p q
     let ej : joins ≡ joins′ = omega (arith, p .difference, q .difference) in
     cc (el, ec, ej)
 
-short-place : {needed : ℕ} {buffer : List ℕ} (p q : ℕ) → ShortAt needed buffer p → ShortAt needed buffer q → p ≡ q
-short-place p q a b = a .is-place ∙ sym (b .is-place)
-
 list-single : (bytes out scratch : List ℕ) → AllSingle (listChecks bytes out scratch)
-list-single bytes out scratch = single-cons (record { one-place = short-place }) (checked-single 1 bytes scratch)
+list-single bytes out scratch = buffer-single (checked-single 1 bytes scratch)
 
 module _ {bytes out-entry out-exit out-exit′ entry exit exit′ : List ℕ} where
   pub one-answer : (answer answer′ : Listed) → ListPromise bytes out-entry out-exit entry exit answer → ListPromise bytes out-entry out-exit′ entry exit′ answer′ → answer ≡ answer′

@@ -1,14 +1,11 @@
 -- What the call for the classes promises. Assumes nothing.
 use Prim.Native.Nat.{ℕ}
 use mathlib.Core.Path.{_≡_}
-use mathlib.Core.Bool.{cond}
 use mathlib.Core.List.{List, _∷_}
-use lib.ListN.{length}
-use lib.Dec.{ltb}
 use Rattle.answer.specs.Checks.{Check, Verdict, passed, refused, FirstFailure}
 use Rattle.format.specs.Format.{morphismOf}
 use Rattle.format.specs.RuleChecks.{bufferCheck}
-use Rattle.rulefile.specs.Answers.{checkedChecks, afterCall}
+use Rattle.rulefile.specs.Answers.{checkedChecks, scratchLeft}
 use Rattle.classes.specs.declared.Listed.{Listed}
 use Rattle.classes.specs.declared.Listed.the-variants.{Counts, Refused}
 use Rattle.classnumbers.specs.Classes.{ClassesWritten, ClassCounts}
@@ -31,11 +28,8 @@ abbrev pub ListedAnswer : List ℕ → List ℕ → List ℕ → Listed → Type
 ListedAnswer bytes entry exit (Counts linked classes joins) = ClassesWritten (morphismOf bytes) entry exit × ClassCounts (morphismOf bytes) linked classes joins
 ListedAnswer bytes entry exit (Refused refusal input place) = exit ≡ entry
 
--- scratch as it came where a buffer is short, and else zeros
-abbrev pub scratchLeft : List ℕ → List ℕ → List ℕ
-scratchLeft out scratch = cond (ltb (length out) classesSize) scratch (afterCall scratch)
-
+-- scratch as every call leaves it
 pub record ListPromise (bytes out-entry out-exit entry exit : List ℕ) (answer : Listed) : Type 0 where
   pub verdict : FirstFailure (listChecks bytes out-entry entry) (listedVerdict answer)
   pub answered : ListedAnswer bytes out-entry out-exit answer
-  pub scratch : exit ≡ scratchLeft out-entry entry
+  pub scratch : exit ≡ scratchLeft classesSize out-entry entry

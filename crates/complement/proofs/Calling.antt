@@ -1,35 +1,33 @@
 -- What each way through the call for the complement promises. Assumes nothing.
-use Prim.Native.Nat.{ℕ, _+_, _*_, _≤_, _<_}
+use Prim.Native.Nat.{ℕ, _≤_, _<_}
 use mathlib.Core.Path.{_≡_, refl, sym, ap, _∙_, subst}
 use mathlib.Core.Bool.{Bool, true, false, not}
-use mathlib.Core.List.{List, [], _∷_, _++_}
+use mathlib.Core.List.{List}
 use native.Mathlib.Omega.{arith}
-use lib.ListN.{length, getD, replicate}
-use borrow.Author.Tests.{lt-ltb, le-ltb}
+use lib.ListN.{length, replicate}
 use Rattle.answer.specs.declared.Refusal.{Refusal}
 use Rattle.answer.specs.declared.Refusal.the-variants.{BufferTooShort, NotStrong}
-use Rattle.answer.specs.Checks.{Verdict, passed, refused, FirstFailure}
+use Rattle.answer.specs.Checks.{refused}
 use Rattle.answer.proofs.Order.{first-passes, first-fails, none-left, refused-before, passed-before}
-use Rattle.theory.specs.Rules.{Morphism, Lawful, marked, level}
+use Rattle.theory.specs.Rules.{Morphism, marked, level}
 use Rattle.theory.specs.Acceptance.{Strong}
-use Rattle.theory.proofs.Closure.{closure-test}
-use Rattle.table.specs.Table.{Table, morphismAt}
-use Rattle.format.specs.Format.{lettersOf, morphismOf, pairsOf}
-use Rattle.format.specs.RuleChecks.{bufferCheck}
+use Rattle.table.specs.Table.{morphismAt}
+use Rattle.format.specs.Format.{morphismOf, pairsOf}
+use Rattle.format.specs.RuleChecks.{ruleSize}
+use Rattle.format.proofs.Buffers.{buffer-short, buffer-long}
 use Rattle.layout.specs.declared.Shape.{Shape}
 use Rattle.rulefile.specs.declared.Checked.the-variants.{Rule as Checked-rule, Refused as Checked-refused}
-use Rattle.rulefile.specs.Answers.{CheckPromise, checkedChecks, afterCall}
+use Rattle.rulefile.specs.Answers.{CheckPromise, scratchLeft}
+use Rattle.rulefile.proofs.Left.{short-left, long-left}
 use Rattle.rulefile.proofs.Calls.{called-good, zeros-left, checked-length, shape-morphism}
-use Rattle.rulewriter.specs.File.{FitsFormat}
 use Rattle.rulewriter.specs.ReadBack.{WrittenRule}
 use Rattle.rulewriter.proofs.ReadBack.{written-rule}
 use Rattle.scratch.specs.Map.{pairsFrom}
-use Rattle.search.specs.Search.{Stands}
 use Rattle.strength.specs.Deciding.{StrongIf, Decided}
 use Rattle.strength.specs.Weak.{weakCheck}
 use Rattle.strength.proofs.Calling.{checked-table, checked-lawful, checked-reached, checked-linked, marks-stand, checked-room, decided-file}
 use Rattle.complementmarks.specs.Complement.{ComplementMarks, ComplementLaid}
-use Rattle.complement.specs.Promise.{ruleSize, WritePlace, secondMarking, TablesWritten, complementChecks, ComplementWritten, scratchLeft, ComplementPromise}
+use Rattle.complement.specs.Promise.{WritePlace, secondMarking, TablesWritten, ComplementPromise}
 use Rattle.complement.specs.declared.Complemented.the-variants.{Rule, Refused}
 use Rattle.complement.proofs.Complements.{laid-complement}
 
@@ -41,22 +39,16 @@ module _ (bytes out entry : List ℕ) where
   -- a short buffer is refused, and both are left as they came
   pub out-short : length out < ruleSize → ComplementPromise bytes out out entry entry (Refused BufferTooShort 1 0)
   out-short h = record {
-    verdict = first-fails (bufferCheck ruleSize out) (record { short = h; is-place = refl });
+    verdict = buffer-short h;
     answered = refl;
-    scratch = sym (simp (lt-ltb (length out) ruleSize h));
+    scratch = short-left ruleSize out entry h;
   }
 
   module _ (long : ruleSize ≤ length out) where
-    after-buffer : {v : Verdict} → FirstFailure (checkedChecks 1 bytes entry ++ (weakCheck bytes ∷ [])) v → FirstFailure (complementChecks bytes out entry) v
-    after-buffer f = first-passes (record { nowhere = λ place s. omega (arith, s .short) }) f
-
-    left : {exit : List ℕ} → exit ≡ afterCall entry → exit ≡ scratchLeft out entry
-    left e = e ∙ sym (simp (le-ltb (length out) ruleSize long))
-
     -- the rule is refused
     pub rule-refused : {exit : List ℕ} {r : Refusal} {i place : ℕ} → CheckPromise 1 bytes entry exit (Checked-refused r i place)
         → ComplementPromise bytes out out entry exit (Refused r i place)
-    rule-refused p = record { verdict = after-buffer (refused-before _ _ (p .verdict)); answered = refl; scratch = left (p .scratch) }
+    rule-refused p = record { verdict = buffer-long long (refused-before _ _ (p .verdict)); answered = refl; scratch = long-left ruleSize out entry long (p .scratch) }
 
     module _ {shape : Shape} {mid decided : List ℕ} {answer : Bool} (p : CheckPromise 1 bytes entry mid (Checked-rule shape))
         (d : Decided (morphismAt bytes (shape .elements) (shape .letters)) mid decided answer) where
@@ -66,15 +58,15 @@ module _ (bytes out entry : List ℕ) where
       same : m ≡ morphismOf bytes
       same = shape-morphism (p .scratch .shape-is)
 
-      zeros : (was end : List ℕ) → length was ≡ length decided → end ≡ replicate (length was) 0 → end ≡ scratchLeft out entry
-      zeros was end e z = left (zeros-left 1 bytes entry (p .verdict) was end (e ∙ d .same-length ∙ checked-length (p .scratch)) z)
+      zeros : (was end : List ℕ) → length was ≡ length decided → end ≡ replicate (length was) 0 → end ≡ scratchLeft ruleSize out entry
+      zeros was end e z = long-left ruleSize out entry long (zeros-left 1 bytes entry (p .verdict) was end (e ∙ d .same-length ∙ checked-length (p .scratch)) z)
 
       -- the rule is weak
       pub weak-refused : {end : List ℕ} → not answer ≡ true → end ≡ replicate (length decided) 0 → ComplementPromise bytes out out entry end (Refused NotStrong 1 0)
       weak-refused {end} n z =
           let e : answer ≡ false = sym (not-not answer) ∙ ap not n in
           record {
-            verdict = after-buffer (passed-before _ _ (p .verdict)
+            verdict = buffer-long long (passed-before _ _ (p .verdict)
                 (first-fails (weakCheck bytes) (record { weak = subst (StrongIf (morphismOf bytes) (pairsOf bytes)) e (decided-file 1 bytes entry p d); is-place = refl })));
             answered = refl;
             scratch = zeros decided end refl z;
@@ -113,7 +105,7 @@ module _ (bytes out entry : List ℕ) where
           pub complement-written : {exit end : List ℕ} {r : ℕ} → TablesWritten m laid out exit r → end ≡ replicate (length laid) 0
               → ComplementPromise bytes out exit entry end (Rule r)
           complement-written {exit} {end} {r} w z = record {
-            verdict = after-buffer (passed-before _ _ (p .verdict)
+            verdict = buffer-long long (passed-before _ _ (p .verdict)
                 (first-passes (record { nowhere = λ place f. f .weak (subst (λ (x : Morphism). Strong x (pairsOf bytes)) same strong) }) none-left));
             answered = record {
               marks = secondMarking laid;

@@ -5,31 +5,17 @@ use mathlib.Core.Path.{_≡_, refl, sym, ap, _∙_}
 use mathlib.Core.List.{List}
 use lib.Dec.{ltb}
 use Rattle.finite.proofs.Tests.{tests-equal}
-use Rattle.answer.proofs.Order.{AllSingle, single-nil, single-cons, single-append, one-verdict}
+use Rattle.answer.proofs.Order.{one-verdict}
 use Rattle.answer.proofs.Verdicts.{same-refusal, not-passed}
 use Rattle.theory.specs.Rules.{level, marked}
 use Rattle.format.specs.Format.{morphismOf}
-use Rattle.format.specs.RuleChecks.{ShortAt}
-use Rattle.rulefile.proofs.OneVerdict.{checked-single}
+use Rattle.strength.proofs.OneAnswer.{strong-rule-single}
 use Rattle.rulewriter.specs.File.{fileOf}
 use Rattle.rulewriter.proofs.Agree.{Agree}
 use Rattle.rulewriter.proofs.Same.{SameMarks, file-same, one-length, one-buffer}
-use Rattle.strength.specs.Weak.{WeakAt}
 use Rattle.complement.specs.declared.Complemented.{Complemented}
 use Rattle.complement.specs.declared.Complemented.the-variants.{Rule, Refused}
-use Rattle.complement.specs.Promise.{complementChecks, complementVerdict, ComplementWritten, ComplementAnswer, ComplementPromise}
-
-short-place : {needed : ℕ} {buffer : List ℕ} (p q : ℕ) → ShortAt needed buffer p → ShortAt needed buffer q → p ≡ q
-short-place p q a b = a .is-place ∙ sym (b .is-place)
-
-weak-place : {bytes : List ℕ} (p q : ℕ) → WeakAt bytes p → WeakAt bytes q → p ≡ q
-weak-place p q a b = a .is-place ∙ sym (b .is-place)
-
--- each check fails at one place at most
-all-single : (bytes out entry : List ℕ) → AllSingle (complementChecks bytes out entry)
-all-single bytes out entry =
-    single-cons (record { one-place = short-place })
-    (single-append (checked-single 1 bytes entry) (single-cons (record { one-place = weak-place }) single-nil))
+use Rattle.complement.specs.Promise.{complementVerdict, ComplementWritten, ComplementAnswer, ComplementPromise}
 
 -- two complements of one rule have one file
 module _ {bytes before after after′ : List ℕ} {r r′ : ℕ} (a : ComplementWritten bytes before after r) (b : ComplementWritten bytes before after′ r′) where
@@ -59,7 +45,7 @@ module _ (bytes before : List ℕ) {after after′ : List ℕ} where
 module _ {bytes before after after′ entry exit exit′ : List ℕ} where
   pub one-answer : (answer answer′ : Complemented) → ComplementPromise bytes before after entry exit answer → ComplementPromise bytes before after′ entry exit′ answer′
       → (answer ≡ answer′) × (after ≡ after′)
-  one-answer answer answer′ p q = same-answer bytes before answer answer′ (p .answered) (q .answered) (one-verdict (all-single bytes before entry) (p .verdict) (q .verdict))
+  one-answer answer answer′ p q = same-answer bytes before answer answer′ (p .answered) (q .answered) (one-verdict (strong-rule-single _ before bytes entry) (p .verdict) (q .verdict))
 
   pub one-scratch : {answer answer′ : Complemented} → ComplementPromise bytes before after entry exit answer → ComplementPromise bytes before after′ entry exit′ answer′
       → exit ≡ exit′

@@ -1,25 +1,19 @@
 -- What the call for the complement promises. Assumes nothing.
 use Prim.Native.Nat.{ℕ, _+_, _*_, _≤_}
 use mathlib.Core.Path.{_≡_}
-use mathlib.Core.Bool.{cond}
 use mathlib.Core.List.{List, [], _∷_, _++_}
 use lib.ListN.{length, getD, drop}
-use lib.Dec.{ltb}
 use Rattle.answer.specs.Checks.{Check, Verdict, passed, refused, FirstFailure}
 use Rattle.theory.specs.Rules.{Morphism, Marking, marked}
 use Rattle.format.specs.Format.{morphismOf, pairsOf}
-use Rattle.format.specs.RuleChecks.{bufferCheck}
-use Rattle.rulefile.specs.Answers.{checkedChecks, afterCall}
+use Rattle.format.specs.RuleChecks.{ruleSize, bufferCheck}
+use Rattle.rulefile.specs.Answers.{checkedChecks, scratchLeft}
 use Rattle.rulewriter.specs.File.{fileOf}
 use Rattle.rulewriter.specs.ReadBack.{WrittenRule}
 use Rattle.strength.specs.Weak.{weakCheck}
 use Rattle.complementmarks.specs.Complement.{ComplementMarks}
 use Rattle.complement.specs.declared.Complemented.{Complemented}
 use Rattle.complement.specs.declared.Complemented.the-variants.{Rule, Refused}
-
--- "Buffers: rule out 12,308 bytes"
-abbrev pub ruleSize : ℕ
-ruleSize = 12308
 
 -- a second table of marks, and room for the longest file
 pub record WritePlace (k : ℕ) (scratch out : List ℕ) : Type 0 where
@@ -57,11 +51,8 @@ abbrev pub ComplementAnswer : List ℕ → List ℕ → List ℕ → Complemente
 ComplementAnswer bytes entry exit (Rule length) = ComplementWritten bytes entry exit length
 ComplementAnswer bytes entry exit (Refused refusal input place) = exit ≡ entry
 
--- scratch as it came where a buffer is short, and else zeros
-abbrev pub scratchLeft : List ℕ → List ℕ → List ℕ
-scratchLeft out scratch = cond (ltb (length out) ruleSize) scratch (afterCall scratch)
-
+-- scratch as every call leaves it
 pub record ComplementPromise (bytes out-entry out-exit entry exit : List ℕ) (answer : Complemented) : Type 0 where
   pub verdict : FirstFailure (complementChecks bytes out-entry entry) (complementVerdict answer)
   pub answered : ComplementAnswer bytes out-entry out-exit answer
-  pub scratch : exit ≡ scratchLeft out-entry entry
+  pub scratch : exit ≡ scratchLeft ruleSize out-entry entry

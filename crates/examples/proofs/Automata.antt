@@ -25,10 +25,12 @@ use Rattle.theory.proofs.Computing.{computing}
 use Rattle.sections.specs.Sections.{Section}
 use Rattle.sections.proofs.Laws.{good-passes}
 use Rattle.format.specs.Format.{morphismOf, oneIf}
-use Rattle.format.specs.RuleChecks.{scratchSize}
+use Rattle.format.proofs.Buffers.{buffer-long}
+use Rattle.format.specs.RuleChecks.{ruleSize, scratchSize}
 use Rattle.rulefile.specs.GoodRule.{GoodRule}
 use Rattle.rulefile.proofs.CheckedRule.{good-rule}
 use Rattle.automatonformat.specs.Format.{statesOf, kindAt, isInitial, isFinal, lettersAt, lettersOf, transitionsAt, transitionsOf, transitionAt, fromOf, letterOf, toOf, isTransition, hasTransition, automatonEnd, tripleBound, statesSection, lettersSection, transitionsSection}
+use Rattle.rulefile.specs.Answers.{scratchLeft}
 use Rattle.automatonformat.specs.AutomatonChecks.{automatonChecks, readChecks}
 use Rattle.automatonfile.proofs.RepeatedOrder.{Fresh, fresh-all}
 use Rattle.buchi.specs.Automata.{Automaton}
@@ -47,7 +49,7 @@ use Rattle.reduction.specs.Promise.{ruleOf}
 use Rattle.automaton.specs.declared.Translated.{Translated}
 use Rattle.automaton.specs.declared.Translated.the-variants.{Rule as Is-translated, Refused}
 use Rattle.automaton.specs.Meaning.{automatonOf}
-use Rattle.automaton.specs.Promise.{ruleSize, RuleOf, ruleVerdict, RuleAnswer, translateChecks, scratchLeft, RulePromise}
+use Rattle.automaton.specs.Promise.{RuleOf, ruleVerdict, RuleAnswer, translateChecks, RulePromise}
 use Rattle.automaton.proofs.OneAnswer.{rule-one-verdict}
 use Rattle.examples.specs.Files.{automaton}
 use Rattle.examples.specs.Examples.{FileStrong, RuleReducesTo, ReducesTo, Translation, TranslatedTo, AutomatonReducesTo}
@@ -244,15 +246,15 @@ by-first-words = found-by-first-words M10-lawful discovery
 module _ (before entry : List ℕ) (long : ruleSize ≤ length before) (room : scratchSize ≤ length entry) where
   passes : FirstFailure (translateChecks automaton before entry) passed
   passes =
-      first-passes (record { nowhere = λ place s. omega (arith, s .short) })
-      (passed-before (readChecks 1 automaton entry) _ (first-passes (record { nowhere = λ place s. omega (arith, s .short) }) reads)
+      buffer-long long
+      (passed-before (readChecks 1 automaton entry) _ (buffer-long room reads)
       (first-passes (record { nowhere = λ place f. let h : 64 < 3 = matrices 64 .0 (f .more) in omega arith }) none-left))
 
   some-answer : Translation automaton before entry
   some-answer = record {
     answer = Is-translated (length (fileOf M10-table marks));
     after = fileOf M10-table marks ++ drop (length (fileOf M10-table marks)) before;
-    exit = scratchLeft before entry;
+    exit = scratchLeft ruleSize before entry;
     promised = record {
       verdict = passes;
       answered = record {

@@ -15,8 +15,7 @@ use Rattle.theory.proofs.TableTests.{all-pairs-elim, counted-same}
 use Rattle.format.specs.Format.{morphismOf, pairsOf}
 use Rattle.classnumbers.specs.Classes.{ClassCounts}
 use Rattle.reduction.specs.declared.Reduced.the-variants.{Rule as Is-rule}
-use Rattle.reduction.specs.Promise.{ruleSize}
-use Rattle.format.specs.RuleChecks.{scratchSize}
+use Rattle.format.specs.RuleChecks.{ruleSize, scratchSize}
 use Rattle.examples.specs.Files.{W, W-all, one-element, Z, Z₀, not-associative, unreached, automaton}
 use Rattle.examples.specs.Examples.{ChecksTo, RefusesLasso, ConjugateToMark, NotClosed, MarksLinked, ReducesTo, HandsBack, ReducesToBytes, AutomatonReducesTo}
 use Rattle.examples.proofs.Reading.{reading}

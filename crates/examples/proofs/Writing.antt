@@ -5,7 +5,7 @@ use mathlib.Core.Path.{_≡_, refl, sym, subst, _∙_}
 use mathlib.Core.List.{List}
 use borrow.Author.Tests.{le-ltb}
 use lib.ListN.{length, replicate}
-use Rattle.finite.proofs.Select.{select, selectFrom}
+use Rattle.finite.specs.Select.{select, selectFrom}
 use Rattle.answer.specs.Checks.{passed, FirstFailure}
 use Rattle.answer.proofs.Order.{one-verdict, first-passes, none-left, passed-before}
 use Rattle.theory.specs.Rules.{Rule, Lawful}
@@ -13,13 +13,14 @@ use Rattle.theory.specs.Smallest.{Reduction}
 use Rattle.theory.proofs.EveryLasso.{AcceptsEvery, every-test, every-elim, one, one-rule}
 use Rattle.theory.proofs.SmallReductions.{every-reduction}
 use Rattle.format.specs.Format.{morphismOf, pairsOf}
-use Rattle.format.specs.RuleChecks.{scratchSize}
-use Rattle.rulefile.specs.Answers.{checkedChecks, afterCall}
+use Rattle.format.proofs.Buffers.{buffer-long}
+use Rattle.format.specs.RuleChecks.{ruleSize, scratchSize}
+use Rattle.rulefile.specs.Answers.{checkedChecks, afterCall, scratchLeft}
 use Rattle.rulewriter.specs.File.{tabulate, elementsBytes, lettersBytes, isMarked, markNumbers, pairBytes, marksBytes, fileOf}
 use Rattle.reduction.specs.declared.Reduced.{Reduced}
 use Rattle.reduction.specs.declared.Reduced.the-variants.{Rule as Is-rule, Refused}
-use Rattle.reduction.specs.Promise.{ruleSize, ruleOf, reduceChecks, reducedVerdict, ReducedTo, ReducedAnswer, scratchAfter, ReducePromise}
-use Rattle.reduction.proofs.OneAnswer.{reduce-single}
+use Rattle.reduction.specs.Promise.{ruleOf, reduceChecks, reducedVerdict, ReducedTo, ReducedAnswer, ReducePromise}
+use Rattle.strength.proofs.OneAnswer.{strong-rule-single}
 use Rattle.examples.specs.Files.{W-all, one-element}
 use Rattle.examples.specs.Examples.{StandsIn, HandsBack, ReducesToBytes}
 use Rattle.examples.proofs.Reading.{reading}
@@ -45,17 +46,17 @@ reduced-bytes law reduced red = one-file (ruleOf W-all law) (omega arith) every 
 module _ (before after entry exit : List ℕ) (long : ruleSize ≤ length before) (room : scratchSize ≤ length entry) where
   all-pass : FirstFailure (reduceChecks W-all before entry) passed
   all-pass =
-      first-passes (record { nowhere = λ place s. omega (arith, s .short) })
-      (passed-before (checkedChecks 1 W-all entry) _ (first-passes (record { nowhere = λ place s. omega (arith, s .short) }) W-all-passes)
+      buffer-long long
+      (passed-before (checkedChecks 1 W-all entry) _ (buffer-long room W-all-passes)
       (first-passes (record { nowhere = λ place f. f .weak W-all-strong }) none-left))
 
-  zeros : scratchAfter before entry ≡ replicate (length entry) 0
+  zeros : scratchLeft ruleSize before entry ≡ replicate (length entry) 0
   unfolding afterCall
   zeros = simp (le-ltb (length before) ruleSize long, le-ltb (length entry) scratchSize room)
 
   -- ---- what the promise allows
 
-  allowed : (answer : Reduced) → ReducedAnswer W-all before after answer → reducedVerdict answer ≡ passed → exit ≡ scratchAfter before entry
+  allowed : (answer : Reduced) → ReducedAnswer W-all before after answer → reducedVerdict answer ≡ passed → exit ≡ scratchLeft ruleSize before entry
       → HandsBack one-element before after entry exit answer
   allowed (Is-rule end) to e z =
       let b = reduced-bytes (to .lawful) (to .reduced) (to .reduction) in
@@ -93,7 +94,7 @@ pub W-all-bytes : ReducesToBytes W-all one-element
 W-all-bytes = record {
   exactly = λ before after entry exit answer long room. (
     λ p. allowed before after entry exit long room answer (p .answered)
-        (one-verdict (reduce-single W-all before entry) (p .verdict) (all-pass before after entry exit long room)) (p .scratch),
+        (one-verdict (strong-rule-single ruleSize before W-all entry) (p .verdict) (all-pass before after entry exit long room)) (p .scratch),
     promised before after entry exit long room,
   );
 }

@@ -13,11 +13,11 @@ use Rattle.theory.specs.Acceptance.{Accepts, Strong}
 use Rattle.theory.specs.Pairs.{Linked, Conjugate}
 use Rattle.theory.specs.Smallest.{Reduction}
 use Rattle.format.specs.Format.{elementsOf, lettersOf, morphismOf, pairsOf}
-use Rattle.format.specs.RuleChecks.{ruleChecks, scratchSize}
+use Rattle.format.specs.RuleChecks.{ruleChecks, ruleSize, scratchSize}
 use Rattle.classnumbers.specs.Classes.{ClassCounts}
 use Rattle.reduction.specs.declared.Reduced.{Reduced}
 use Rattle.reduction.specs.declared.Reduced.the-variants.{Rule as Is-rule}
-use Rattle.reduction.specs.Promise.{ruleSize, ruleOf, ReducePromise}
+use Rattle.reduction.specs.Promise.{ruleOf, ReducePromise}
 use Rattle.buchi.specs.Rule.{MoreMatrices}
 use Rattle.automaton.specs.declared.Translated.{Translated}
 use Rattle.automaton.specs.declared.Translated.the-variants.{Rule as Is-translated}

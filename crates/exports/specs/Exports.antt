@@ -8,7 +8,7 @@ use Rattle.classes.specs.declared.Listed.{Listed}
 use Rattle.classes.specs.Promise.{ListPromise}
 use Rattle.complement.specs.declared.Complemented.{Complemented}
 use Rattle.complement.specs.Promise.{ComplementPromise}
-use Rattle.inclusion.specs.declared.Inclusion.{Inclusion}
+use Rattle.comparison.specs.declared.Inclusion.{Inclusion}
 use Rattle.inclusion.specs.Promise.{InclusionPromise}
 use Rattle.lasso.specs.declared.Membership.{Membership}
 use Rattle.lasso.specs.Promise.{MemberPromise}

@@ -8,7 +8,8 @@ use Prim.Native.Nat.{ℕ, _<_}
 use native.Mathlib.Omega.{arith}
 use lib.ListN.{length, getD}
 use Rattle.finite.proofs.Numbers.{Compared, lesser, level, greater, compared}
-use Rattle.finite.proofs.Search.{Found, anyBelow, any-intro, any-elim, leastBelow, least-unique}
+use Rattle.finite.specs.Search.{anyBelow}
+use Rattle.finite.proofs.Search.{Found, any-intro, any-elim, leastBelow, least-unique}
 use Rattle.finite.proofs.Worklist.{Entry}
 use Rattle.finite.proofs.FirstWords.{Sooner, sooner-parent, sooner-letter, FirstOrder}
 use Rattle.finite.proofs.Places.{Among, at-cast, at-getD, getD-at}

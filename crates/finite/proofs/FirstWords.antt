@@ -9,7 +9,8 @@ use native.Mathlib.Omega.{arith}
 use lib.ListN.{length}
 use Rattle.finite.proofs.Numbers.{strong, Compared, lesser, level, greater, compared}
 use Rattle.finite.specs.Letters.{Over, over-nil}
-use Rattle.finite.proofs.Shortlex.{over-snoc, over-front, over-last, Before, shorter, NotAfter, snoc, length-snoc, snoc-induction, before-snoc, before-last, empty-first, not-after-snoc, not-after-last, before-not-after}
+use Rattle.finite.specs.Shortlex.{Before, shorter, NotAfter}
+use Rattle.finite.proofs.Shortlex.{over-snoc, over-front, over-last, snoc, length-snoc, snoc-induction, before-snoc, before-last, empty-first, not-after-snoc, not-after-last, before-not-after}
 use Rattle.finite.proofs.Worklist.{Entry}
 
 -- the state after reading a word from x

@@ -9,17 +9,11 @@ use native.Mathlib.Numerals.{add-one}
 use native.Mathlib.Omega.{arith}
 use borrow.Author.Tests.{ltb-true, ltb-false}
 use lib.Dec.{T, ltb}
+use Rattle.finite.specs.Search.{anyBelow}
 use Rattle.finite.proofs.Numbers.{below-cases, le-or-lt, Compared, lesser, level, greater, compared}
 use Rattle.finite.proofs.Tests.{T-and, T-and-left, T-and-right, T-or-left, T-or-right, T-or-cases, T-not, T-dec, true-T}
 unfoldable pub use Rattle.finite.proofs.Count.{countBelow}
 pub use Rattle.finite.proofs.Count.{bit, count-zero, count-suc, count-add-one, count-in, count-out, count-le, count-all, count-mono, count-strict, count-same}
-
--- some i below n passes p
-unfoldable pub anyBelow : ℕ → (ℕ → Bool) → Bool
-anyBelow zero p = false
-anyBelow (suc n) p =
-    let rest = anyBelow n p in
-    p n || rest
 
 -- every i below n passes p
 unfoldable pub allBelow : ℕ → (ℕ → Bool) → Bool

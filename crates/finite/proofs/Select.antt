@@ -1,24 +1,14 @@
--- The list of what a function gives at the numbers below a bound that pass a test, in rising order. Assumes nothing.
+-- Laws of the list of what a function gives at the numbers that pass a test. Assumes nothing.
 use mathlib.Core.Path.{_≡_, refl, sym, ap, _∙_, subst}
 use mathlib.Core.Bool.{Bool, true, false, cond}
 use mathlib.Core.Logic.{⊎-elim}
-use mathlib.Core.List.{List, [], _∷_, List·Memᴰ, List·Memᴰ·head, List·Memᴰ·tail, List·Memᴰ·not-nil, List·Memᴰ·cases-cons, Memᴰ·cast}
+use mathlib.Core.List.{List, _∷_, List·Memᴰ, List·Memᴰ·head, List·Memᴰ·tail, List·Memᴰ·not-nil, List·Memᴰ·cases-cons, Memᴰ·cast}
 use Prim.Native.Nat.{ℕ, zero, suc, _+_, _≤_, _<_}
 use native.Mathlib.Omega.{arith}
 use native.Mathlib.Nat.{eq-or-lt-of-le}
 use lib.Dec.{T}
+use Rattle.finite.specs.Select.{selectFrom, select}
 use Rattle.finite.proofs.Tests.{true-T}
-
--- f at those of the k numbers from i on that pass p
-unfoldable pub selectFrom : {A : Type 0} → ℕ → ℕ → (ℕ → Bool) → (ℕ → A) → List A
-selectFrom zero i p f = []
-selectFrom (suc k) i p f =
-    let rest = selectFrom k (suc i) p f in
-    cond (p i) (f i ∷ rest) rest
-
--- f at the numbers below n that pass p
-unfoldable pub select : {A : Type 0} → ℕ → (ℕ → Bool) → (ℕ → A) → List A
-select n p f = selectFrom n 0 p f
 
 -- y is f at a number below n that passes p
 pub record Selected {A : Type 0} (n : ℕ) (p : ℕ → Bool) (f : ℕ → A) (y : A) : Type 0 where

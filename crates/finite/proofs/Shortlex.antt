@@ -1,5 +1,4 @@
--- The shortlex order on words: a shorter word comes first, and of two words of one length the one whose first
--- differing letter is smaller. Assumes nothing.
+-- Laws of the shortlex order, and words with a letter more at their end. Assumes nothing.
 use mathlib.Core.Path.{_≡_, refl, sym, ap, ap₂, subst, _∙_}
 use mathlib.Core.Logic.{_⊎_, inl, inr}
 use mathlib.Core.List.{List, [], _∷_, _++_, append-nil, append-assoc, head-eq-of-cons-eq, tail-eq-of-cons-eq}
@@ -8,21 +7,8 @@ use native.Mathlib.Nat.{lt-irrefl}
 use native.Mathlib.Omega.{arith}
 use lib.ListN.{length, length-append}
 use Rattle.finite.proofs.Numbers.{Compared, lesser, level, greater, compared}
+use Rattle.finite.specs.Shortlex.{Smaller, here, there, Before, shorter, smaller, NotAfter}
 use Rattle.finite.specs.Letters.{Over, over-nil, over-cons}
-
--- words of one length, the first differing letter smaller in the first
-pub data Smaller : List ℕ → List ℕ → Type 0 where
-  here : {a b : ℕ} {u v : List ℕ} → a < b → length u ≡ length v → Smaller (a ∷ u) (b ∷ v)
-  there : {a b : ℕ} {u v : List ℕ} → a ≡ b → Smaller u v → Smaller (a ∷ u) (b ∷ v)
-
--- u comes before v in the shortlex order
-pub data Before (u v : List ℕ) : Type 0 where
-  shorter : length u < length v → Before u v
-  smaller : Smaller u v → Before u v
-
--- u comes before v or is v
-abbrev pub NotAfter : List ℕ → List ℕ → Type 0
-NotAfter u v = (u ≡ v) ⊎ Before u v
 
 -- a word with one letter more at its end
 abbrev pub snoc : List ℕ → ℕ → List ℕ

@@ -1,1 +1,4 @@
 pub mod Letters
+pub mod Search
+pub mod Select
+pub mod Shortlex

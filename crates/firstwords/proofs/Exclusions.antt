@@ -4,7 +4,8 @@ use mathlib.Core.Path.{_≡_, refl, sym, ap, _∙_}
 use mathlib.Core.Logic.{inl, inr}
 use mathlib.Core.List.{List, [], _∷_}
 use native.Mathlib.Omega.{arith}
-use Rattle.finite.proofs.Shortlex.{Smaller, here, there, Before, shorter, smaller, NotAfter, before-not-after}
+use Rattle.finite.specs.Shortlex.{Smaller, here, there, Before, shorter, smaller, NotAfter}
+use Rattle.finite.proofs.Shortlex.{before-not-after}
 use Rattle.theory.specs.Words.{over-nil, over-cons}
 use Rattle.theory.specs.Rules.{Morphism, Value, none, element, join, value}
 use Rattle.theory.proofs.Values.{element-apart}

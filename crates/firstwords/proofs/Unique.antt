@@ -7,7 +7,8 @@ use mathlib.Core.List.{List}
 use native.Mathlib.Omega.{arith}
 use native.Mathlib.Decide.{ℕ-discrete}
 use Rattle.finite.proofs.Numbers.{Compared, lesser, level, greater, compared}
-use Rattle.finite.proofs.Shortlex.{Before, NotAfter, before-irrefl, before-trans}
+use Rattle.finite.specs.Shortlex.{Before, NotAfter}
+use Rattle.finite.proofs.Shortlex.{before-irrefl, before-trans}
 use Rattle.theory.specs.Words.{Over, over-nil, over-cons}
 use Rattle.theory.specs.Rules.{Morphism, Lawful, Value, none, element, join, value}
 use Rattle.theory.specs.Smallest.{Renumbered}

@@ -3,7 +3,7 @@
 use Prim.Native.Nat.{ℕ, _<_}
 use mathlib.Core.Path.{_≡_}
 use mathlib.Core.List.{List}
-use Rattle.finite.proofs.Shortlex.{Before, NotAfter}
+use Rattle.finite.specs.Shortlex.{Before, NotAfter}
 use Rattle.theory.specs.Words.{Over}
 use Rattle.theory.specs.Rules.{Morphism, element, value}
 

@@ -87,6 +87,10 @@ pub record ShortAt (needed : ℕ) (buffer : List ℕ) (place : ℕ) : Type 0 whe
 abbrev pub scratchSize : ℕ
 scratchSize = 65536
 
+-- "Buffers: rule out 12,308 bytes"
+abbrev pub ruleSize : ℕ
+ruleSize = 12308
+
 -- "First 13", of a buffer that must have `needed` bytes
 abbrev pub bufferCheck : ℕ → List ℕ → Check
 bufferCheck needed buffer = record { refusal = BufferTooShort; input = 1; Fails = ShortAt needed buffer }

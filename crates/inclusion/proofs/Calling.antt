@@ -3,21 +3,21 @@ use Prim.Native.Nat.{ℕ, _+_, _*_, _≤_, _<_}
 use mathlib.Core.Path.{_≡_, refl, sym, ap, _∙_, subst}
 use mathlib.Core.List.{List, _∷_, _++_}
 use native.Mathlib.Omega.{arith}
-use lib.ListN.{length, getD, replicate}
+use lib.ListN.{length, replicate}
 use lib.Dec.{leb}
 use borrow.Author.Tests.{lt-ltb, le-ltb}
 use Rattle.answer.specs.declared.Refusal.{Refusal}
 use Rattle.answer.specs.declared.Refusal.the-variants.{BufferTooShort}
-use Rattle.answer.specs.Checks.{Verdict, passed, numbered, refused, FirstFailure}
-use Rattle.answer.proofs.Order.{first-passes, first-fails, refused-before, passed-before, passed-last, passes-tail}
-use Rattle.theory.specs.Rules.{Morphism, Lawful, Pairs, marked, level}
+use Rattle.answer.specs.Checks.{Verdict, passed, refused, FirstFailure}
+use Rattle.answer.proofs.Order.{refused-before, passed-before, passed-last, passes-tail}
+use Rattle.theory.specs.Rules.{Morphism, marked, level}
 use Rattle.theory.specs.Pairs.{LinkedOnly}
 use Rattle.sections.specs.Sections.{twoBytes, sectionChecks}
-use Rattle.table.specs.Table.{Table, morphismAt}
-use Rattle.format.specs.Format.{elementsOf, lettersOf, morphismOf, pairsOf, marksIn, markWidth, marksSection}
-use Rattle.format.specs.RuleChecks.{bufferCheck, trailingCheck, markChecks, secondMarksChecks}
+use Rattle.table.specs.Table.{morphismAt}
+use Rattle.format.specs.Format.{elementsOf, morphismOf, pairsOf, markWidth, marksSection}
+use Rattle.format.proofs.Buffers.{buffer-short, buffer-long}
+use Rattle.format.specs.RuleChecks.{trailingCheck, markChecks, secondMarksChecks}
 use Rattle.layout.specs.declared.Shape.{Shape}
-use Rattle.rulefile.specs.declared.Checked.{Checked}
 use Rattle.rulefile.specs.declared.Checked.the-variants.{Rule, Refused as Checked-refused}
 use Rattle.markchecks.specs.declared.Fault.{Fault}
 use Rattle.markchecks.specs.declared.Fault.the-variants.{Nothing, Refused as Fault-refused}
@@ -28,17 +28,18 @@ use Rattle.rulefile.proofs.MarksPassed.{passed-marks, marking-linked}
 use Rattle.scratch.specs.Map.{pairsFrom}
 use Rattle.search.specs.Search.{Stands}
 use Rattle.strength.proofs.Calling.{checked-table, checked-lawful, checked-reached, checked-linked, marks-stand, zeros-behind, checked-room}
-use Rattle.inclusion.specs.Comparing.{SecondRoom, SecondLaid, LaidAnswer, ComparePlace, InclusionAnswer, Answered, answered-included, answered-apart, Compared}
-use Rattle.inclusion.specs.Promise.{startSize, cycleSize, secondPairs, inclusionChecks, inclusionVerdict, scratchLeft, InclusionPromise}
-use Rattle.inclusion.specs.declared.Inclusion.{Inclusion}
-use Rattle.inclusion.specs.declared.Inclusion.the-variants.{Included, NotIncluded, Refused}
-use Rattle.inclusion.proofs.Comparing.{moved-marks}
+use Rattle.inclusion.specs.Laying.{SecondRoom, SecondLaid, LaidAnswer}
+use Rattle.comparison.specs.Comparison.{ComparePlace, InclusionAnswer, Answered, answered-included, answered-apart, Compared}
+use Rattle.inclusion.specs.Promise.{startSize, cycleSize, secondPairs, inclusionChecks, inclusionVerdict, inclusionLeft, InclusionPromise}
+use Rattle.comparison.specs.declared.Inclusion.{Inclusion}
+use Rattle.comparison.specs.declared.Inclusion.the-variants.{Refused}
+use Rattle.inclusion.proofs.Laying.{moved-marks}
 
 module _ (bytes second u v entry : List ℕ) where
   -- a short buffer is refused, and all are left as they came
   pub start-short : length u < startSize → InclusionPromise bytes second u u v v entry entry (Refused BufferTooShort 1 0)
   start-short h = record {
-    verdict = first-fails (bufferCheck startSize u) (record { short = h; is-place = refl });
+    verdict = buffer-short h;
     answered = record { start-kept = refl; cycle-kept = refl };
     scratch = sym (simp (lt-ltb (length u) startSize h));
   }
@@ -46,17 +47,16 @@ module _ (bytes second u v entry : List ℕ) where
   module _ (long : startSize ≤ length u) where
     pub cycle-short : length v < cycleSize → InclusionPromise bytes second u u v v entry entry (Refused BufferTooShort 1 0)
     cycle-short h = record {
-      verdict = first-passes (record { nowhere = λ place s. omega (arith, s .short) }) (first-fails (bufferCheck cycleSize v) (record { short = h; is-place = refl }));
+      verdict = buffer-long long (buffer-short h);
       answered = record { start-kept = refl; cycle-kept = refl };
       scratch = sym (simp (le-ltb (length u) startSize long, lt-ltb (length v) cycleSize h));
     }
 
     module _ (wide : cycleSize ≤ length v) where
       after-buffers : {w : Verdict} → FirstFailure (checkedChecks 1 bytes entry ++ secondMarksChecks 2 bytes second) w → FirstFailure (inclusionChecks bytes second u v entry) w
-      after-buffers f =
-          first-passes (record { nowhere = λ place s. omega (arith, s .short) }) (first-passes (record { nowhere = λ place s. omega (arith, s .short) }) f)
+      after-buffers f = buffer-long long (buffer-long wide f)
 
-      left : {exit : List ℕ} → exit ≡ afterCall entry → exit ≡ scratchLeft u v entry
+      left : {exit : List ℕ} → exit ≡ afterCall entry → exit ≡ inclusionLeft u v entry
       left e = e ∙ sym (simp (le-ltb (length u) startSize long, le-ltb (length v) cycleSize wide))
 
       -- the rule is refused
@@ -75,7 +75,7 @@ module _ (bytes second u v entry : List ℕ) where
         pub second-room : SecondRoom mid
         second-room = record { room = checked-room 1 bytes entry p; blank = zeros-behind 1 bytes entry p }
 
-        zeros : (was end : List ℕ) → length was ≡ length mid → end ≡ replicate (length was) 0 → end ≡ scratchLeft u v entry
+        zeros : (was end : List ℕ) → length was ≡ length mid → end ≡ replicate (length was) 0 → end ≡ inclusionLeft u v entry
         zeros was end e z = left (zeros-left 1 bytes entry (p .verdict) was end (e ∙ checked-length (p .scratch)) z)
 
         module _ (answer : Fault) (verdict : FaultAnswer (λ input. secondMarksChecks input bytes second) answer) (laid : List ℕ)

@@ -1,3 +1,3 @@
-pub mod Comparing
+pub mod Laying
 pub mod Calling
 pub mod OneAnswer

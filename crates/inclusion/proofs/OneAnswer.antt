@@ -3,36 +3,31 @@
 use Prim.Native.Nat.{ℕ}
 use mathlib.Core.Path.{_≡_, refl, sym, _∙_}
 use mathlib.Core.List.{List}
-use Rattle.answer.proofs.Order.{AllSingle, single-cons, single-append, one-verdict}
+use Rattle.answer.proofs.Order.{AllSingle, single-at, single-cons, single-append, one-verdict}
 use Rattle.answer.proofs.Verdicts.{same-refusal, not-passed}
 use Rattle.theory.specs.Rules.{Morphism, Pairs}
 use Rattle.theory.specs.Inclusion.{Included, Witness}
 use Rattle.sections.proofs.Laws.{section-single}
 use Rattle.format.specs.Format.{morphismOf, pairsOf}
-use Rattle.format.specs.RuleChecks.{TrailingAt, ShortAt, secondMarksChecks}
+use Rattle.format.proofs.Buffers.{buffer-single}
+use Rattle.format.specs.RuleChecks.{TrailingAt, secondMarksChecks}
 use Rattle.rulefile.proofs.OneVerdict.{marks-single, checked-single}
-use Rattle.inclusion.specs.declared.Inclusion.{Inclusion}
-use Rattle.inclusion.specs.declared.Inclusion.the-variants.{Included as Is-included, NotIncluded, Refused}
-use Rattle.inclusion.specs.Comparing.{InclusionAnswer}
+use Rattle.comparison.specs.declared.Inclusion.{Inclusion}
+use Rattle.comparison.specs.declared.Inclusion.the-variants.{Included as Is-included, NotIncluded, Refused}
+use Rattle.comparison.specs.Comparison.{InclusionAnswer}
 use Rattle.inclusion.specs.Promise.{inclusionChecks, secondPairs, inclusionVerdict, InclusionPromise}
-
-trailing-place : {end : ℕ} {bytes : List ℕ} (p q : ℕ) → TrailingAt end bytes p → TrailingAt end bytes q → p ≡ q
-trailing-place p q a b = a .is-place ∙ sym (b .is-place)
-
-short-place : {needed : ℕ} {buffer : List ℕ} (p q : ℕ) → ShortAt needed buffer p → ShortAt needed buffer q → p ≡ q
-short-place p q a b = a .is-place ∙ sym (b .is-place)
 
 -- each check of a second marks section fails at one place at most
 second-single : (input : ℕ) (rule bytes : List ℕ) → AllSingle (secondMarksChecks input rule bytes)
 unfolding secondMarksChecks
 second-single input rule bytes =
     single-append (section-single _ input 0 bytes)
-    (single-cons (record { one-place = trailing-place }) (marks-single input (morphismOf rule) bytes 0 0 _))
+    (single-cons (single-at (λ place (a : TrailingAt _ _ place). a .is-place)) (marks-single input (morphismOf rule) bytes 0 0 _))
 
 inclusion-single : (bytes second u v entry : List ℕ) → AllSingle (inclusionChecks bytes second u v entry)
 inclusion-single bytes second u v entry =
-    single-cons (record { one-place = short-place })
-    (single-cons (record { one-place = short-place }) (single-append (checked-single 1 bytes entry) (second-single 2 bytes second)))
+    buffer-single
+    (buffer-single (single-append (checked-single 1 bytes entry) (second-single 2 bytes second)))
 
 -- no lasso tells apart markings of which one includes the other
 pub included-or-not : {m : Morphism} {P P′ : Pairs} {u v : List ℕ} → Included m P P′ → Witness m P P′ u v → ⊥

@@ -9,10 +9,10 @@ use Rattle.answer.specs.Checks.{Check, Verdict, passed, refused, FirstFailure}
 use Rattle.theory.specs.Rules.{Pairs, marked}
 use Rattle.format.specs.Format.{morphismOf, pairsOf, marksIn}
 use Rattle.format.specs.RuleChecks.{bufferCheck, secondMarksChecks}
-use Rattle.rulefile.specs.Answers.{checkedChecks, afterCall}
-use Rattle.inclusion.specs.Comparing.{InclusionAnswer}
-use Rattle.inclusion.specs.declared.Inclusion.{Inclusion}
-use Rattle.inclusion.specs.declared.Inclusion.the-variants.{Included, NotIncluded, Refused}
+use Rattle.rulefile.specs.Answers.{checkedChecks, scratchLeft}
+use Rattle.comparison.specs.Comparison.{InclusionAnswer}
+use Rattle.comparison.specs.declared.Inclusion.{Inclusion}
+use Rattle.comparison.specs.declared.Inclusion.the-variants.{Included, NotIncluded, Refused}
 
 -- "Buffers: .. u 64; v 4,224"
 abbrev pub startSize : ℕ
@@ -37,10 +37,10 @@ inclusionVerdict (NotIncluded u v) = passed
 inclusionVerdict (Refused refusal input place) = refused refusal input place
 
 -- scratch as it came where a buffer is short, and else zeros
-abbrev pub scratchLeft : List ℕ → List ℕ → List ℕ → List ℕ
-scratchLeft u v scratch = cond (ltb (length u) startSize) scratch (cond (ltb (length v) cycleSize) scratch (afterCall scratch))
+abbrev pub inclusionLeft : List ℕ → List ℕ → List ℕ → List ℕ
+inclusionLeft u v scratch = cond (ltb (length u) startSize) scratch (scratchLeft cycleSize v scratch)
 
 pub record InclusionPromise (bytes second u-entry u-exit v-entry v-exit entry exit : List ℕ) (answer : Inclusion) : Type 0 where
   pub verdict : FirstFailure (inclusionChecks bytes second u-entry v-entry entry) (inclusionVerdict answer)
   pub answered : InclusionAnswer (morphismOf bytes) (pairsOf bytes) (secondPairs second) u-entry u-exit v-entry v-exit answer
-  pub scratch : exit ≡ scratchLeft u-entry v-entry entry
+  pub scratch : exit ≡ inclusionLeft u-entry v-entry entry

@@ -5,7 +5,7 @@ use mathlib.Core.Bool.{Bool, true, false}
 use mathlib.Core.List.{List}
 use lib.ListN.{length, getD}
 use Rattle.answer.specs.Checks.{Check, passed, refused, FirstFailure}
-use Rattle.finite.proofs.Search.{anyBelow}
+use Rattle.finite.specs.Search.{anyBelow}
 use Rattle.theory.specs.Rules.{Morphism}
 use Rattle.theory.specs.Pairs.{Linked}
 use Rattle.format.specs.Format.{markStart, markCycle, isMark, oneIf}

@@ -8,7 +8,8 @@ use native.Mathlib.Omega.{arith}
 use lib.ListN.{getD}
 use borrow.Author.Tests.{ne-eqb}
 use Rattle.finite.proofs.Tests.{true-T, T-true}
-use Rattle.finite.proofs.Search.{anyBelow, any-zero, any-add-one, any-intro}
+use Rattle.finite.specs.Search.{anyBelow}
+use Rattle.finite.proofs.Search.{any-zero, any-add-one, any-intro}
 use Rattle.buchi.specs.Matrices.{Matrix}
 use Rattle.buchi.proofs.MatrixTests.{returns-at, returns-from, recurs-test}
 use Rattle.matrices.specs.Bytes.{initialAt, matrixFrom}

@@ -5,7 +5,8 @@ use mathlib.Core.Bool.{_&&_}
 use mathlib.Core.List.{List, [], _∷_}
 use lib.ListN.{getD}
 use lib.Dec.{eqb, leb}
-use Rattle.finite.proofs.Search.{anyBelow, allBelow, leastBelow, leastFrom}
+use Rattle.finite.specs.Search.{anyBelow}
+use Rattle.finite.proofs.Search.{allBelow, leastBelow, leastFrom}
 use Rattle.theory.specs.Rules.{Morphism, Pairs}
 use Rattle.theory.proofs.Powers.{times, settled, settling, idempotent-of}
 use Rattle.theory.proofs.Closure.{linked-test, closure-look, closure-test, acceptance}

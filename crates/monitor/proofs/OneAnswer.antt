@@ -2,7 +2,7 @@
 use Prim.Native.Nat.{ℕ}
 use mathlib.Core.Path.{_≡_, sym, ap, _∙_}
 use mathlib.Core.List.{List}
-use Rattle.answer.proofs.Order.{AllSingle, single-nil, single-cons, single-append, one-verdict}
+use Rattle.answer.proofs.Order.{AllSingle, single-nil, single-at, single-cons, single-append, one-verdict}
 use Rattle.answer.proofs.Verdicts.{same-refusal, not-passed}
 use Rattle.format.specs.Format.{morphismOf}
 use Rattle.rulefile.proofs.OneVerdict.{checked-single}
@@ -12,23 +12,16 @@ use Rattle.monitor.specs.declared.Moved.the-variants.{To, Refused}
 use Rattle.monitorstate.specs.declared.Ready.{Ready}
 use Rattle.monitorstate.specs.declared.Ready.the-variants.{Rule, Refused as Not-ready}
 use Rattle.monitor.specs.Moves.{LoneForeignAt, afterEvent, afterMark}
-use Rattle.monitorstate.specs.Monitor.{StrayAt}
 use Rattle.monitorstate.specs.Ready.{monitorChecks, readyVerdict, ReadyShape, ReadyPromise}
 use Rattle.monitor.specs.Promises.{eventChecks, movedVerdict, HandsBack, EventPromise, MarkPromise}
-
--- stray values and a lone letter have one place each
-stray-place : {n : ℕ} {f : Monitor} (p q : ℕ) → StrayAt n f p → StrayAt n f q → p ≡ q
-stray-place p q a b = a .is-place ∙ sym (b .is-place)
-
-letter-place : {k letter : ℕ} (p q : ℕ) → LoneForeignAt k letter p → LoneForeignAt k letter q → p ≡ q
-letter-place p q a b = a .is-place ∙ sym (b .is-place)
+use Rattle.monitorstate.specs.Monitor.{StrayAt}
 
 -- each check of a call on a monitor fails at one place at most
 pub monitor-single : (bytes : List ℕ) (f : Monitor) (entry : List ℕ) → AllSingle (monitorChecks bytes f entry)
-monitor-single bytes f entry = single-append (checked-single 1 bytes entry) (single-cons (record { one-place = stray-place }) single-nil)
+monitor-single bytes f entry = single-append (checked-single 1 bytes entry) (single-cons (single-at (λ place (a : StrayAt _ _ place). a .is-place)) single-nil)
 
 pub event-single : (bytes : List ℕ) (f : Monitor) (letter : ℕ) (entry : List ℕ) → AllSingle (eventChecks bytes f letter entry)
-event-single bytes f letter entry = single-append (monitor-single bytes f entry) (single-cons (record { one-place = letter-place }) single-nil)
+event-single bytes f letter entry = single-append (monitor-single bytes f entry) (single-cons (single-at (λ place (a : LoneForeignAt _ _ place). a .is-place)) single-nil)
 
 -- answers with one verdict that hand back one monitor
 same-moved : (f next : Monitor) (a b : Moved) → HandsBack f next a → HandsBack f next b → movedVerdict a ≡ movedVerdict b → a ≡ b

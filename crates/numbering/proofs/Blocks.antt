@@ -7,7 +7,8 @@ use mathlib.Core.List.{List}
 use native.Mathlib.Omega.{arith}
 use lib.ListN.{getD, replicate, length-replicate, getD-replicate}
 use Rattle.finite.proofs.Numbers.{Compared, lesser, level, greater, compared}
-use Rattle.finite.proofs.Shortlex.{NotAfter, before-not-after}
+use Rattle.finite.specs.Shortlex.{NotAfter}
+use Rattle.finite.proofs.Shortlex.{before-not-after}
 use Rattle.theory.specs.Rules.{Morphism, Lawful, AllReached, element}
 use Rattle.table.specs.Table.{Table, morphismAt}
 use Rattle.reach.specs.Reach.{placeAt, entryAt, Empty, WordOrder}

@@ -10,8 +10,8 @@ use Rattle.classes.specs.declared.Listed.{Listed}
 use Rattle.classes.specs.declared.Listed.the-variants.{Counts, Refused as Not-listed}
 use Rattle.complement.specs.declared.Complemented.{Complemented}
 use Rattle.complement.specs.declared.Complemented.the-variants.{Rule as Complement-rule, Refused as Not-complemented}
-use Rattle.inclusion.specs.declared.Inclusion.{Inclusion}
-use Rattle.inclusion.specs.declared.Inclusion.the-variants.{Included, NotIncluded, Refused as Not-compared}
+use Rattle.comparison.specs.declared.Inclusion.{Inclusion}
+use Rattle.comparison.specs.declared.Inclusion.the-variants.{Included, NotIncluded, Refused as Not-compared}
 use Rattle.lasso.specs.declared.Membership.{Membership}
 use Rattle.lasso.specs.declared.Membership.the-variants.{Accepted, NotAccepted, Refused as Not-a-member}
 use Rattle.monitorstate.specs.declared.Monitor.{Monitor}

@@ -8,7 +8,7 @@ use mathlib.Core.List.{List}
 use native.Mathlib.Omega.{arith}
 use lib.ListN.{length, getD}
 use Rattle.finite.proofs.Numbers.{le-or-lt, Compared, lesser, level, greater, compared}
-use Rattle.finite.proofs.Shortlex.{Before, NotAfter}
+use Rattle.finite.specs.Shortlex.{Before, NotAfter}
 use Rattle.finite.proofs.FirstWords.{after, firstWord, FirstWord, first-word, word-short, words-increase, word-entry}
 use Rattle.finite.proofs.Worklist.{Entry}
 use Rattle.theory.specs.Words.{Over, over-nil, over-cons}

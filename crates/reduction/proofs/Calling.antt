@@ -1,26 +1,26 @@
 -- What the call for the reduction promises, from what the check of the rule, the verdict on its strength and the writing of its
 -- reduction promise. Assumes nothing.
 use Prim.Native.Nat.{ℕ, _≤_, _<_}
-use mathlib.Core.Path.{_≡_, refl, sym, _∙_, subst}
+use mathlib.Core.Path.{_≡_, refl, subst}
 use mathlib.Core.Bool.{Bool, true, false}
-use mathlib.Core.List.{List, [], _∷_, _++_}
+use mathlib.Core.List.{List, [], _∷_}
 use native.Mathlib.Omega.{arith}
-use borrow.Author.Tests.{lt-ltb, le-ltb}
 use lib.ListN.{length, replicate}
 use Rattle.answer.specs.declared.Refusal.{Refusal}
 use Rattle.answer.specs.declared.Refusal.the-variants.{NotStrong, BufferTooShort}
-use Rattle.answer.specs.Checks.{Verdict, FirstFailure}
 use Rattle.answer.proofs.Order.{first-passes, first-fails, none-left, passed-before, refused-before}
 use Rattle.theory.specs.Rules.{Morphism}
 use Rattle.theory.specs.Acceptance.{Strong}
 use Rattle.theory.proofs.Closure.{closure-test}
 use Rattle.table.specs.Table.{morphismAt}
 use Rattle.format.specs.Format.{elementsOf, morphismOf, pairsOf}
-use Rattle.format.specs.RuleChecks.{bufferCheck}
+use Rattle.format.specs.RuleChecks.{ruleSize}
+use Rattle.format.proofs.Buffers.{buffer-short, buffer-long}
 use Rattle.layout.specs.declared.Shape.{Shape}
 use Rattle.rulefile.specs.declared.Checked.the-variants.{Rule as Checked-rule, Refused as Checked-refused}
-use Rattle.rulefile.specs.Answers.{CheckPromise, checkedChecks, afterCall}
+use Rattle.rulefile.specs.Answers.{CheckPromise, checkedChecks}
 use Rattle.rulefile.specs.GoodRule.{GoodRule}
+use Rattle.rulefile.proofs.Left.{short-left, long-left}
 use Rattle.rulefile.proofs.Calls.{called-good, shape-morphism}
 use Rattle.search.specs.Search.{Stands}
 use Rattle.strength.specs.Deciding.{StrongIf, Decided}
@@ -28,31 +28,25 @@ use Rattle.strength.proofs.Calling.{checked-lawful, checked-reached, checked-li
 use Rattle.reduction.specs.declared.Reduced.the-variants.{Rule as Is-rule, Refused}
 use Rattle.blockrule.specs.Steps.{ReducePlace, ReducedWritten}
 use Rattle.strength.specs.Weak.{weakCheck}
-use Rattle.reduction.specs.Promise.{ruleSize, reduceChecks, ruleOf, ReducedTo, scratchAfter, ReducePromise}
+use Rattle.reduction.specs.Promise.{ruleOf, ReducedTo, ReducePromise}
 use Rattle.reduction.proofs.Reducing.{reduces}
 
 -- a short buffer is refused, and both are left as they came
 pub out-short : (bytes out scratch : List ℕ) → length out < ruleSize → ReducePromise bytes out out scratch scratch (Refused BufferTooShort 1 0)
 out-short bytes out scratch h = record {
-  verdict = first-fails (bufferCheck ruleSize out) (record { short = h; is-place = refl });
+  verdict = buffer-short h;
   answered = refl;
-  scratch = sym (simp (lt-ltb (length out) ruleSize h));
+  scratch = short-left ruleSize out scratch h;
 }
 
 module _ (bytes out entry : List ℕ) (long : ruleSize ≤ length out) where
-  after-buffer : {v : Verdict} → FirstFailure (checkedChecks 1 bytes entry ++ weakCheck bytes ∷ []) v → FirstFailure (reduceChecks bytes out entry) v
-  after-buffer f = first-passes (record { nowhere = λ place s. omega (arith, s .short) }) f
-
-  left : {exit : List ℕ} → exit ≡ afterCall entry → exit ≡ scratchAfter out entry
-  left e = e ∙ sym (simp (le-ltb (length out) ruleSize long))
-
   -- the check's refusal is handed on
   pub reduce-refused : {mid : List ℕ} {r : Refusal} {input place : ℕ} → CheckPromise 1 bytes entry mid (Checked-refused r input place)
       → ReducePromise bytes out out entry mid (Refused r input place)
   reduce-refused p = record {
-    verdict = after-buffer (refused-before (checkedChecks 1 bytes entry) (weakCheck bytes ∷ []) (p .verdict));
+    verdict = buffer-long long (refused-before (checkedChecks 1 bytes entry) (weakCheck bytes ∷ []) (p .verdict));
     answered = refl;
-    scratch = left (p .scratch);
+    scratch = long-left ruleSize out entry long (p .scratch);
   }
 
   -- of a checked rule
@@ -76,10 +70,10 @@ module _ (bytes out entry : List ℕ) (long : ruleSize ≤ length out) where
     -- a rule that is not strong is refused
     pub reduce-weak : (end : List ℕ) → end ≡ replicate (length decided) 0 → answer ≡ false → ReducePromise bytes out out entry end (Refused NotStrong 1 0)
     reduce-weak end z e = record {
-      verdict = after-buffer (passed-before (checkedChecks 1 bytes entry) (weakCheck bytes ∷ []) (p .verdict)
+      verdict = buffer-long long (passed-before (checkedChecks 1 bytes entry) (weakCheck bytes ∷ []) (p .verdict)
           (first-fails (weakCheck bytes) (record { weak = subst (StrongIf (morphismOf bytes) (pairsOf bytes)) e (decided-file 1 bytes entry p d); is-place = refl })));
       answered = refl;
-      scratch = left (decided-left 1 bytes entry p d decided end refl z);
+      scratch = long-left ruleSize out entry long (decided-left 1 bytes entry p d decided end refl z);
     }
 
     -- of a strong rule the reduction was written
@@ -104,8 +98,8 @@ module _ (bytes out entry : List ℕ) (long : ruleSize ≤ length out) where
 
       pub reduce-strong : (end : List ℕ) → end ≡ replicate (length exit) 0 → ReducePromise bytes out after entry end (Is-rule length-of)
       reduce-strong end z = record {
-        verdict = after-buffer (passed-before (checkedChecks 1 bytes entry) (weakCheck bytes ∷ []) (p .verdict)
+        verdict = buffer-long long (passed-before (checkedChecks 1 bytes entry) (weakCheck bytes ∷ []) (p .verdict)
             (first-passes (record { nowhere = λ place f. f .weak strong }) none-left));
         answered = reduced-to;
-        scratch = left (decided-left 1 bytes entry p d exit end (w .same-length) z);
+        scratch = long-left ruleSize out entry long (decided-left 1 bytes entry p d exit end (w .same-length) z);
       }

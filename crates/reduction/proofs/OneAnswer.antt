@@ -3,30 +3,16 @@
 use Prim.Native.Nat.{ℕ}
 use mathlib.Core.Path.{_≡_, refl, sym, ap, _∙_}
 use mathlib.Core.List.{List}
-use Rattle.answer.proofs.Order.{AllSingle, single-nil, single-cons, single-append, one-verdict}
+use Rattle.answer.proofs.Order.{one-verdict}
 use Rattle.answer.proofs.Verdicts.{same-refusal, not-passed}
 use Rattle.theory.specs.Smallest.{SameLassos}
-use Rattle.format.specs.RuleChecks.{ShortAt}
-use Rattle.rulefile.proofs.OneVerdict.{checked-single}
+use Rattle.strength.proofs.OneAnswer.{strong-rule-single}
 use Rattle.rulewriter.specs.File.{fileOf}
 use Rattle.rulewriter.proofs.Same.{one-length, one-buffer}
-use Rattle.strength.specs.Weak.{WeakAt}
 use Rattle.reduction.specs.declared.Reduced.{Reduced}
 use Rattle.reduction.specs.declared.Reduced.the-variants.{Rule as Is-rule, Refused}
-use Rattle.reduction.specs.Promise.{reduceChecks, reducedVerdict, ruleOf, ReducedTo, ReducedAnswer, ReducePromise}
+use Rattle.reduction.specs.Promise.{reducedVerdict, ruleOf, ReducedTo, ReducedAnswer, ReducePromise}
 use Rattle.reduction.proofs.SameReductions.{reductions-file}
-
-short-place : {needed : ℕ} {buffer : List ℕ} (p q : ℕ) → ShortAt needed buffer p → ShortAt needed buffer q → p ≡ q
-short-place p q a b = a .is-place ∙ sym (b .is-place)
-
-weak-place : {bytes : List ℕ} (p q : ℕ) → WeakAt bytes p → WeakAt bytes q → p ≡ q
-weak-place p q a b = a .is-place ∙ sym (b .is-place)
-
--- each check fails at one place at most
-pub reduce-single : (bytes out entry : List ℕ) → AllSingle (reduceChecks bytes out entry)
-reduce-single bytes out entry =
-    single-cons (record { one-place = short-place })
-    (single-append (checked-single 1 bytes entry) (single-cons (record { one-place = weak-place }) single-nil))
 
 module _ {bytes before after after′ : List ℕ} {r r′ : ℕ} (a : ReducedTo bytes before after r) (b : ReducedTo bytes before after′ r′) where
   -- the rule of the file is the same for either proof that its table is lawful
@@ -47,7 +33,7 @@ module _ (bytes before : List ℕ) {after after′ : List ℕ} where
 module _ {bytes before after after′ entry exit exit′ : List ℕ} where
   pub one-answer : (answer answer′ : Reduced) → ReducePromise bytes before after entry exit answer → ReducePromise bytes before after′ entry exit′ answer′
       → (answer ≡ answer′) × (after ≡ after′)
-  one-answer answer answer′ p q = same-answer bytes before answer answer′ (p .answered) (q .answered) (one-verdict (reduce-single bytes before entry) (p .verdict) (q .verdict))
+  one-answer answer answer′ p q = same-answer bytes before answer answer′ (p .answered) (q .answered) (one-verdict (strong-rule-single _ before bytes entry) (p .verdict) (q .verdict))
 
   pub one-scratch : {answer answer′ : Reduced} → ReducePromise bytes before after entry exit answer → ReducePromise bytes before after′ entry exit′ answer′ → exit ≡ exit′
   one-scratch p q = p .scratch ∙ sym (q .scratch)

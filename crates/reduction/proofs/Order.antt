@@ -2,7 +2,7 @@
 use Prim.Native.Nat.{ℕ, _<_}
 use mathlib.Core.Path.{_≡_, refl, sym, ap, _∙_}
 use mathlib.Core.List.{List}
-use Rattle.finite.proofs.Shortlex.{NotAfter}
+use Rattle.finite.specs.Shortlex.{NotAfter}
 use Rattle.theory.specs.Words.{Over}
 use Rattle.theory.specs.Rules.{Morphism, Lawful, Value, element, value}
 use Rattle.theory.proofs.Values.{Inside, inside-none, inside-element, element-same, element-apart, value-inside}

@@ -1,25 +1,18 @@
 -- What the call for the reduction promises. Assumes nothing.
 use Prim.Native.Nat.{ℕ}
 use mathlib.Core.Path.{_≡_}
-use mathlib.Core.Bool.{cond}
 use mathlib.Core.List.{List, [], _∷_, _++_}
-use lib.ListN.{length}
-use lib.Dec.{ltb}
 use Rattle.answer.specs.Checks.{Check, Verdict, passed, refused, FirstFailure}
 use Rattle.theory.specs.Rules.{Rule, Lawful}
 use Rattle.theory.specs.Smallest.{Reduction}
 use Rattle.firstwords.specs.FirstWords.{ByFirstWords}
 use Rattle.format.specs.Format.{morphismOf, markingOf}
-use Rattle.format.specs.RuleChecks.{bufferCheck}
-use Rattle.rulefile.specs.Answers.{checkedChecks, afterCall}
+use Rattle.format.specs.RuleChecks.{ruleSize, bufferCheck}
+use Rattle.rulefile.specs.Answers.{checkedChecks, scratchLeft}
 use Rattle.rulewriter.specs.ReadBack.{WrittenRule}
 use Rattle.strength.specs.Weak.{weakCheck}
 use Rattle.reduction.specs.declared.Reduced.{Reduced}
 use Rattle.reduction.specs.declared.Reduced.the-variants.{Rule as Is-rule, Refused}
-
--- "Buffers: rule out 12,308 bytes"
-abbrev pub ruleSize : ℕ
-ruleSize = 12308
 
 -- "First 13", of both buffers, then the rule's own checks, then 12
 abbrev pub reduceChecks : List ℕ → List ℕ → List ℕ → List Check
@@ -48,11 +41,8 @@ abbrev pub ReducedAnswer : List ℕ → List ℕ → List ℕ → Reduced → Ty
 ReducedAnswer bytes before after (Is-rule end) = ReducedTo bytes before after end
 ReducedAnswer bytes before after (Refused refusal input place) = after ≡ before
 
--- scratch as it came where a buffer is short, and else zeros
-abbrev pub scratchAfter : List ℕ → List ℕ → List ℕ
-scratchAfter out scratch = cond (ltb (length out) ruleSize) scratch (afterCall scratch)
-
+-- scratch as every call leaves it
 pub record ReducePromise (bytes before after entry exit : List ℕ) (answer : Reduced) : Type 0 where
   pub verdict : FirstFailure (reduceChecks bytes before entry) (reducedVerdict answer)
   pub answered : ReducedAnswer bytes before after answer
-  pub scratch : exit ≡ scratchAfter before entry
+  pub scratch : exit ≡ scratchLeft ruleSize before entry

@@ -4,6 +4,7 @@ pub mod TablePassed
 pub mod Faults
 pub mod Content
 pub mod Promise
+pub mod Left
 pub mod MarksPassed
 pub mod CheckedRule
 pub mod OneVerdict

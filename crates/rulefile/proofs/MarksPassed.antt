@@ -11,7 +11,8 @@ use Rattle.answer.specs.Checks.{passed, FirstFailure}
 use Rattle.answer.proofs.Order.{passes-head, passes-tail}
 use Rattle.finite.proofs.Tests.{T-dec}
 use Rattle.finite.proofs.Numbers.{le-or-lt}
-use Rattle.finite.proofs.Search.{anyBelow, any-elim, Found}
+use Rattle.finite.specs.Search.{anyBelow}
+use Rattle.finite.proofs.Search.{any-elim, Found}
 use Rattle.theory.specs.Rules.{Morphism, level, marked}
 use Rattle.theory.specs.Pairs.{Linked, LinkedOnly}
 use Rattle.theory.proofs.Closure.{linked-test, linked-intro, linked-elim}

@@ -1,29 +1,17 @@
 -- Each check of a rule file fails at one place at most, so the checks have one verdict only. Assumes nothing.
 use Prim.Native.Nat.{ℕ, zero, suc}
-use mathlib.Core.Path.{_≡_, sym, _∙_}
+use mathlib.Core.Path.{_≡_}
 use mathlib.Core.List.{List}
-use Rattle.answer.proofs.Order.{AllSingle, single-nil, single-cons, single-append, one-verdict}
+use Rattle.answer.proofs.Order.{AllSingle, single-nil, single-at, single-cons, single-append, one-verdict}
 use Rattle.theory.specs.Rules.{Morphism}
 use Rattle.table.proofs.Facts.{not-associative-unique, unsettled-unique}
 use Rattle.reach.proofs.Words.{unreached-unique}
 use Rattle.sections.proofs.Laws.{section-single}
 use Rattle.format.specs.Format.{marksAt, marksOf, morphismOf}
-use Rattle.format.specs.RuleChecks.{layoutChecks, tableChecks, markChecks, powerChecks, contentChecks, ruleChecks, TrailingAt, UnlinkedAt, RepeatedAt, ShortAt}
+use Rattle.format.proofs.Buffers.{buffer-single}
+use Rattle.format.specs.RuleChecks.{UnlinkedAt, TrailingAt, RepeatedAt, layoutChecks, tableChecks, markChecks, powerChecks, contentChecks, ruleChecks}
 use Rattle.rulefile.specs.declared.Checked.{Checked}
 use Rattle.rulefile.specs.Answers.{checkedChecks, verdictOf, CheckPromise}
-
--- bytes that follow, an unlinked mark, a repeated mark and a short buffer have one place each
-trailing-place : {end : ℕ} {bytes : List ℕ} (p q : ℕ) → TrailingAt end bytes p → TrailingAt end bytes q → p ≡ q
-trailing-place p q a b = a .is-place ∙ sym (b .is-place)
-
-unlinked-place : {m : Morphism} {bytes : List ℕ} {at i : ℕ} (p q : ℕ) → UnlinkedAt m bytes at i p → UnlinkedAt m bytes at i q → p ≡ q
-unlinked-place p q a b = a .is-place ∙ sym (b .is-place)
-
-repeated-place : {bytes : List ℕ} {at i : ℕ} (p q : ℕ) → RepeatedAt bytes at i p → RepeatedAt bytes at i q → p ≡ q
-repeated-place p q a b = a .is-place ∙ sym (b .is-place)
-
-short-place : {needed : ℕ} {buffer : List ℕ} (p q : ℕ) → ShortAt needed buffer p → ShortAt needed buffer q → p ≡ q
-short-place p q a b = a .is-place ∙ sym (b .is-place)
 
 module _ (input : ℕ) where
   -- 5, 6
@@ -37,8 +25,8 @@ module _ (input : ℕ) where
   unfolding markChecks
   marks-single m bytes at i zero = single-nil
   marks-single m bytes at i (suc count) =
-      single-cons (record { one-place = unlinked-place })
-      (single-cons (record { one-place = repeated-place }) (marks-single m bytes at (suc i) count))
+      single-cons (single-at (λ place (a : UnlinkedAt _ _ _ _ place). a .is-place))
+      (single-cons (single-at (λ place (a : RepeatedAt _ _ _ place). a .is-place)) (marks-single m bytes at (suc i) count))
 
   -- 9
   powers-single : (m : Morphism) → AllSingle (powerChecks input m)
@@ -52,7 +40,7 @@ module _ (input : ℕ) where
 
     content-single : AllSingle (contentChecks input bytes)
     content-single =
-        single-cons (record { one-place = trailing-place })
+        single-cons (single-at (λ place (a : TrailingAt _ _ place). a .is-place))
         (single-append (table-single (morphismOf bytes)) (single-append (marks-single (morphismOf bytes) bytes (marksAt bytes) 0 (marksOf bytes)) (powers-single (morphismOf bytes))))
 
     -- every check of a rule file fails at one place at most
@@ -62,7 +50,7 @@ module _ (input : ℕ) where
 
     -- also with that of the scratch before them
     pub checked-single : (scratch : List ℕ) → AllSingle (checkedChecks input bytes scratch)
-    checked-single scratch = single-cons (record { one-place = short-place }) rule-single
+    checked-single scratch = buffer-single rule-single
 
     -- so two answers for the same bytes have the same number, input and place, or are both a rule
     pub check-one-verdict : {entry exit exit′ : List ℕ} {answer answer′ : Checked} → CheckPromise input bytes entry exit answer

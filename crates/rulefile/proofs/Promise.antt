@@ -1,16 +1,17 @@
 -- What each way through the whole check promises. Assumes nothing.
 use Prim.Native.Nat.{ℕ, _≤_, _<_}
-use mathlib.Core.Path.{_≡_, refl, sym, ap, _∙_, subst}
+use mathlib.Core.Path.{_≡_, sym, ap, _∙_, subst}
 use mathlib.Core.List.{List}
 use native.Mathlib.Omega.{arith}
 use borrow.Author.Tests.{lt-ltb, le-ltb}
 use lib.ListN.{length, replicate, length-replicate}
 use Rattle.answer.specs.declared.Refusal.{Refusal}
 use Rattle.answer.specs.declared.Refusal.the-variants.{BufferTooShort}
-use Rattle.answer.specs.Checks.{Verdict, passed, refused, FirstFailure}
-use Rattle.answer.proofs.Order.{first-passes, first-fails, refused-before, passed-before}
+use Rattle.answer.specs.Checks.{passed, refused, FirstFailure}
+use Rattle.answer.proofs.Order.{refused-before, passed-before}
 use Rattle.format.specs.Format.{elementsOf, markingOf}
-use Rattle.format.specs.RuleChecks.{layoutChecks, contentChecks, ruleChecks, bufferCheck, scratchSize}
+use Rattle.format.proofs.Buffers.{buffer-short, buffer-long}
+use Rattle.format.specs.RuleChecks.{layoutChecks, contentChecks, ruleChecks, scratchSize}
 use Rattle.layout.specs.declared.Shape.{Shape}
 use Rattle.layout.specs.declared.Layout.{Layout}
 use Rattle.layout.specs.declared.Layout.the-variants.{Read, Refused as Layout-refused}
@@ -19,13 +20,13 @@ use Rattle.markchecks.specs.declared.Fault.{Fault}
 use Rattle.markchecks.specs.declared.Fault.the-variants.{Nothing, Refused as Fault-refused}
 use Rattle.rulefile.specs.declared.Checked.the-variants.{Rule, Refused}
 use Rattle.markchecks.specs.Faults.{MarksLaid}
-use Rattle.rulefile.specs.Answers.{afterCall, Blank, ContentAnswer, CheckPromise, checkedChecks}
+use Rattle.rulefile.specs.Answers.{afterCall, Blank, ContentAnswer, CheckPromise}
 
 -- a short scratch is left as it came
 pub short-scratch : (input : ℕ) (bytes scratch : List ℕ) → length scratch < scratchSize → CheckPromise input bytes scratch scratch (Refused BufferTooShort 1 0)
 unfolding afterCall
 short-scratch input bytes scratch h = record {
-  verdict = first-fails (bufferCheck scratchSize scratch) (record { short = h; is-place = refl });
+  verdict = buffer-short h;
   scratch = sym (simp (lt-ltb (length scratch) scratchSize h));
 }
 
@@ -47,28 +48,25 @@ blank-zeros entry now h e =
     record { room = omega arith; zeros = e ∙ ap (λ (n : ℕ). replicate n 0) (sym l) }
 
 module _ (input : ℕ) (bytes entry : List ℕ) (h : scratchSize ≤ length entry) where
-  after-buffer : {v : Verdict} → FirstFailure (ruleChecks input bytes) v → FirstFailure (checkedChecks input bytes entry) v
-  after-buffer f = first-passes (record { nowhere = λ place s. omega (arith, s .short) }) f
-
   -- a section refuses
   pub layout-promise : {exit : List ℕ} {r : Refusal} {place : ℕ} → exit ≡ replicate (length entry) 0
       → ((input : ℕ) → FirstFailure (layoutChecks input bytes) (refused r input place)) → CheckPromise input bytes entry exit (Refused r input place)
   unfolding ruleChecks
-  layout-promise z f = record { verdict = after-buffer (refused-before _ _ (f input)); scratch = z ∙ zeros-after entry h }
+  layout-promise z f = record { verdict = buffer-long h (refused-before _ _ (f input)); scratch = z ∙ zeros-after entry h }
 
   module _ {shape : Shape} (p : LayoutPassed bytes shape) where
     -- the contents refuse
     pub content-promise : {exit : List ℕ} {r : Refusal} {place : ℕ} → exit ≡ replicate (length entry) 0
         → ((input : ℕ) → FirstFailure (contentChecks input bytes) (refused r input place)) → CheckPromise input bytes entry exit (Refused r input place)
     unfolding ruleChecks
-    content-promise z f = record { verdict = after-buffer (passed-before _ _ (p .verdict input) (f input)); scratch = z ∙ zeros-after entry h }
+    content-promise z f = record { verdict = buffer-long h (passed-before _ _ (p .verdict input) (f input)); scratch = z ∙ zeros-after entry h }
 
     -- every check passes
     pub rule-promise : {zeros exit : List ℕ} → zeros ≡ replicate (length entry) 0 → ((input : ℕ) → FirstFailure (contentChecks input bytes) passed)
         → MarksLaid (markingOf bytes) (elementsOf bytes) zeros exit → CheckPromise input bytes entry exit (Rule shape)
     unfolding ruleChecks
     rule-promise {zeros} {exit} z f l = record {
-      verdict = after-buffer (passed-before _ _ (p .verdict input) (f input));
+      verdict = buffer-long h (passed-before _ _ (p .verdict input) (f input));
       scratch = record { shape-is = p .shape-is; marks = subst (λ (x : List ℕ). MarksLaid (markingOf bytes) (elementsOf bytes) x exit) z l };
     }
 

@@ -42,6 +42,10 @@ verdictOf (Checked-refused refusal input place) = refused refusal input place
 unfoldable pub afterCall : List ℕ → List ℕ
 afterCall scratch = cond (ltb (length scratch) scratchSize) scratch (replicate (length scratch) 0)
 
+-- that of a call which needs another buffer too: as it came where that buffer is short
+abbrev pub scratchLeft : ℕ → List ℕ → List ℕ → List ℕ
+scratchLeft needed buffer scratch = cond (ltb (length buffer) needed) scratch (afterCall scratch)
+
 -- a checked rule: its counts, and scratch holds the marks, a byte for each pair, and nothing else
 pub record RuleChecked (bytes : List ℕ) (shape : Shape) (entry exit : List ℕ) : Type 0 where
   pub shape-is : IsShape bytes shape

@@ -10,7 +10,7 @@ use native.Mathlib.Nat.{add-zero, zero-add, suc-add, eq-or-lt-of-le}
 use lib.Dec.{T}
 use lib.ListN.{length, getD}
 use Rattle.finite.proofs.Tests.{true-T}
-use Rattle.finite.proofs.Select.{selectFrom}
+use Rattle.finite.specs.Select.{selectFrom}
 
 -- where a number stands in a list
 pub record Place (xs : List ℕ) (x : ℕ) : Type 0 where

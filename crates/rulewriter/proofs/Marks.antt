@@ -10,8 +10,9 @@ use lib.ListN.{length, getD}
 use lib.Arith.{digits-lt, digits-div, digits-mod}
 use mir.Facts.{yes-eqb}
 use Rattle.finite.proofs.Tests.{T-and, T-and-left, T-and-right, tests-equal}
-use Rattle.finite.proofs.Search.{anyBelow, any-intro, any-elim}
-use Rattle.finite.proofs.Select.{select}
+use Rattle.finite.specs.Search.{anyBelow}
+use Rattle.finite.proofs.Search.{any-intro, any-elim}
+use Rattle.finite.specs.Select.{select}
 use Rattle.theory.specs.Rules.{Morphism, Marking}
 use Rattle.format.specs.Format.{marksAt, marksOf, isMark, oneIf, marksIn, markingOf}
 use Rattle.rulewriter.specs.File.{isMarked, markNumbers, fileOf}

@@ -10,7 +10,7 @@ use lib.Dec.{ltb}
 use lib.ListN.{length, getD, set}
 use lib.Arith.{digits-div, digits-mod}
 use borrow.Author.Tests.{lt-ltb, le-ltb}
-use Rattle.finite.proofs.Select.{select, selectFrom}
+use Rattle.finite.specs.Select.{select, selectFrom}
 use Rattle.theory.specs.Rules.{Morphism, Marking}
 use Rattle.rulewriter.specs.File.{isMarked, markNumbers, pairBytes, marksBytes}
 use Rattle.rulewriter.specs.Writing.{Written, sized, tableMarks, pairIfMarked, pairsFrom}

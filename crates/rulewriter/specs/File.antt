@@ -5,7 +5,7 @@ use mathlib.Core.Bool.{Bool}
 use mathlib.Core.List.{List, [], _∷_, _++_}
 use lib.ListN.{length}
 use lib.Dec.{ltb}
-use Rattle.finite.proofs.Select.{select}
+use Rattle.finite.specs.Select.{select}
 use Rattle.theory.specs.Rules.{Morphism, Marking}
 
 -- f at i, i + 1, .., n values

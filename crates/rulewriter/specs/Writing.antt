@@ -6,7 +6,7 @@ use mathlib.Core.Bool.{cond}
 use mathlib.Core.List.{List, [], _∷_, _++_}
 use lib.Dec.{ltb}
 use lib.ListN.{length, getD, take, drop}
-use Rattle.finite.proofs.Select.{selectFrom}
+use Rattle.finite.specs.Select.{selectFrom}
 use Rattle.theory.specs.Rules.{Morphism, Marking}
 use Rattle.rulewriter.specs.File.{isMarked, pairBytes, marksBytes, fileOf}
 

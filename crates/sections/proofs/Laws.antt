@@ -1,7 +1,7 @@
 -- The checks of a section: what each way through the reading of its count and of its entries shows of them, and what a verdict
 -- on its count or on its entries says of the whole section. Assumes nothing.
 use Prim.Native.Nat.{ℕ, zero, suc, _+_, _≤_, _<_}
-use mathlib.Core.Path.{_≡_, refl, sym, _∙_, subst}
+use mathlib.Core.Path.{_≡_, refl, sym, subst}
 use mathlib.Core.Logic.{_⊎_, inl, inr, ⊎-elim}
 use mathlib.Core.List.{List}
 use native.Mathlib.Omega.{arith}
@@ -10,7 +10,7 @@ use borrow.Author.Count.{below-more}
 use lib.ListN.{length, getD}
 use Rattle.answer.specs.declared.Refusal.the-variants.{Truncated, CountOutOfRange, EntryOutOfRange}
 use Rattle.answer.specs.Checks.{Verdict, passed, numbered, refused, FirstFailure}
-use Rattle.answer.proofs.Order.{first-passes, first-fails, none-left, refused-before, passed-before, passes-head, passes-tail, AllSingle, single-nil, single-cons}
+use Rattle.answer.proofs.Order.{first-passes, first-fails, none-left, refused-before, passed-before, passes-head, passes-tail, AllSingle, single-nil, single-at, single-cons}
 use Rattle.sections.specs.Sections.{CountWidth, Section, countBytes, countAt, TruncatedAt, CountOutAt, EntryOutAt, countChecks, entryChecks, sectionChecks}
 use Rattle.sections.specs.declared.Found.{Found}
 use Rattle.sections.specs.declared.Found.the-variants.{At, Nothing}
@@ -27,14 +27,6 @@ not-cut : {needed at : ℕ} {rest : List ℕ} → ((place : ℕ) → TruncatedAt
 not-cut {needed} {at} {rest} f =
     let g : length rest < needed → ⊥ = λ l. f (at + length rest) (record { short = l; is-place = refl }) in
     omega arith
-
--- the input ends at one place
-cut-place : {needed at : ℕ} {rest : List ℕ} (p q : ℕ) → TruncatedAt needed at rest p → TruncatedAt needed at rest q → p ≡ q
-cut-place p q a b = a .is-place ∙ sym (b .is-place)
-
--- the count stands at one place
-count-place : {count low high at : ℕ} (p q : ℕ) → CountOutAt count low high at p → CountOutAt count low high at q → p ≡ q
-count-place p q a b = a .is-place ∙ sym (b .is-place)
 
 module _ (width : CountWidth) (low high input at : ℕ) (rest : List ℕ) where
   -- no count
@@ -210,7 +202,7 @@ module _ (s : Section) (input at : ℕ) (rest : List ℕ) where
   pub section-single : AllSingle (sectionChecks s input at rest)
   unfolding sectionChecks
   section-single =
-      single-cons (record { one-place = cut-place })
-      (single-cons (record { one-place = count-place })
-      (single-cons (record { one-place = cut-place })
+      single-cons (single-at (λ place (a : TruncatedAt _ _ _ place). a .is-place))
+      (single-cons (single-at (λ place (a : CountOutAt _ _ _ _ place). a .is-place))
+      (single-cons (single-at (λ place (a : TruncatedAt _ _ _ place). a .is-place))
       (single-cons (record { one-place = entry-place rest _ _ _ at }) single-nil)))

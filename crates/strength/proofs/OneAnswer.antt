@@ -1,13 +1,22 @@
 -- Two answers of the call for the same rule and scratch are one, and leave scratch alike. Assumes nothing.
 use Prim.Native.Nat.{ℕ}
 use mathlib.Core.Path.{_≡_, refl, sym, _∙_}
-use mathlib.Core.List.{List}
-use Rattle.answer.proofs.Order.{one-verdict}
+use mathlib.Core.List.{List, [], _∷_, _++_}
+use Rattle.answer.proofs.Order.{AllSingle, single-nil, single-at, single-cons, single-append, one-verdict}
 use Rattle.answer.proofs.Verdicts.{same-refusal, not-passed}
+use Rattle.format.specs.RuleChecks.{bufferCheck}
+use Rattle.format.proofs.Buffers.{buffer-single}
+use Rattle.rulefile.specs.Answers.{checkedChecks}
 use Rattle.rulefile.proofs.OneVerdict.{checked-single}
+use Rattle.strength.specs.Weak.{WeakAt, weakCheck}
 use Rattle.strength.specs.declared.Strength.{Strength}
 use Rattle.strength.specs.declared.Strength.the-variants.{Strong, Weak, Refused}
 use Rattle.strength.specs.Promise.{strengthVerdict, StrengthAnswer, StrongPromise}
+
+-- each check of a call that needs another buffer and asks for a strong rule fails at one place at most
+pub strong-rule-single : (needed : ℕ) (buffer bytes scratch : List ℕ) → AllSingle (bufferCheck needed buffer ∷ (checkedChecks 1 bytes scratch ++ (weakCheck bytes ∷ [])))
+strong-rule-single needed buffer bytes scratch =
+    buffer-single (single-append (checked-single 1 bytes scratch) (single-cons (single-at (λ place (a : WeakAt bytes place). a .is-place)) single-nil))
 
 module _ {bytes entry exit exit′ : List ℕ} where
   pub one-answer : (answer answer′ : Strength) → StrongPromise bytes entry exit answer → StrongPromise bytes entry exit′ answer′ → answer ≡ answer′

@@ -12,15 +12,15 @@ use Rattle.theory.specs.Pairs.{LinkedPairs, Classes}
 use Rattle.theory.specs.Smallest.{SameLassos, Reduction}
 use Rattle.theory.proofs.TableTests.{counted-same}
 use Rattle.format.specs.Format.{morphismOf}
+use Rattle.format.proofs.Buffers.{buffer-single}
 use Rattle.rulefile.proofs.OneVerdict.{checked-single}
-use Rattle.reduction.specs.Promise.{ruleSize, ruleOf}
+use Rattle.reduction.specs.Promise.{ruleOf}
 use Rattle.summary.specs.declared.Summary.{Summary}
 use Rattle.summary.specs.declared.Summary.the-variants.{Counts, Refused}
 use Rattle.summary.specs.Promise.{summaryChecks, summaryVerdict, StrongReduced, ReducesTo, SummaryCounts, SummaryAnswer, workAfter, SummaryPromise}
-use Rattle.summary.proofs.Passing.{buffer-single}
 
 summary-single : (bytes work scratch : List ℕ) → AllSingle (summaryChecks bytes work scratch)
-summary-single bytes work scratch = buffer-single ruleSize work (checked-single 1 bytes scratch)
+summary-single bytes work scratch = buffer-single (checked-single 1 bytes scratch)
 
 -- two reductions of a file's rule have the same lassos, whatever shows its table lawful
 same-reductions : (bytes : List ℕ) {l l′ : Lawful (morphismOf bytes)} {a b : Rule} → Reduction (ruleOf bytes l) a → Reduction (ruleOf bytes l′) b → SameLassos a b

@@ -4,37 +4,40 @@ use mathlib.Core.Path.{_≡_, refl, sym, ap, _∙_, subst}
 use mathlib.Core.Bool.{Bool, true, false}
 use mathlib.Core.List.{List, [], _∷_}
 use native.Mathlib.Omega.{arith}
-use borrow.Author.Tests.{lt-ltb, le-ltb}
+use borrow.Author.Tests.{le-ltb}
 use lib.ListN.{length, getD, replicate, length-replicate}
 use Rattle.answer.specs.declared.Refusal.{Refusal}
 use Rattle.answer.specs.declared.Refusal.the-variants.{BufferTooShort}
-use Rattle.answer.specs.Checks.{Verdict, passed, FirstFailure}
-use Rattle.answer.proofs.Order.{first-passes, first-fails, none-left, passed-before, passed-last, passes-head, passes-tail}
+use Rattle.answer.specs.Checks.{passed, FirstFailure}
+use Rattle.answer.proofs.Order.{first-passes, none-left, passed-before, passed-last, passes-head, passes-tail}
 use Rattle.theory.specs.Acceptance.{Strong}
 use Rattle.theory.proofs.Included.{strong-dec}
 use Rattle.format.specs.Format.{morphismOf, pairsOf}
-use Rattle.format.specs.RuleChecks.{bufferCheck, scratchSize}
+use Rattle.format.specs.RuleChecks.{ruleSize, scratchSize}
+use Rattle.format.proofs.Buffers.{buffer-short, buffer-long, buffer-single}
 use Rattle.inspection.specs.declared.Inspected.{Inspected}
 use Rattle.inspection.specs.declared.Inspected.the-variants.{Rule as Inspected-rule, Refused as Inspected-refused}
 use Rattle.inspection.specs.Inspection.{RuleCounts, InspectPromise}
-use Rattle.rulefile.specs.Answers.{checkedChecks, afterCall}
+use Rattle.rulefile.specs.Answers.{checkedChecks, afterCall, scratchLeft}
 use Rattle.rulefile.specs.GoodRule.{GoodRule}
 use Rattle.rulefile.proofs.Promise.{zeros-after}
 use Rattle.rulefile.proofs.OneVerdict.{checked-single}
+use Rattle.rulefile.proofs.Left.{short-left, long-left}
 use Rattle.rulefile.proofs.Calls.{scratch-long, called-good}
 use Rattle.rulewriter.specs.File.{elementsBytes, fileOf}
 use Rattle.classes.specs.declared.Listed.{Listed}
 use Rattle.classes.specs.declared.Listed.the-variants.{Counts as Listed-counts, Refused as Listed-refused}
-use Rattle.classes.specs.Promise.{classesSize, scratchLeft, ListPromise}
+use Rattle.classes.specs.Promise.{classesSize, ListPromise}
 use Rattle.strength.specs.Weak.{weakCheck}
 use Rattle.reduction.specs.declared.Reduced.{Reduced}
 use Rattle.reduction.specs.declared.Reduced.the-variants.{Rule as Reduced-rule, Refused as Reduced-refused}
-use Rattle.reduction.specs.Promise.{ruleSize, reduceChecks, scratchAfter, ReducePromise}
+use Rattle.reduction.specs.Promise.{reduceChecks, ReducePromise}
+use Rattle.strength.proofs.OneAnswer.{strong-rule-single}
 use Rattle.summary.specs.declared.Summary.{Summary}
 use Rattle.summary.specs.declared.Summary.the-variants.{Counts, Refused}
 use Rattle.summary.specs.Promise.{summaryChecks, SummaryPromise}
 use Rattle.summary.specs.Steps.{CheckedPlace, SizeFound, Measured}
-use Rattle.summary.proofs.Passing.{buffer-single, buffer-passes, reduce-single, not-refused}
+use Rattle.summary.proofs.Passing.{not-refused}
 
 -- a good rule that is not weak is strong, since strength is decided
 strong-of : {bytes : List ℕ} → GoodRule bytes → ((Strong (morphismOf bytes) (pairsOf bytes) → ⊥) → ⊥) → Strong (morphismOf bytes) (pairsOf bytes)
@@ -53,27 +56,27 @@ module _ {bytes work entry : List ℕ} (p : CheckedPlace bytes work entry) where
   pub place-again : {work′ now : List ℕ} → length work′ ≡ length work → length now ≡ length entry → CheckedPlace bytes work′ now
   place-again {now = now} ew es = record {
     room = omega (arith, p .room, ew);
-    passes = buffer-passes scratchSize now (omega (arith, long, es)) (passes-tail (p .passes));
+    passes = buffer-long (omega (arith, long, es)) (passes-tail (p .passes));
   }
 
   -- the classes are not refused, and leave zeros in scratch
   pub classes-not-refused : (answer : Listed) {after exit : List ℕ} {r : Refusal} {input place : ℕ} → ListPromise bytes work after entry exit answer
       → answer ≡ Listed-refused r input place → ⊥
   classes-not-refused answer {after} {exit} q e =
-      not-refused (buffer-single classesSize work (checked-single 1 bytes entry))
-      (buffer-passes classesSize work (omega (arith, p .room)) (p .passes)) (subst (ListPromise bytes work after entry exit) e q .verdict)
+      not-refused (buffer-single (checked-single 1 bytes entry))
+      (buffer-long (omega (arith, p .room)) (p .passes)) (subst (ListPromise bytes work after entry exit) e q .verdict)
 
   pub classes-left : {answer : Listed} {after exit : List ℕ} → ListPromise bytes work after entry exit answer → exit ≡ replicate (length entry) 0
   classes-left q =
       let room : classesSize ≤ length work = omega (arith, p .room) in
-      let kept : scratchLeft work entry ≡ afterCall entry = simp (le-ltb (length work) classesSize room) in
+      let kept : scratchLeft classesSize work entry ≡ afterCall entry = simp (le-ltb (length work) classesSize room) in
       q .scratch ∙ kept ∙ sym (zeros-after entry long)
 
   -- of the reduction
   module _ (answer : Reduced) {after exit : List ℕ} (q : ReducePromise bytes work after entry exit answer) where
     reduction-left : exit ≡ replicate (length entry) 0
     reduction-left =
-        let kept : scratchAfter work entry ≡ afterCall entry = simp (le-ltb (length work) ruleSize (p .room)) in
+        let kept : scratchLeft ruleSize work entry ≡ afterCall entry = simp (le-ltb (length work) ruleSize (p .room)) in
         q .scratch ∙ kept ∙ sym (zeros-after entry long)
 
     -- a reduction was written: the rule is strong, and the first byte is the number of elements
@@ -97,14 +100,14 @@ module _ {bytes work entry : List ℕ} (p : CheckedPlace bytes work entry) where
     -- a strong rule passes every check of a reduction
     all-pass : Strong (morphismOf bytes) (pairsOf bytes) → FirstFailure (reduceChecks bytes work entry) passed
     all-pass strong =
-        buffer-passes ruleSize work (p .room)
+        buffer-long (p .room)
         (passed-before (checkedChecks 1 bytes entry) (weakCheck bytes ∷ []) (p .passes) (first-passes (record { nowhere = λ place w. w .weak strong }) none-left))
 
     -- none was written: every other check passes, so the rule is weak
     pub size-weak : {r : Refusal} {input place : ℕ} → answer ≡ Reduced-refused r input place → SizeFound bytes entry exit false 0
     size-weak e =
         let known = subst (ReducePromise bytes work after entry exit) e q in
-        record { reduces = (λ strong. not-refused (reduce-single bytes work entry) (all-pass strong) (known .verdict), refl); scratch = reduction-left }
+        record { reduces = (λ strong. not-refused (strong-rule-single ruleSize work bytes entry) (all-pass strong) (known .verdict), refl); scratch = reduction-left }
 
   -- the rule was counted, its classes listed, its reduction measured, and work cleared
   pub measured : (answer : Listed) {elements letters marks linked classes joins reduced : ℕ} {strong : Bool} {listed mid after exit : List ℕ} {n : ℕ} → RuleCounts bytes elements letters marks
@@ -123,10 +126,10 @@ module _ {bytes work entry : List ℕ} (p : CheckedPlace bytes work entry) where
 -- a short buffer is refused, and both are left as they came
 pub work-short : (bytes work scratch : List ℕ) → length work < ruleSize → SummaryPromise bytes work work scratch scratch (Refused BufferTooShort 1 0)
 work-short bytes work scratch h = record {
-  verdict = first-fails (bufferCheck ruleSize work) (record { short = h; is-place = refl });
+  verdict = buffer-short h;
   answered = tt;
   work = refl;
-  scratch = sym (simp (lt-ltb (length work) ruleSize h));
+  scratch = short-left ruleSize work scratch h;
 }
 
 -- an inspection that finds a rule says its counts
@@ -136,17 +139,11 @@ inspected-counts {bytes} {entry} {mid} answer q e = subst (InspectPromise bytes 
 
 -- the inspection comes after the check of work
 module _ (bytes work entry : List ℕ) (room : ruleSize ≤ length work) (answer : Inspected) {mid : List ℕ} (q : InspectPromise bytes entry mid answer) where
-  after-buffer : {v : Verdict} → FirstFailure (checkedChecks 1 bytes entry) v → FirstFailure (summaryChecks bytes work entry) v
-  after-buffer f = first-passes (record { nowhere = λ place s. omega (arith, s .short) }) f
-
-  left : {exit : List ℕ} → exit ≡ afterCall entry → exit ≡ scratchAfter work entry
-  left e = e ∙ sym (simp (le-ltb (length work) ruleSize room))
-
   -- a refusal is handed on
   pub summary-refused : {r : Refusal} {input place : ℕ} → answer ≡ Inspected-refused r input place → SummaryPromise bytes work work entry mid (Refused r input place)
   summary-refused e =
       let known = subst (InspectPromise bytes entry mid) e q in
-      record { verdict = after-buffer (known .verdict); answered = tt; work = refl; scratch = left (known .scratch) }
+      record { verdict = buffer-long room (known .verdict); answered = tt; work = refl; scratch = long-left ruleSize work entry room (known .scratch) }
 
   -- a rule that passes is measured
   module _ {elements letters marks : ℕ} (e : answer ≡ Inspected-rule elements letters marks) where
@@ -162,14 +159,14 @@ module _ (bytes work entry : List ℕ) (room : ruleSize ≤ length work) (answer
     pub measure-place : CheckedPlace bytes work mid
     measure-place = record {
       room = room;
-      passes = buffer-passes scratchSize mid (omega (arith, scratch-long 1 bytes entry (known .verdict), same-length)) (passes-tail (known .verdict));
+      passes = buffer-long (omega (arith, scratch-long 1 bytes entry (known .verdict), same-length)) (passes-tail (known .verdict));
     }
 
     pub summary-measured : (summary : Summary) {after exit : List ℕ} → Measured bytes work after mid exit summary → SummaryPromise bytes work after entry exit summary
     summary-measured summary m = record {
-      verdict = subst (FirstFailure (summaryChecks bytes work entry)) (sym (m .passes)) (after-buffer (known .verdict));
+      verdict = subst (FirstFailure (summaryChecks bytes work entry)) (sym (m .passes)) (buffer-long room (known .verdict));
       answered = m .answered;
       work = m .work;
       scratch =
-          left (m .scratch ∙ ap (λ (n : ℕ). replicate n 0) same-length ∙ zeros-after entry (scratch-long 1 bytes entry (known .verdict)));
+          long-left ruleSize work entry room (m .scratch ∙ ap (λ (n : ℕ). replicate n 0) same-length ∙ zeros-after entry (scratch-long 1 bytes entry (known .verdict)));
     }

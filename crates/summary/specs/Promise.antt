@@ -9,11 +9,11 @@ use Rattle.theory.specs.Rules.{Rule, Lawful}
 use Rattle.theory.specs.Acceptance.{Strong}
 use Rattle.theory.specs.Smallest.{Reduction}
 use Rattle.format.specs.Format.{morphismOf, pairsOf}
-use Rattle.format.specs.RuleChecks.{bufferCheck}
+use Rattle.format.specs.RuleChecks.{ruleSize, bufferCheck}
 use Rattle.inspection.specs.Inspection.{RuleCounts}
-use Rattle.rulefile.specs.Answers.{checkedChecks}
+use Rattle.rulefile.specs.Answers.{checkedChecks, scratchLeft}
 use Rattle.classnumbers.specs.Classes.{ClassCounts}
-use Rattle.reduction.specs.Promise.{ruleSize, ruleOf, scratchAfter}
+use Rattle.reduction.specs.Promise.{ruleOf}
 use Rattle.summary.specs.declared.Summary.{Summary}
 use Rattle.summary.specs.declared.Summary.the-variants.{Counts, Refused}
 
@@ -61,4 +61,4 @@ pub record SummaryPromise (bytes before after entry exit : List ℕ) (answer : S
   pub verdict : FirstFailure (summaryChecks bytes before entry) (summaryVerdict answer)
   pub answered : SummaryAnswer bytes answer
   pub work : after ≡ workAfter before answer
-  pub scratch : exit ≡ scratchAfter before entry
+  pub scratch : exit ≡ scratchLeft ruleSize before entry

@@ -6,7 +6,7 @@ use mathlib.Core.List.{List}
 use lib.ListN.{length, replicate}
 use Rattle.answer.specs.Checks.{passed, FirstFailure}
 use Rattle.rulefile.specs.Answers.{checkedChecks}
-use Rattle.reduction.specs.Promise.{ruleSize}
+use Rattle.format.specs.RuleChecks.{ruleSize}
 use Rattle.summary.specs.declared.Summary.{Summary}
 use Rattle.summary.specs.Promise.{summaryVerdict, ReducesTo, SummaryAnswer, workAfter}
 

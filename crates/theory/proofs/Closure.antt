@@ -9,7 +9,8 @@ use native.Mathlib.Omega.{arith}
 use lib.Dec.{T, eqb, ltb}
 use mir.Facts.{eqb-yes, yes-eqb, ltb-yes, yes-ltb}
 use Rattle.finite.proofs.Tests.{T-and, T-and-left, T-and-right}
-use Rattle.finite.proofs.Search.{anyBelow, any-intro, any-elim, bit}
+use Rattle.finite.specs.Search.{anyBelow}
+use Rattle.finite.proofs.Search.{any-intro, any-elim, bit}
 use Rattle.theory.specs.Words.{Over}
 use Rattle.theory.specs.Rules.{Morphism, Lawful, Pairs, element, value, AllReached}
 use Rattle.theory.specs.Acceptance.{Accepts, Strong}

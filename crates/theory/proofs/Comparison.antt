@@ -9,7 +9,8 @@ use lib.Arith.{digits-lt, digits-div, digits-mod}
 use lib.ListN.{length}
 use lib.Dec.{T}
 use Rattle.finite.proofs.Tests.{T-and, T-and-left, T-and-right, T-false}
-use Rattle.finite.proofs.Select.{select, Selected, select-intro, select-elim}
+use Rattle.finite.specs.Select.{select}
+use Rattle.finite.proofs.Select.{Selected, select-intro, select-elim}
 use Rattle.finite.proofs.Worklist.{Reached, Reachable, Coding}
 use Rattle.finite.proofs.Explore.{Equality, explore}
 use Rattle.finite.proofs.Explored.{NextIn}

@@ -7,8 +7,9 @@ use lib.ListN.{length}
 use lib.Dec.{T, ltb}
 use mir.Facts.{ltb-yes}
 use Rattle.finite.proofs.Tests.{T-and-left, T-and-right}
-use Rattle.finite.proofs.Search.{anyBelow, allBelow, leastBelow, leastFrom, countBelow}
-use Rattle.finite.proofs.Select.{select, selectFrom}
+use Rattle.finite.specs.Search.{anyBelow}
+use Rattle.finite.proofs.Search.{allBelow, leastBelow, leastFrom, countBelow}
+use Rattle.finite.specs.Select.{select, selectFrom}
 use Rattle.finite.proofs.Explore.{member, add, expand, walk, explore}
 use Rattle.theory.specs.Words.{Over, over-nil, over-cons, Lasso}
 use Rattle.theory.specs.Rules.{Morphism, Lawful, Pairs, level, marked, join, value}

@@ -8,7 +8,8 @@ use mathlib.Core.List.{List}
 use native.Mathlib.Omega.{arith}
 use lib.Dec.{T}
 use Rattle.finite.proofs.Tests.{T-dec, T-not, not-T}
-use Rattle.finite.proofs.Search.{anyBelow, any-intro, any-elim, Found}
+use Rattle.finite.specs.Search.{anyBelow}
+use Rattle.finite.proofs.Search.{any-intro, any-elim, Found}
 use Rattle.theory.specs.Words.{Over, Lasso}
 use Rattle.theory.specs.Rules.{Morphism, Lawful, Pairs, element, value, AllReached}
 use Rattle.theory.specs.Acceptance.{Accepts, Strong}

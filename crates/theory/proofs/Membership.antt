@@ -10,7 +10,8 @@ use native.Mathlib.Nat.{div-add-mod', mod-lt, zero-add}
 use lib.ListN.{length, take, drop}
 use lib.Dec.{T}
 use Rattle.finite.proofs.Tests.{T-dec}
-use Rattle.finite.proofs.Search.{anyBelow, any-intro, any-elim, Found}
+use Rattle.finite.specs.Search.{anyBelow}
+use Rattle.finite.proofs.Search.{any-intro, any-elim, Found}
 use Rattle.theory.specs.Words.{Over, endless}
 use Rattle.theory.specs.Rules.{Morphism, Lawful, Pairs, Value, none, element, value}
 use Rattle.theory.specs.Acceptance.{Accepts}

@@ -11,7 +11,8 @@ use lib.ListN.{length, length-append}
 use lib.Dec.{T, eqb, ltb}
 use mir.Facts.{eqb-yes, yes-eqb, ltb-yes, yes-ltb}
 use Rattle.finite.proofs.Tests.{T-and, T-and-left, T-and-right}
-use Rattle.finite.proofs.Search.{anyBelow, any-intro, any-elim}
+use Rattle.finite.specs.Search.{anyBelow}
+use Rattle.finite.proofs.Search.{any-intro, any-elim}
 use Rattle.theory.specs.Words.{Over, Lasso, endless}
 use Rattle.theory.specs.Rules.{Morphism, Lawful, Pairs, Value, none, element, join, value, WordOf, AllReached}
 use Rattle.theory.specs.Acceptance.{Accepts, Strong}

@@ -6,7 +6,8 @@ use native.Mathlib.Omega.{arith}
 use borrow.Author.Count.{below-more}
 use lib.Dec.{T}
 use Rattle.finite.proofs.Tests.{true-T, T-true, T-false, tests-equal}
-use Rattle.finite.proofs.Search.{anyBelow, any-intro, any-elim}
+use Rattle.finite.specs.Search.{anyBelow}
+use Rattle.finite.proofs.Search.{any-intro, any-elim}
 
 -- no number below j passes p
 pub record NoneBelow (p : ℕ → Bool) (j : ℕ) : Type 0 where

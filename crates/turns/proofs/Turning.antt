@@ -8,7 +8,7 @@ use native.Mathlib.Numerals.{add-one}
 use native.Mathlib.Omega.{arith}
 use native.Mathlib.Nat.{mod-lt}
 use lib.Dec.{T}
-use Rattle.finite.proofs.Search.{anyBelow}
+use Rattle.finite.specs.Search.{anyBelow}
 use Rattle.theory.specs.Rules.{Lawful, Pairs}
 use Rattle.theory.proofs.Powers.{times, idempotent-of, settling}
 use Rattle.theory.proofs.Membership.{turn-look, turn-test, past-mod}

@@ -2,29 +2,22 @@
 use Prim.Native.Nat.{ℕ}
 use mathlib.Core.Path.{_≡_, refl, sym, _∙_}
 use mathlib.Core.List.{List}
-use Rattle.answer.proofs.Order.{AllSingle, single-nil, single-cons, single-append, one-verdict}
+use Rattle.answer.proofs.Order.{AllSingle, single-nil, single-at, single-cons, single-append, one-verdict}
 use Rattle.answer.proofs.Verdicts.{same-refusal, not-passed}
 use Rattle.theory.specs.Rules.{Morphism, Pairs}
-use Rattle.strength.specs.Weak.{WeakAt}
 use Rattle.monitorstate.specs.declared.Monitor.{Monitor}
 use Rattle.monitor.proofs.OneAnswer.{monitor-single}
 use Rattle.judging.specs.declared.Judged.{Judged}
 use Rattle.judging.specs.declared.Judged.the-variants.{Accepted, NotAccepted, Refused}
 use Rattle.judging.specs.Lassos.{LassoWith, LassosAccepted, LassosNotAccepted}
 use Rattle.verdict.specs.Promise.{NoneAt, verdictChecks, judgedVerdict, VerdictAnswer, VerdictPromise}
-
--- a value that is none and a rule that is not strong have one place each
-none-place : {f : Monitor} (p q : ℕ) → NoneAt f p → NoneAt f q → p ≡ q
-none-place p q a b = a .is-place ∙ sym (b .is-place)
-
-weak-place : {bytes : List ℕ} (p q : ℕ) → WeakAt bytes p → WeakAt bytes q → p ≡ q
-weak-place p q a b = a .is-place ∙ sym (b .is-place)
+use Rattle.strength.specs.Weak.{WeakAt}
 
 -- each check of a verdict fails at one place at most
 pub verdict-single : (bytes : List ℕ) (f : Monitor) (entry : List ℕ) → AllSingle (verdictChecks bytes f entry)
 verdict-single bytes f entry =
     single-append (monitor-single bytes f entry)
-    (single-cons (record { one-place = none-place }) (single-cons (record { one-place = weak-place }) single-nil))
+    (single-cons (single-at (λ place (a : NoneAt _ place). a .is-place)) (single-cons (single-at (λ place (a : WeakAt _ place). a .is-place)) single-nil))
 
 -- a lasso with the values is there, so that not both can be said of all
 pub accepted-or-not : {m : Morphism} {P : Pairs} {before since : ℕ} → LassosAccepted m P before since → LassosNotAccepted m P before since → ⊥

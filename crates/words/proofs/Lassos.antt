@@ -1,19 +1,19 @@
 -- What each way through the checks of two words shows. Assumes nothing.
-use Prim.Native.Nat.{ℕ, _+_, _≤_, _<_}
-use mathlib.Core.Path.{_≡_, refl, sym, ap, _∙_, subst}
-use mathlib.Core.Logic.{_⊎_, inl, inr, ⊎-elim}
-use mathlib.Core.List.{List, [], _∷_}
+use Prim.Native.Nat.{ℕ, _≤_, _<_}
+use mathlib.Core.Path.{_≡_, refl, subst}
+use mathlib.Core.Logic.{_⊎_, ⊎-elim}
+use mathlib.Core.List.{List}
 use native.Mathlib.Omega.{arith}
 use native.Mathlib.Nat.{zero-add}
 use lib.ListN.{length, getD}
 use Rattle.answer.specs.declared.Refusal.the-variants.{UnknownLetter, WordLength}
-use Rattle.answer.specs.Checks.{Check, Passes, passed, refused, FirstFailure}
-use Rattle.answer.proofs.Order.{first-passes, first-fails, none-left, Single, AllSingle, single-nil, single-cons}
+use Rattle.answer.specs.Checks.{Check, refused, FirstFailure}
+use Rattle.answer.proofs.Order.{first-passes, first-fails, none-left, Single, AllSingle, single-nil, single-at, single-cons}
 use Rattle.sections.specs.declared.Found.{Found}
 use Rattle.sections.specs.declared.Found.the-variants.{At, Nothing}
-use Rattle.sections.specs.Answers.{FoundOut, FirstOut, AllBelow}
+use Rattle.sections.specs.Answers.{FoundOut, FirstOut}
 use Rattle.words.specs.WordChecks.{shortestWord, longestWord, LengthOutAt, ForeignAt, lassoChecks}
-use Rattle.words.specs.Answers.{GoodWord, GoodLasso}
+use Rattle.words.specs.Answers.{GoodLasso}
 
 -- a length in the range
 pub record GoodLength (w : List ℕ) : Type 0 where
@@ -81,7 +81,7 @@ module _ (k : ℕ) (u v : List ℕ) where
       }
 
 length-single : (input : ℕ) (w : List ℕ) → Single (record { refusal = WordLength; input = input; Fails = LengthOutAt w })
-length-single input w = record { one-place = λ p q a b. a .is-place ∙ sym (b .is-place) }
+length-single input w = single-at (λ place a. a .is-place)
 
 foreign-single : (input k : ℕ) (w : List ℕ) → Single (record { refusal = UnknownLetter; input = input; Fails = ForeignAt k w })
 foreign-single input k w = record {

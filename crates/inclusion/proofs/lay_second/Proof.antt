@@ -1,5 +1,5 @@
 use borrow.Author.Needs.{needs}
-use Rattle.inclusion.proofs.Comparing.{second-space, laid-answer}
+use Rattle.inclusion.proofs.Laying.{second-space, laid-answer}
 use Rattle.inclusion.proofs.lay_second.Statement.{statement}
 use Rattle.inclusion.proofs.lay_second.Tie as tie
 

@@ -1,0 +1,4 @@
+pub mod Storing
+pub mod Listing
+pub mod AllWords
+pub mod Readings
