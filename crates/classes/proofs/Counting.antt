@@ -7,9 +7,9 @@ use native.Mathlib.Omega.{arith}
 use native.Mathlib.Numerals.{add-one}
 use native.Mathlib.Nat.{mod-lt, div-add-mod', div-lt-iff-lt-mul, le-antisymm}
 use Rattle.theory.specs.Rules.{Morphism}
-use Rattle.theory.specs.Pairs.{Linked, LeastConjugate, pair-number, Counted, counted-none, counted-one, counted-other, LinkedPairs, Classes}
+use Rattle.theory.specs.Pairs.{Linked, LeastConjugate, pair-number, Counted, counted-none, counted-one, counted-other, LinkedPairs, Classes, ClassCounts}
 use Rattle.sections.specs.Sections.{twoBytes}
-use Rattle.classnumbers.specs.Classes.{noClass, ClassNumber, least-conjugate, not-linked, ClassesWritten, ClassCounts, classPlace}
+use Rattle.classnumbers.specs.Classes.{noClass, ClassNumber, least-conjugate, not-linked, ClassesWritten, classPlace}
 use Rattle.classnumbers.specs.Cells.{Loaded, CellCounts}
 use Rattle.classnumbers.proofs.Bytes.{pair-same}
 use Rattle.classnumbers.proofs.Factors.{pair-below}

@@ -16,7 +16,8 @@ use Rattle.rulefile.specs.Answers.{CheckPromise}
 use Rattle.rulefile.proofs.Left.{short-left, long-left}
 use Rattle.rulefile.proofs.Calls.{called-good, zeros-left, checked-rule, checked-refused, checked-length, shape-morphism, shape-table}
 use Rattle.classes.specs.declared.Listed.the-variants.{Counts, Refused}
-use Rattle.classnumbers.specs.Classes.{ClassesWritten, ClassCounts}
+use Rattle.theory.specs.Pairs.{ClassCounts}
+use Rattle.classnumbers.specs.Classes.{ClassesWritten}
 use Rattle.classnumbers.specs.Cells.{CellCounts}
 use Rattle.classes.specs.Promise.{classesSize, ListPromise}
 use Rattle.classes.proofs.Counting.{class-counts}

@@ -11,15 +11,14 @@ use Rattle.finite.proofs.Numbers.{le-or-lt}
 use Rattle.answer.proofs.Order.{AllSingle, one-verdict}
 use Rattle.answer.proofs.Verdicts.{same-refusal, not-passed}
 use Rattle.theory.specs.Rules.{Morphism}
-use Rattle.theory.specs.Pairs.{LinkedPairs, Classes}
-use Rattle.theory.proofs.TableTests.{counted-same}
+use Rattle.theory.proofs.TableTests.{counts-same}
 use Rattle.sections.specs.Sections.{twoBytes}
 use Rattle.format.specs.Format.{morphismOf}
 use Rattle.format.proofs.Buffers.{buffer-single}
 use Rattle.rulefile.proofs.OneVerdict.{checked-single}
 use Rattle.classes.specs.declared.Listed.{Listed}
 use Rattle.classes.specs.declared.Listed.the-variants.{Counts, Refused}
-use Rattle.classnumbers.specs.Classes.{ClassNumber, least-conjugate, not-linked, classPlace, ClassesWritten, ClassCounts}
+use Rattle.classnumbers.specs.Classes.{ClassNumber, least-conjugate, not-linked, classPlace, ClassesWritten}
 use Rattle.classes.specs.Promise.{listChecks, listedVerdict, ListedAnswer, ListPromise}
 
 -- a pair has one class number
@@ -72,16 +71,6 @@ module _ (m : Morphism) {entry a b : List ℕ} (p : ClassesWritten m entry a) (q
       ext-getD 0 a b (p .same-length ∙ sym (q .same-length))
       (λ i h. ⊎-elim (λ l. p .kept i l ∙ sym (q .kept i l)) (λ l. written-byte i l) (le-or-lt (2 * (m .size * m .size)) i))
 
--- the counts are those of the table
-counts-same : (m : Morphism) {linked classes joins linked′ classes′ joins′ : ℕ} → ClassCounts m linked classes joins → ClassCounts m linked′ classes′ joins′
-    → Counts linked classes joins ≡ Counts linked′ classes′ joins′
-unfolding LinkedPairs Classes
-counts-same m {linked} {classes} {joins} {linked′} {classes′} {joins′} p q =
-    let el : linked ≡ linked′ = counted-same (p .linked-pairs) (q .linked-pairs) in
-    let ec : classes ≡ classes′ = counted-same (p .class-count) (q .class-count) in
-    let ej : joins ≡ joins′ = omega (arith, p .difference, q .difference) in
-    cc (el, ec, ej)
-
 list-single : (bytes out scratch : List ℕ) → AllSingle (listChecks bytes out scratch)
 list-single bytes out scratch = buffer-single (checked-single 1 bytes scratch)
 
@@ -90,7 +79,9 @@ module _ {bytes out-entry out-exit out-exit′ entry exit exit′ : List ℕ} wh
   one-answer answer answer′ p q = same answer answer′ (p .answered) (q .answered) (one-verdict (list-single bytes out-entry entry) (p .verdict) (q .verdict))
     where
       same : (a b : Listed) → ListedAnswer bytes out-entry out-exit a → ListedAnswer bytes out-entry out-exit′ b → listedVerdict a ≡ listedVerdict b → a ≡ b
-      same (Counts l c j) (Counts l′ c′ j′) p q e = counts-same (morphismOf bytes) (p .1) (q .1)
+      same (Counts l c j) (Counts l′ c′ j′) p q e =
+          let s = counts-same (p .1) (q .1) in
+          cc (s .0, s .1, s .2)
       same (Counts l c j) (Refused r i place) p q e = absurd (not-passed (sym e))
       same (Refused r i place) (Counts l c j) p q e = absurd (not-passed e)
       same (Refused r i place) (Refused r′ i′ place′) p q e = same-refusal Refused r r′ i i′ place place′ e

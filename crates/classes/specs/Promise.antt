@@ -8,7 +8,8 @@ use Rattle.format.specs.RuleChecks.{bufferCheck}
 use Rattle.rulefile.specs.Answers.{checkedChecks, scratchLeft}
 use Rattle.classes.specs.declared.Listed.{Listed}
 use Rattle.classes.specs.declared.Listed.the-variants.{Counts, Refused}
-use Rattle.classnumbers.specs.Classes.{ClassesWritten, ClassCounts}
+use Rattle.theory.specs.Pairs.{ClassCounts}
+use Rattle.classnumbers.specs.Classes.{ClassesWritten}
 
 -- "Buffers: .. classes 8,192"
 abbrev pub classesSize : ℕ

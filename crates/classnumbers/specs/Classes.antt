@@ -4,7 +4,7 @@ use mathlib.Core.Path.{_≡_}
 use mathlib.Core.List.{List}
 use lib.ListN.{length, getD}
 use Rattle.theory.specs.Rules.{Morphism}
-use Rattle.theory.specs.Pairs.{Linked, LeastConjugate, pair-number, LinkedPairs, Classes}
+use Rattle.theory.specs.Pairs.{Linked, LeastConjugate, pair-number, Classes}
 use Rattle.sections.specs.Sections.{twoBytes}
 
 -- "65,535 where it isn't linked"
@@ -26,9 +26,3 @@ pub record ClassesWritten (m : Morphism) (entry exit : List ℕ) : Type 0 where
   pub classes : (s e : ℕ) → s < m .size → e < m .size → ClassNumber m s e (twoBytes exit (classPlace (m .size) s e))
   pub bytes : (i : ℕ) → i < 2 * (m .size * m .size) → getD exit i 0 < 256
   pub kept : (i : ℕ) → 2 * (m .size * m .size) ≤ i → getD exit i 0 ≡ getD entry i 0
-
--- "the linked pairs, the classes, and the joins, which are the first less the second"
-pub record ClassCounts (m : Morphism) (linked classes joins : ℕ) : Type 0 where
-  pub linked-pairs : LinkedPairs m linked
-  pub class-count : Classes m classes
-  pub difference : joins + classes ≡ linked

@@ -9,11 +9,10 @@ use lib.ListN.{length, drop, replicate, length-replicate}
 use Rattle.finite.proofs.Tests.{T-or-cases, not-T}
 use Rattle.answer.specs.Checks.{passed, numbered}
 use Rattle.theory.specs.Words.{Over, over-cons}
-use Rattle.theory.specs.Pairs.{Classes}
+use Rattle.theory.specs.Pairs.{Classes, ClassCounts}
 use Rattle.theory.proofs.Closure.{linked-elim, closure-test, closure-intro}
 use Rattle.theory.proofs.TableTests.{all-pairs-elim, counted-same}
 use Rattle.format.specs.Format.{morphismOf, pairsOf}
-use Rattle.classnumbers.specs.Classes.{ClassCounts}
 use Rattle.reduction.specs.declared.Reduced.the-variants.{Rule as Is-rule}
 use Rattle.format.specs.RuleChecks.{ruleSize, scratchSize}
 use Rattle.examples.specs.Files.{W, W-all, one-element, Z, Z₀, not-associative, unreached, automaton}

@@ -1,22 +1,21 @@
 -- What the files of the small rules mean, found by computing the tests: that W and Z pass every check, which lassos they accept,
 -- that W is strong and Z is not, and their linked pairs, classes and joins. Assumes nothing.
-use Prim.Native.Nat.{ℕ, _+_}
-use mathlib.Core.Path.{_≡_, refl}
+use Prim.Native.Nat.{ℕ}
+use mathlib.Core.Path.{refl}
 use mathlib.Core.Bool.{Bool, not, _||_}
 use mathlib.Core.Logic.{⊎-elim}
 use mathlib.Core.List.{[], _∷_}
 use Rattle.finite.proofs.Tests.{T-or-cases, not-T}
 use Rattle.answer.specs.Checks.{passed, FirstFailure}
-use Rattle.theory.specs.Rules.{Morphism, Lawful}
 use Rattle.theory.proofs.Included.{strong-test-elim, strong-test-intro}
 use Rattle.theory.proofs.Closure.{linked-test, linked-intro}
-use Rattle.theory.proofs.TableTests.{all-pairs-elim, linked-count, linked-counted, class-count, class-counted, conjugate-elim}
+use Rattle.theory.proofs.TableTests.{counts-by, all-pairs-elim, conjugate-elim}
 use Rattle.theory.proofs.Computing.{lasso-elim, accepts-by, refuses-by}
 use Rattle.format.specs.Format.{morphismOf, pairsOf}
 use Rattle.format.specs.RuleChecks.{ruleChecks}
 use Rattle.rulefile.specs.GoodRule.{GoodRule}
 use Rattle.rulefile.proofs.CheckedRule.{good-rule}
-use Rattle.classnumbers.specs.Classes.{ClassCounts}
+use Rattle.theory.specs.Pairs.{ClassCounts}
 use Rattle.examples.specs.Files.{W, W-all, Z, Z₀}
 use Rattle.examples.specs.Examples.{FileStrong, AcceptsLasso, RefusesLasso, ValuePair, ConjugateToMark, NotClosed, MarksLinked}
 use Rattle.examples.proofs.Passing.{rule-passes}
@@ -68,16 +67,13 @@ W-all-marks = record {
   );
 }
 
-counts : {m : Morphism} {joins : ℕ} → Lawful m → joins + class-count m ≡ linked-count m → ClassCounts m (linked-count m) (class-count m) joins
-counts {m} law e = record { linked-pairs = linked-counted m; class-count = class-counted law; difference = e }
-
 pub W-counts : ClassCounts (morphismOf W) 3 3 0
 unfolding reading
-W-counts = counts (W-good .lawful) refl
+W-counts = counts-by (W-good .lawful) refl
 
 pub Z-counts : ClassCounts (morphismOf Z) 2 1 1
 unfolding reading
-Z-counts = counts (Z-good .lawful) refl
+Z-counts = counts-by (Z-good .lawful) refl
 
 -- ---- lassos
 

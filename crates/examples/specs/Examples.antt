@@ -10,11 +10,10 @@ use Rattle.answer.specs.Checks.{Verdict, passed, numbered, FirstFailure}
 use Rattle.theory.specs.Words.{Lasso}
 use Rattle.theory.specs.Rules.{Rule, Lawful, element, value}
 use Rattle.theory.specs.Acceptance.{Accepts, Strong}
-use Rattle.theory.specs.Pairs.{Linked, Conjugate}
+use Rattle.theory.specs.Pairs.{Linked, Conjugate, ClassCounts}
 use Rattle.theory.specs.Smallest.{Reduction}
 use Rattle.format.specs.Format.{elementsOf, lettersOf, morphismOf, pairsOf}
 use Rattle.format.specs.RuleChecks.{ruleChecks, ruleSize, scratchSize}
-use Rattle.classnumbers.specs.Classes.{ClassCounts}
 use Rattle.reduction.specs.declared.Reduced.{Reduced}
 use Rattle.reduction.specs.declared.Reduced.the-variants.{Rule as Is-rule}
 use Rattle.reduction.specs.Promise.{ruleOf, ReducePromise}

@@ -8,9 +8,8 @@ use Rattle.answer.proofs.Order.{AllSingle, one-verdict}
 use Rattle.answer.proofs.Verdicts.{same-refusal, not-passed}
 use Rattle.theory.specs.Words.{Lasso}
 use Rattle.theory.specs.Rules.{Rule, Lawful}
-use Rattle.theory.specs.Pairs.{LinkedPairs, Classes}
 use Rattle.theory.specs.Smallest.{SameLassos, Reduction}
-use Rattle.theory.proofs.TableTests.{counted-same}
+use Rattle.theory.proofs.TableTests.{counts-same}
 use Rattle.format.specs.Format.{morphismOf}
 use Rattle.format.proofs.Buffers.{buffer-single}
 use Rattle.rulefile.proofs.OneVerdict.{checked-single}
@@ -51,24 +50,22 @@ reduces-same bytes false true p q = absurd (p .0 (q .strong))
 reduces-same bytes false false p q = record { strength = refl; size = p .1 ∙ sym (q .1) }
 
 -- all counts are the rule's
-counts-same : {bytes : List ℕ} {elements letters marks linked classes reduced elements′ letters′ marks′ linked′ classes′ reduced′ : ℕ} {strong strong′ : Bool}
+summary-same : {bytes : List ℕ} {elements letters marks linked classes reduced elements′ letters′ marks′ linked′ classes′ reduced′ : ℕ} {strong strong′ : Bool}
     → SummaryCounts bytes elements letters marks linked classes strong reduced → SummaryCounts bytes elements′ letters′ marks′ linked′ classes′ strong′ reduced′
     → Counts elements letters marks linked classes strong reduced ≡ Counts elements′ letters′ marks′ linked′ classes′ strong′ reduced′
-unfolding LinkedPairs Classes
-counts-same {bytes = bytes} {linked = linked} {classes = classes} {linked′ = linked′} {classes′ = classes′} {strong = strong} {strong′ = strong′} p q =
+summary-same {bytes = bytes} {strong = strong} {strong′ = strong′} p q =
     let s = p .counts in
     let t = q .counts in
-    let el : linked ≡ linked′ = counted-same (p .class-counts .linked-pairs) (q .class-counts .linked-pairs) in
-    let ec : classes ≡ classes′ = counted-same (p .class-counts .class-count) (q .class-counts .class-count) in
+    let k = counts-same (p .class-counts) (q .class-counts) in
     let r = reduces-same bytes strong strong′ (p .reduces) (q .reduces) in
-    cc (s .elements-are, s .letters-are, s .marks-are, t .elements-are, t .letters-are, t .marks-are, el, ec, r .strength, r .size)
+    cc (s .elements-are, s .letters-are, s .marks-are, t .elements-are, t .letters-are, t .marks-are, k .0, k .1, r .strength, r .size)
 
 module _ {bytes before after after′ entry exit exit′ : List ℕ} where
   pub one-answer : (answer answer′ : Summary) → SummaryPromise bytes before after entry exit answer → SummaryPromise bytes before after′ entry exit′ answer′ → answer ≡ answer′
   one-answer answer answer′ p q = same answer answer′ (p .answered) (q .answered) (one-verdict (summary-single bytes before entry) (p .verdict) (q .verdict))
     where
       same : (a b : Summary) → SummaryAnswer bytes a → SummaryAnswer bytes b → summaryVerdict a ≡ summaryVerdict b → a ≡ b
-      same (Counts n k c l d s r) (Counts n′ k′ c′ l′ d′ s′ r′) p q e = counts-same p q
+      same (Counts n k c l d s r) (Counts n′ k′ c′ l′ d′ s′ r′) p q e = summary-same p q
       same (Counts n k c l d s r) (Refused refusal input place) p q e = absurd (not-passed (sym e))
       same (Refused refusal input place) (Counts n k c l d s r) p q e = absurd (not-passed e)
       same (Refused r i place) (Refused r′ i′ place′) p q e = same-refusal Refused r r′ i i′ place place′ e

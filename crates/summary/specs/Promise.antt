@@ -12,7 +12,7 @@ use Rattle.format.specs.Format.{morphismOf, pairsOf}
 use Rattle.format.specs.RuleChecks.{ruleSize, bufferCheck}
 use Rattle.inspection.specs.Inspection.{RuleCounts}
 use Rattle.rulefile.specs.Answers.{checkedChecks, scratchLeft}
-use Rattle.classnumbers.specs.Classes.{ClassCounts}
+use Rattle.theory.specs.Pairs.{ClassCounts}
 use Rattle.reduction.specs.Promise.{ruleOf}
 use Rattle.summary.specs.declared.Summary.{Summary}
 use Rattle.summary.specs.declared.Summary.the-variants.{Counts, Refused}

@@ -1,40 +1,27 @@
 -- The small rules held against the definitions, by computing the tests: which lassos W and Z accept, that W is strong and Z
 -- is not, their linked pairs, classes and joins, and markings of W compared. Assumes nothing.
-use Prim.Native.Nat.{ℕ, _-_}
+use Prim.Native.Nat.{ℕ}
 use mathlib.Core.Path.{_≡_, refl}
 use mathlib.Core.List.{[], _∷_}
 use native.Mathlib.Omega.{arith}
 use lib.Dec.{T}
-use Rattle.theory.specs.Rules.{Morphism, Lawful, Pairs, value}
+use Rattle.theory.specs.Rules.{Morphism, Pairs, value}
 use Rattle.theory.specs.Acceptance.{RuleAccepts, RuleStrong}
-use Rattle.theory.specs.Pairs.{power, Conjugate, LinkedPairs, Classes, Joins}
+use Rattle.theory.specs.Pairs.{power, Conjugate, ClassCounts}
 use Rattle.theory.specs.Inclusion.{Included, Witness}
 use Rattle.theory.specs.Smallest.{SameLassos}
 use Rattle.theory.proofs.Strength.{Closed}
 use Rattle.theory.proofs.Closure.{closure-elim}
 use Rattle.theory.proofs.Included.{FoundWitness, included-elim, included-refuted, witness-refutes, strong-test-elim, strong-test-intro}
-use Rattle.theory.proofs.TableTests.{linked-count, linked-counted, class-count, class-counted, conjugate-elim}
+use Rattle.theory.proofs.TableTests.{counts-by, conjugate-elim}
 use Rattle.theory.proofs.Computing.{computing, lasso-elim, accepts-by, refuses-by}
 use Rattle.theory.proofs.SmallRules.{marks, W, Z, Z₀, no-marks, first-mark, three-marks, W-sound, W-all-sound, Z-sound, Z₀-sound, W-rule, W-all, Z-rule, Z₀-rule}
 use Rattle.theory.proofs.EveryLasso.{AcceptsEvery, every-elim, every-test, every-same, one-every, one-rule}
 
--- how many linked pairs, classes and joins a table has
-pub record Numbers (m : Morphism) (linked classes joins : ℕ) : Type 0 where
-  pub linked-pairs : LinkedPairs m linked
-  pub class-number : Classes m classes
-  pub join-number : Joins m joins
-
-numbers : {m : Morphism} → Lawful m → Numbers m (linked-count m) (class-count m) (linked-count m - class-count m)
-numbers {m} law = record {
-  linked-pairs = linked-counted m;
-  class-number = class-counted law;
-  join-number = record { linked = linked-count m; classes = class-count m; linked-pairs = linked-counted m; class-count = class-counted law; difference = refl };
-}
-
 -- M1: W has 3 linked pairs, 3 classes and 0 joins
-pub W-numbers : Numbers W 3 3 0
+pub W-counts : ClassCounts W 3 3 0
 unfolding computing
-W-numbers = numbers (W-sound .lawful)
+W-counts = counts-by (W-sound .lawful) refl
 
 -- M1: W is strong
 pub W-strong : RuleStrong W-rule
@@ -64,9 +51,9 @@ pub W-all-same : SameLassos W-all (one-rule 2)
 W-all-same = every-same W-all (one-rule 2) refl W-all-every (one-every 2)
 
 -- M5: Z has 2 linked pairs, 1 class and 1 join
-pub Z-numbers : Numbers Z 2 1 1
+pub Z-counts : ClassCounts Z 2 1 1
 unfolding computing
-Z-numbers = numbers (Z-sound .lawful)
+Z-counts = counts-by (Z-sound .lawful) refl
 
 -- the second power of 1 in Z is 0, and the third is 1
 pub record PowersOf (m : Morphism) (x second third : ℕ) : Type 0 where

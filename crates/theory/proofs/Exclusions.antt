@@ -8,7 +8,7 @@ use lib.Dec.{T}
 use Rattle.theory.specs.Words.{Over, over-cons, Lasso}
 use Rattle.theory.specs.Rules.{Morphism, Lawful, Pairs, level, marked, WordOf, AllReached}
 use Rattle.theory.specs.Acceptance.{Accepts}
-use Rattle.theory.specs.Pairs.{Linked, LinkedOnly, Conjugate, LeastConjugate, Counted, counted-none, counted-one, counted-other, LinkedPairs, Classes, Joins}
+use Rattle.theory.specs.Pairs.{Linked, LinkedOnly, Conjugate, LeastConjugate, Counted, counted-none, counted-one, counted-other, ClassCounts}
 use Rattle.theory.specs.Inclusion.{Included, Witness}
 use Rattle.theory.proofs.ShortWords.{reached-intro}
 use Rattle.theory.proofs.TableTests.{conjugate-intro, least-intro, least-elim, counted-same}
@@ -102,13 +102,9 @@ pub Z-not-least : ¬ LeastConjugate Z 1 0 1 0
 unfolding computing
 Z-not-least = least-intro (Z-sound .lawful)
 
--- the joins are one number
-pub joins-same : {m : Morphism} {c c′ : ℕ} → Joins m c → Joins m c′ → c ≡ c′
-unfolding LinkedPairs Classes
-joins-same j k =
-    let l : j .linked ≡ k .linked = counted-same (j .linked-pairs) (k .linked-pairs) in
-    let d : j .classes ≡ k .classes = counted-same (j .class-count) (k .class-count) in
-    omega (arith, j .difference, k .difference)
+-- the joins of Z are one, and not none
+pub Z-joins : ¬ ClassCounts Z 2 1 0
+Z-joins k = omega (arith, k .difference)
 
 -- one number below 3 is 1
 pub count-of-one : {c : ℕ} → Counted (λ i. i ≡ 1) 3 c → c ≡ 1

@@ -12,7 +12,7 @@ use mir.Facts.{eqb-yes, yes-eqb, ltb-yes}
 use Rattle.finite.proofs.Tests.{T-and, T-and-left, T-and-right}
 use Rattle.finite.proofs.Search.{allBelow, all-intro, all-elim, countBelow, bit}
 use Rattle.theory.specs.Rules.{Morphism, Lawful, Pairs, AllReached}
-use Rattle.theory.specs.Pairs.{Linked, LinkedOnly, Conjugate, LeastConjugate, pair-number, Counted, counted-none, counted-one, counted-other, LinkedPairs, Classes}
+use Rattle.theory.specs.Pairs.{Linked, LinkedOnly, Conjugate, LeastConjugate, pair-number, Counted, counted-none, counted-one, counted-other, LinkedPairs, Classes, ClassCounts}
 use Rattle.theory.proofs.Strength.{Closed}
 use Rattle.theory.proofs.Closure.{linked-test, linked-intro, linked-elim, closure-test, closure-intro, closure-elim}
 use Rattle.theory.proofs.ShortWords.{unreached, unreached-first}
@@ -145,6 +145,15 @@ counted-same (counted-one p k) (counted-other f l) = absurd (f p)
 counted-same (counted-other f k) (counted-one q l) = absurd (f q)
 counted-same (counted-other f k) (counted-other g l) = counted-same k l
 
+-- the counts of a table are three numbers
+pub counts-same : {m : Morphism} {linked classes joins linked′ classes′ joins′ : ℕ} → ClassCounts m linked classes joins → ClassCounts m linked′ classes′ joins′
+    → (linked ≡ linked′) × (classes ≡ classes′) × (joins ≡ joins′)
+unfolding LinkedPairs Classes
+counts-same {linked = linked} {classes = classes} {linked′ = linked′} {classes′ = classes′} p q =
+    let el : linked ≡ linked′ = counted-same (p .linked-pairs) (q .linked-pairs) in
+    let ec : classes ≡ classes′ = counted-same (p .class-count) (q .class-count) in
+    (el, ec, omega (arith, p .difference, q .difference))
+
 -- a predicate that a test decides is counted by the test
 pub counted-by : {P : ℕ → Type 0} (p : ℕ → Bool) → ((i : ℕ) → T (p i) ↔ P i) → (n : ℕ) → Counted P n (countBelow n p)
 unfolding countBelow
@@ -175,3 +184,7 @@ pub class-counted : {m : Morphism} → Lawful m → Classes m (class-count m)
 unfolding Classes class-count own-least
 class-counted {m} law =
     counted-by (own-least m) (λ i. (least-elim law (i / m .size) (i % m .size) (i / m .size) (i % m .size), least-intro law)) (m .size * m .size)
+
+-- how many linked pairs, classes and joins a table has is computed
+pub counts-by : {m : Morphism} {joins : ℕ} → Lawful m → joins + class-count m ≡ linked-count m → ClassCounts m (linked-count m) (class-count m) joins
+counts-by {m} law e = record { linked-pairs = linked-counted m; class-count = class-counted law; difference = e }

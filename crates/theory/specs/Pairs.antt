@@ -60,10 +60,8 @@ unfoldable pub Classes : Morphism → ℕ → Type 0
 Classes m c =
     Counted (λ i. LeastConjugate m (i / m .size) (i % m .size) (i / m .size) (i % m .size)) (m .size * m .size) c
 
--- "the joins, which are the first less the second"
-pub record Joins (m : Morphism) (c : ℕ) : Type 0 where
-  pub linked : ℕ
-  pub classes : ℕ
+-- "the linked pairs, the classes, and the joins, which are the first less the second"
+pub record ClassCounts (m : Morphism) (linked classes joins : ℕ) : Type 0 where
   pub linked-pairs : LinkedPairs m linked
   pub class-count : Classes m classes
-  pub difference : linked - classes ≡ c
+  pub difference : joins + classes ≡ linked
