@@ -1,22 +1,37 @@
 -- `automata::cuts` ends: it goes through the lengths below the file's. Assumes nothing.
+use borrow.Author.Needs.{needs}
 use Prim.Native.Nat.{_≤_, _-_}
 use mathlib.Core.Path.{_≡_}
 use lib.ListN.{length}
-use borrow.Author.Needs.{needs}
 use Rattle.automata.proofs.cuts.Statement.{statement}
 use Rattle.automata.proofs.cuts.Tie as tie
 
 abbrev Inv-loop : tie.InvT-loop
-Inv-loop file out₀ scratch₀ n₀ n-end out scratch n = (n ≤ n-end) × (length out ≡ length out₀) × (length scratch ≡ length scratch₀)
+Inv-loop line file scratch₀ n₀ t5 t6 n-end scratch n = (n ≤ n-end) × (length scratch ≡ length scratch₀)
 
 abbrev μ-loop : tie.MeasureT-loop
-μ-loop file out₀ scratch₀ n₀ n-end out scratch n = n-end - n
+μ-loop line file scratch₀ n₀ t5 t6 n-end scratch n = n-end - n
 
 loop-holds : tie.Need-loop-holds Inv-loop μ-loop
 loop-holds c = search needs
 
-cut-requires : tie.Need-cut-requires Inv-loop μ-loop
-cut-requires c κs = search needs
+slice-aggregate-word-and : tie.Need-slice-aggregate-word-and Inv-loop μ-loop
+slice-aggregate-word-and c = search needs
+
+word-and-requires : tie.Need-word-and-requires Inv-loop μ-loop
+word-and-requires c κs = search needs
+
+slice-aggregate-word : tie.Need-slice-aggregate-word Inv-loop μ-loop
+slice-aggregate-word c = search needs
+
+word-requires : tie.Need-word-requires Inv-loop μ-loop
+word-requires c κs = search needs
+
+front-requires : tie.Need-front-requires Inv-loop μ-loop
+front-requires c κs = search needs
+
+tell-requires : tie.Need-tell-requires Inv-loop μ-loop
+tell-requires c κs = search needs
 
 add-n : tie.Need-add-n Inv-loop μ-loop
 add-n c = search needs
@@ -30,9 +45,6 @@ loop-again c = search needs
 same-length : tie.Need-same-length Inv-loop μ-loop
 same-length c = search needs
 
-same-length-2 : tie.Need-same-length-2 Inv-loop μ-loop
-same-length-2 c = search needs
-
 returns : tie.Need-returns Inv-loop μ-loop
 returns c = search needs
 
@@ -43,10 +55,14 @@ cuts-spec =
     Inv-loop
     μ-loop
     loop-holds
-    cut-requires
+    slice-aggregate-word-and
+    word-and-requires
+    slice-aggregate-word
+    word-requires
+    front-requires
+    tell-requires
     add-n
     loop-less
     loop-again
     same-length
-    same-length-2
     returns)

@@ -1,20 +1,23 @@
--- `automata::alike_pairs` ends, and its count stays small. Assumes nothing.
-use Prim.Native.Nat.{_≤_, _-_}
+-- `automatonpaths::count_alike` ends, and its count stays small. Assumes nothing.
 use borrow.Author.Needs.{needs}
-use Rattle.automata.proofs.alike_pairs.Statement.{statement}
-use Rattle.automata.proofs.alike_pairs.Tie as tie
+use Prim.Native.Nat.{_≤_, _-_}
+use Rattle.automatonpaths.proofs.count_alike.Statement.{statement}
+use Rattle.automatonpaths.proofs.count_alike.Tie as tie
 
 abbrev Inv-loop : tie.InvT-loop
-Inv-loop known count₀ i₀ count i = (i ≤ 4096) × (count ≤ i)
+Inv-loop known from to count₀ i₀ count i = count ≤ i
 
 abbrev μ-loop : tie.MeasureT-loop
-μ-loop known count₀ i₀ count i = 4096 - i
+μ-loop known from to count₀ i₀ count i = to - i
 
 loop-holds : tie.Need-loop-holds Inv-loop μ-loop
 loop-holds c = search needs
 
-pair-alike-requires : tie.Need-pair-alike-requires Inv-loop μ-loop
-pair-alike-requires c κs = search needs
+add-alike : tie.Need-add-alike Inv-loop μ-loop
+add-alike c = search needs
+
+alike-requires : tie.Need-alike-requires Inv-loop μ-loop
+alike-requires c κs = search needs
 
 add-count : tie.Need-add-count Inv-loop μ-loop
 add-count c = search needs
@@ -31,14 +34,15 @@ loop-again c = search needs
 returns : tie.Need-returns Inv-loop μ-loop
 returns c = search needs
 
-pub alike-pairs-spec : {M : Type 1} → statement M
-alike-pairs-spec =
+pub count-alike-spec : {M : Type 1} → statement M
+count-alike-spec =
     tie.close
     (tie.spec
     Inv-loop
     μ-loop
     loop-holds
-    pair-alike-requires
+    add-alike
+    alike-requires
     add-count
     add-i
     loop-less
