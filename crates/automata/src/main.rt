@@ -3,7 +3,7 @@ use rules::Membership;
 use rules::Reduced;
 use rules::Translated;
 
-// How many bytes were written. A refusal's line is written here, and 0 is its answer.
+// How many bytes a translation wrote. For a refusal this writes its line, and answers 0.
 fn written(answer: Translated) -> usize {
     match answer {
         Translated::Rule(length) => length,
@@ -59,7 +59,7 @@ fn reduce(rule: &[u8], scratch: &mut [u8]) {
     reduced_line(rules::reduce(rule, &mut out, scratch), &out);
 }
 
-// Translates an automaton. Its rule is written, or reduced, or asked for the lasso of letter 0.
+// Translates an automaton. The command says whether its rule is written, reduced, or asked for the lasso of letter 0.
 fn tell(line: &[u8], automaton: &[u8], scratch: &mut [u8]) {
     let mut out = [9u8; 12308];
     let length = written(rules::automaton_rule(automaton, &mut out, scratch));
@@ -71,7 +71,7 @@ fn tell(line: &[u8], automaton: &[u8], scratch: &mut [u8]) {
     }
 }
 
-// Translates every part that a file begins with, but for the whole of it.
+// Translates every part that a file begins with, but not the whole.
 fn cuts(line: &[u8], file: &[u8], scratch: &mut [u8]) {
     for n in 0..file.len() {
         exampletext::word_and(b"cut to ", n);

@@ -27,48 +27,49 @@ fn entry_at(file: &[u8], entries: &[u8], place: usize) -> u8 {
 }
 
 // Keeps the greater of an entry and another.
-fn raise(entries: &mut [u8], place: usize, entry: u8) {
+fn keep_greater(entries: &mut [u8], place: usize, entry: u8) {
     if exampletext::byte_at(entries, place) < entry {
         exampletext::store(entries, place, entry as usize);
     }
 }
 
-// Lets the paths from p by a word go on by a transition (r, a, q), if a is the letter after that word. The number counts the words
-// with a letter, for each the states p, and for each the 16 transitions.
+// Lets the paths of word k / 16 from p to r go on by a transition (r, a, q), to give those of word k + 1, if a is its last letter. The
+// number counts the words, for each the states p, and for each the 24 transitions.
 fn step(file: &[u8], entries: &mut [u8], number: usize) {
-    let word = number / 96;
-    let row = 6 * (number / 16 % 6);
-    let transition = 10 + 3 * (number % 16);
+    let k = number / 144;
+    let row = 6 * (number / 24 % 6);
+    let transition = 10 + 3 * (number % 24);
     let r = exampletext::byte_at(file, transition) as usize;
     let q = exampletext::byte_at(file, transition + 2) as usize;
-    let before = entry_at(file, entries, 36 * (word / 16) + row + r);
-    if exampletext::byte_at(file, transition + 1) as usize == word % 16 {
+    let before = entry_at(file, entries, 36 * (k / 16) + row + r);
+    if exampletext::byte_at(file, transition + 1) as usize == k % 16 {
         if before != 0 {
-            raise(entries, 36 * word + 36 + row + q, entry_to(file, q, before));
+            keep_greater(entries, 36 * (k + 1) + row + q, entry_to(file, q, before));
         }
     }
 }
 
 fn steps(file: &[u8], entries: &mut [u8]) {
-    for number in 0..419328 {
+    for number in 0..628992 {
         step(file, entries, number);
     }
 }
 
-// The element of a word with a letter, by those of shorter words. The rule has 62 elements.
-fn value(rule: &[u8], values: &[u8], number: usize) -> u8 {
-    let image = exampletext::byte_at(rule, 3846 + number % 16);
-    if number < 16 {
+// The element of word k + 1, by that of word k / 16. The rule has 64 elements: a byte for their number, their products, the number of
+// letters, and the letters.
+fn value(rule: &[u8], values: &[u8], k: usize) -> u8 {
+    let image = exampletext::byte_at(rule, 4098 + k % 16);
+    if k < 16 {
         return image;
     }
-    let before = exampletext::byte_at(values, number / 16) as usize;
-    exampletext::byte_at(rule, 1 + 62 * before + image as usize)
+    let before = exampletext::byte_at(values, k / 16) as usize;
+    exampletext::byte_at(rule, 1 + 64 * before + image as usize)
 }
 
 fn evaluate(rule: &[u8], values: &mut [u8]) {
-    for number in 0..4368 {
-        let element = value(rule, values, number);
-        exampletext::store(values, number + 1, element as usize);
+    for k in 0..4368 {
+        let element = value(rule, values, k);
+        exampletext::store(values, k + 1, element as usize);
     }
 }
 
@@ -116,7 +117,7 @@ fn alike(known: &[u8], x: usize, y: usize) -> usize
     1
 }
 
-// How many pairs of elements are alike, where the second has a number that is greater by i / 64 for an i from a range.
+// How many elements x are alike one that is d after it, where 64 · d + x goes through a range.
 fn count_alike(known: &[u8], from: usize, to: usize) -> usize {
     let mut count = 0;
     for i in from..to {
@@ -125,7 +126,7 @@ fn count_alike(known: &[u8], from: usize, to: usize) -> usize {
     count
 }
 
-// An element that some word has is alike itself.
+// An element that some word has is alike itself, so that the first range counts those.
 fn counts_line(entries: &[u8], values: &[u8]) {
     let mut known = [0u8; 2304];
     let count = count_differing(entries, values, &mut known);
@@ -162,9 +163,8 @@ fn rule_line(answer: Translated, rule: &[u8]) {
     }
 }
 
-// An automaton with a transition for each letter: a cycle through the states, and ways across it.
 fn run(line: &[u8]) {
-    let mut file = [0u8; 58];
+    let mut file = [0u8; 82];
     let mut rule = [9u8; 12308];
     let mut scratch = [7u8; 65536];
     exampletext::numbers(line, 2, &mut file);
@@ -173,8 +173,10 @@ fn run(line: &[u8]) {
     compare(&file, &rule);
 }
 
+// An automaton with 64 matrices and two final states, where a word can have several paths from p to q. The counts change if an end of
+// a path does not count, or if the first or the last path that is found decides.
 fn main() {
     run(
-        b"six states, 16 letters: paths: 6 3 0 0 0 0 0 16 16 0 0 0 1 1 1 2 2 2 3 3 3 4 4 4 5 5 5 0 0 6 2 1 7 3 2 8 4 3 9 5 4 10 0 5 11 1 2 12 1 3 13 2 4 14 3 5 15 4",
+        b"six states, 16 letters: paths: 6 3 0 0 0 0 2 16 24 0 1 0 0 1 0 2 1 1 2 1 1 5 0 2 4 2 2 4 5 2 4 1 3 0 5 4 4 0 5 4 0 6 2 0 6 4 2 7 1 0 8 2 2 9 0 0 10 0 0 10 1 5 10 2 5 10 3 4 11 4 0 12 1 0 12 3 5 13 0 3 14 1",
     );
 }

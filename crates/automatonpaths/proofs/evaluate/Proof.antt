@@ -7,10 +7,10 @@ use Rattle.automatonpaths.proofs.evaluate.Statement.{statement}
 use Rattle.automatonpaths.proofs.evaluate.Tie as tie
 
 abbrev Inv-loop : tie.InvT-loop
-Inv-loop rule values₀ number₀ values number = (number ≤ 4368) × (length values ≡ length values₀)
+Inv-loop rule values₀ k₀ values k = (k ≤ 4368) × (length values ≡ length values₀)
 
 abbrev μ-loop : tie.MeasureT-loop
-μ-loop rule values₀ number₀ values number = 4368 - number
+μ-loop rule values₀ k₀ values k = 4368 - k
 
 loop-holds : tie.Need-loop-holds Inv-loop μ-loop
 loop-holds c = search needs
@@ -27,8 +27,8 @@ cast-store c = search needs
 store-requires : tie.Need-store-requires Inv-loop μ-loop
 store-requires c κs = search needs
 
-add-number : tie.Need-add-number Inv-loop μ-loop
-add-number c = search needs
+add-k : tie.Need-add-k Inv-loop μ-loop
+add-k c = search needs
 
 loop-less : tie.Need-loop-less Inv-loop μ-loop
 loop-less c = search needs
@@ -53,7 +53,7 @@ evaluate-spec =
     add-store
     cast-store
     store-requires
-    add-number
+    add-k
     loop-less
     loop-again
     same-length

@@ -7,10 +7,10 @@ use Rattle.automatonpaths.proofs.steps.Statement.{statement}
 use Rattle.automatonpaths.proofs.steps.Tie as tie
 
 abbrev Inv-loop : tie.InvT-loop
-Inv-loop file entries₀ number₀ entries number = (number ≤ 419328) × (length entries ≡ length entries₀)
+Inv-loop file entries₀ number₀ entries number = (number ≤ 628992) × (length entries ≡ length entries₀)
 
 abbrev μ-loop : tie.MeasureT-loop
-μ-loop file entries₀ number₀ entries number = 419328 - number
+μ-loop file entries₀ number₀ entries number = 628992 - number
 
 loop-holds : tie.Need-loop-holds Inv-loop μ-loop
 loop-holds c = search needs
