@@ -2,6 +2,7 @@
 use Prim.Native.Nat.{ℕ, _+_, _*_, _≤_, _<_}
 use mathlib.Core.Path.{_≡_, subst}
 use mathlib.Core.List.{List, _++_}
+use mathlib.Core.Bool.{Bool, true}
 use native.Mathlib.Omega.{arith}
 use lib.ListN.{length, drop, replicate, length-drop, length-replicate, getD-replicate}
 use Rattle.answer.specs.declared.Refusal.{Refusal}
@@ -19,6 +20,7 @@ use Rattle.table.specs.Answers.{FirstTriple, AllAssociate, TripleAnswer}
 use Rattle.table.proofs.Facts.{table-lawful, first-triple-place, all-associate-none}
 use Rattle.reach.specs.Reach.{Empty, WordOrder, WithoutAnswer, placeAt}
 use Rattle.reach.proofs.Words.{first-unreached, none-without-absurd}
+use Rattle.associating.specs.Tests.{AllFound, AssociatesAnswer}
 use Rattle.format.specs.Format.{marksAt, marksOf, ruleEnd, morphismOf}
 use Rattle.format.specs.RuleChecks.{trailingCheck, tableChecks, markChecks, powerChecks, contentChecks}
 use Rattle.markchecks.specs.declared.Fault.{Fault}
@@ -94,3 +96,23 @@ module _ (bytes : List ℕ) where
           → (answer : Fault) → FaultAnswer (λ input. powerChecks input (morphismOf bytes)) answer → FaultAnswer (λ input. contentChecks input bytes) answer
       powers-decide marks No-fault f = λ input. nothing-follows input (passed-before _ _ (table input) (passed-before _ _ (marks input) (f input)))
       powers-decide marks (Refused r place) f = λ input. nothing-follows input (passed-before _ _ (table input) (passed-before _ _ (marks input) (f input)))
+
+-- words find every element
+pub all-found : {bytes : List ℕ} {n k : ℕ} {entry exit : List ℕ} {count : ℕ} → 256 ≤ length entry → WordOrder bytes n k entry exit count
+    → (answer : Found) → WithoutAnswer exit n answer → answer ≡ Nothing → AllFound bytes n k exit count
+all-found {n = n} {entry = entry} {exit = exit} room order answer known e = record {
+  room = omega (arith, order .same-length);
+  order = order .order;
+  few = order .few;
+  inside = order .inside;
+  places = order .places;
+  have = subst (WithoutAnswer exit n) e known .have;
+}
+
+-- and tests with letters tell that the table associates: 5 and 6 pass
+pub letters-pass : (bytes : List ℕ) (n k : ℕ) → Table bytes n k → {entry exit : List ℕ} {count : ℕ} → WordOrder bytes n k entry exit count
+    → (answer : Found) → WithoutAnswer exit n answer → answer ≡ Nothing → (r : Bool) → AssociatesAnswer (morphismAt bytes n k) r → r ≡ true
+    → (input : ℕ) → FirstFailure (tableChecks input (morphismAt bytes n k)) passed
+letters-pass bytes n k t order answer known e r a h input =
+    let all : AllAssociate (morphismAt bytes n k) = subst (AssociatesAnswer (morphismAt bytes n k)) h a in
+    associative (morphismAt bytes n k) No-fault all (all-reached bytes n k t all order answer known e) input

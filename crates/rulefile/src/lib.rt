@@ -1,6 +1,7 @@
 // The rule file: every check of document 01, in its order. The bytes are read where they are lent; a checked rule leaves its
 // marks in scratch, a byte for each pair.
 use answer::Refusal;
+use associating::associates;
 use layout::Layout;
 use layout::Shape;
 use layout::read_layout;
@@ -10,16 +11,14 @@ use reach::least_without;
 use reach::reach;
 use sections::Found;
 use sections::zero;
-use table::Power;
 use table::Triple;
 use table::first_not_associative;
-use table::idempotent_power;
 ghost use mathlib.Core.Path.{_≡_};
 ghost use Prim.Native.Nat.{_<_, _≤_};
 ghost use lib.ListN.{length, drop};
 ghost use Rattle.table.specs.Table.{Table, morphismAt};
 ghost use Rattle.table.specs.Answers.{AllAssociate};
-ghost use Rattle.format.specs.RuleChecks.{tableChecks, powerChecks, contentChecks};
+ghost use Rattle.format.specs.RuleChecks.{tableChecks, contentChecks};
 ghost use Rattle.layout.specs.Answers.{LayoutPassed};
 ghost use Rattle.markchecks.specs.Faults.{FaultAnswer};
 ghost use Rattle.rulefile.specs.Answers.{reachChecks, Blank, ContentAnswer, CheckPromise};
@@ -41,8 +40,8 @@ fn reach_fault(rule: &[u8], n: usize, k: usize) -> Fault
     }
 }
 
-// Whether the table associates, and then whether every element is some word's value.
-fn table_fault(rule: &[u8], n: usize, k: usize) -> Fault
+// The first triple that does not associate, and without one the least element that is no word's value.
+fn triples_fault(rule: &[u8], n: usize, k: usize) -> Fault
     requires { ⌜ Table (now rule) n k ⌝ }
     ensures { λ r. ⌜ FaultAnswer (λ input. tableChecks input (morphismAt (now (rule .entry)) n k)) r ⌝ }
 {
@@ -55,26 +54,24 @@ fn table_fault(rule: &[u8], n: usize, k: usize) -> Fault
     }
 }
 
-// Whether each element has an idempotent power with an exponent up to n.
-fn power_fault(rule: &[u8], n: usize, k: usize) -> Fault
+// Whether the table associates, and then whether every element is some word's value. Where words find every element, tests with letters
+// mostly tell that it associates; the triples are looked at where they do not.
+fn table_fault(rule: &[u8], n: usize, k: usize) -> Fault
     requires { ⌜ Table (now rule) n k ⌝ }
-    ensures { λ r. ⌜ FaultAnswer (λ input. powerChecks input (morphismAt (now (rule .entry)) n k)) r ⌝ }
+    ensures { λ r. ⌜ FaultAnswer (λ input. tableChecks input (morphismAt (now (rule .entry)) n k)) r ⌝ }
 {
-    for x in 0..n {
-        match idempotent_power(rule, n, k, x) {
-            Power::Idempotent {
-                element: _,
-                exponent: _,
-            } => {}
-            Power::Nothing => {
-                return Fault::Refused {
-                    refusal: Refusal::NoIdempotentPower,
-                    place: x,
-                };
-            }
+    let mut queue = [0u8; 256];
+    let count = reach(rule, n, k, &mut queue);
+    match least_without(&queue, n) {
+        Found::At(s) => {
+            return triples_fault(rule, n, k);
         }
+        Found::Nothing => {}
     }
-    Fault::Nothing
+    if associates(rule, n, k, &queue, count) {
+        return Fault::Nothing;
+    }
+    triples_fault(rule, n, k)
 }
 
 // What follows the last section of an input.
@@ -85,7 +82,8 @@ pub fn rest_after(bytes: &[u8], end: usize) -> &[u8]
     &bytes[end..]
 }
 
-// The checks of a file whose sections are there: nothing follows, the table, the marks, the powers.
+// The checks of a file whose sections are there: nothing follows, the table, the marks. The powers of a table that associates settle
+// (theory/proofs/Powers), so their check is passed.
 fn content_fault(rule: &[u8], shape: Shape, scratch: &mut [u8]) -> Fault
     requires { ⌜ LayoutPassed (now rule) shape ⌝ }
     requires { ⌜ Blank (now scratch) ⌝ }
@@ -116,7 +114,7 @@ fn content_fault(rule: &[u8], shape: Shape, scratch: &mut [u8]) -> Fault
             return Fault::Refused { refusal, place };
         }
     }
-    power_fault(rule, n, k)
+    Fault::Nothing
 }
 
 // A checked rule's counts, or the first check that fails, in the input of the given number.

@@ -86,6 +86,12 @@ entries-cut-answer from size bound at rest count answer e h =
 pub none-out : (bytes : List ℕ) (from bound : ℕ) → AllBelow bytes from 0 bound
 none-out bytes from bound = record { below = λ i h. absurd (let z : ⊥ = omega arith in z) }
 
+-- one more byte, none above a greater bound
+pub raised-below : {bytes : List ℕ} {from i top r : ℕ} → AllBelow bytes from i (top + 1) → top ≤ r → getD bytes (from + i) 0 ≤ r
+    → AllBelow bytes from (i + 1) (r + 1)
+raised-below {bytes} {from} {i} {top} {r} so-far h l =
+    record { below = below-more (λ j. getD bytes (from + j) 0 < r + 1) i (λ j g. omega (arith, so-far .below j g)) (omega arith) }
+
 module _ {bytes : List ℕ} {from bound i : ℕ} (so-far : AllBelow bytes from i bound) where
   -- one more byte below the bound
   pub one-more-below : getD bytes (from + i) 0 < bound → AllBelow bytes from (i + 1) bound
@@ -206,3 +212,7 @@ module _ (s : Section) (input at : ℕ) (rest : List ℕ) where
       (single-cons (single-at (λ place (a : CountOutAt _ _ _ _ place). a .is-place))
       (single-cons (single-at (λ place (a : TruncatedAt _ _ _ place). a .is-place))
       (single-cons (record { one-place = entry-place rest _ _ _ at }) single-nil)))
+
+-- where none is above a byte below the bound, all are below the bound
+pub under-bound : {bytes : List ℕ} {from count top bound : ℕ} → AllBelow bytes from count (top + 1) → top < bound → AllBelow bytes from count bound
+under-bound a h = record { below = λ i l. omega (arith, a .below i l) }

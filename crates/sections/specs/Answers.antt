@@ -20,6 +20,11 @@ pub record FirstOut (bytes : List ℕ) (from count bound index : ℕ) : Type 0 w
 pub record AllBelow (bytes : List ℕ) (from count bound : ℕ) : Type 0 where
   pub below : (i : ℕ) → i < count → getD bytes (from + i) 0 < bound
 
+-- every byte from a place of the buffer on is 0
+pub record ZerosFrom (bytes : List ℕ) (from : ℕ) : Type 0 where
+  pub inside : from ≤ length bytes
+  pub zeros : (i : ℕ) → from ≤ i → getD bytes i 0 ≡ 0
+
 abbrev pub FoundOut : List ℕ → ℕ → ℕ → ℕ → Found → Type 0
 FoundOut bytes from count bound (At i) = FirstOut bytes from count bound i
 FoundOut bytes from count bound Nothing = AllBelow bytes from count bound

@@ -5,7 +5,7 @@ ghost use mathlib.Core.Path.{_≡_};
 ghost use Prim.Native.Nat.{_+_, _≤_, _<_, _^_};
 ghost use lib.ListN.{length, replicate};
 ghost use Rattle.sections.specs.Sections.{one-byte, two-byte};
-ghost use Rattle.sections.specs.Answers.{FoundOut, CountAnswer, EntriesAnswer};
+ghost use Rattle.sections.specs.Answers.{AllBelow, ZerosFrom, FoundOut, CountAnswer, EntriesAnswer};
 
 // Fills a lent buffer with zeros, whatever its length.
 pub fn zero(s: &mut [u8])
@@ -16,13 +16,47 @@ pub fn zero(s: &mut [u8])
     }
 }
 
+// Fills the front of a lent buffer with zeros, where all that follows is zeros.
+pub fn zero_front(s: &mut [u8], count: usize)
+    requires { ⌜ ZerosFrom (now s) count ⌝ }
+    ensures { λ r. ⌜ now (s .exit) ≡ replicate (length (now (s .entry))) 0 ⌝ }
+{
+    for at in 0..count {
+        s[at] = 0;
+    }
+}
+
+// The greater of two bytes.
+fn greater(x: u8, y: u8) -> u8
+    ensures { λ r. ⌜ (x ≤ r) × (y ≤ r) ⌝ }
+{
+    if x < y {
+        return y;
+    }
+    x
+}
+
+// A byte that none of some bytes is above.
+pub fn greatest(s: &[u8], from: usize, count: usize) -> u8
+    requires { ⌜ from + count ≤ length (now s) ⌝ }
+    ensures { λ r. ⌜ AllBelow (now (s .entry)) from count (r + 1) ⌝ }
+{
+    let mut top = 0u8;
+    for i in 0..count {
+        let x = s[from + i];
+        top = greater(top, x);
+    }
+    top
+}
+
 // The first of some bytes that is not below a bound.
 pub enum Found {
     At(usize),
     Nothing,
 }
 
-pub fn first_out(s: &[u8], from: usize, count: usize, bound: usize) -> Found
+// The same, byte by byte.
+fn scan_out(s: &[u8], from: usize, count: usize, bound: usize) -> Found
     requires { ⌜ from + count ≤ length (now s) ⌝ }
     ensures { λ r. ⌜ FoundOut (now (s .entry)) from count bound r ⌝ }
 {
@@ -32,6 +66,18 @@ pub fn first_out(s: &[u8], from: usize, count: usize, bound: usize) -> Found
         }
     }
     Found::Nothing
+}
+
+// Mostly there is none, and the greatest of the bytes tells so faster than a search.
+pub fn first_out(s: &[u8], from: usize, count: usize, bound: usize) -> Found
+    requires { ⌜ from + count ≤ length (now s) ⌝ }
+    ensures { λ r. ⌜ FoundOut (now (s .entry)) from count bound r ⌝ }
+{
+    let top = greatest(s, from, count) as usize;
+    if top < bound {
+        return Found::Nothing;
+    }
+    scan_out(s, from, count, bound)
 }
 
 // A section's count, or the first of its checks that fails.

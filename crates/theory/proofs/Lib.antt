@@ -16,6 +16,7 @@ pub mod ShortWords
 pub mod Comparison
 pub mod Included
 pub mod TableTests
+pub mod Associating
 pub mod Computing
 pub mod SmallRules
 pub mod EveryLasso

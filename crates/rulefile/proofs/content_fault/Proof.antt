@@ -7,9 +7,13 @@ use native.Mathlib.Omega.{arith}
 use lib.ListN.{length, drop}
 use Rattle.answer.specs.Checks.{passed, FirstFailure}
 use Rattle.format.specs.Format.{morphismOf, marksAt, marksOf}
-use Rattle.format.specs.RuleChecks.{tableChecks, markChecks, powerChecks}
+use Rattle.format.specs.RuleChecks.{tableChecks, markChecks}
 use Rattle.rulefile.proofs.Faults.{no-fault, fault-refused, trailing, table-refuses, marks-refuse, powers-decide}
-use Rattle.rulefile.proofs.Content.{square-small, k-small, count-small, end-is, end-in, table-is, marks-room, of-table, of-marks, of-powers, of-laid, laid-said, kept-said, laid-answer}
+use Rattle.rulefile.proofs.Content.{square-small, k-small, count-small, end-is, end-in, table-is, marks-room, of-table, of-marks, of-laid, laid-said, kept-said}
+use Rattle.markchecks.specs.declared.Fault.the-variants.{Nothing as No-fault}
+use Rattle.table.proofs.Facts.{table-lawful}
+use Rattle.rulefile.proofs.Passed.{table-of}
+use Rattle.rulefile.proofs.TablePassed.{table-associates, lawful-powers-pass}
 use borrow.Author.Needs.{needs}
 use Rattle.rulefile.proofs.content_fault.Statement.{statement}
 use Rattle.rulefile.proofs.content_fault.Tie as tie
@@ -97,21 +101,19 @@ returns-3 c =
       kept-said _ _ _ _ _ _ (m .result) (m .ensures .1) (c .before .refusal2 .given .1),
     )
 
-power-fault-requires : tie.Need-power-fault-requires
-power-fault-requires c κs = table-is _ _ (c .before .before .before .before .before .before .before .before .before .before .before .before .before .pre .0)
-
 same-length-2 : tie.Need-same-length-2
 same-length-2 c = search needs
 
 returns-4 : tie.Need-returns-4
 returns-4 c =
-    let b = c .before .before .before .before .before .before .before .before .before .before .before .before .before .before in
-    let m = c .before .before .before .before .before .mark-fault in (
-      powers-decide (b .args .rule .now) (end-is _ _ (b .pre .0)) (follows (c .before .before .before .before .before .before .before .before .before .before)) (table-passes (c .before .before .before .before .before .before .before))
+    let b = c .before .before .before .before .before .before .before .before .before .before .before .before .before in
+    let m = c .before .before .before .before .mark-fault in
+    let table = table-passes (c .before .before .before .before .before .before) in (
+      powers-decide (b .args .rule .now) (end-is _ _ (b .pre .0)) (follows (c .before .before .before .before .before .before .before .before .before)) table
           (no-fault (λ input. markChecks input (morphismOf (b .args .rule .now)) (b .args .rule .now) (marksAt (b .args .rule .now)) 0 (marksOf (b .args .rule .now))) (m .result)
-          (of-marks _ _ (b .pre .0) (m .result) (m .ensures .0)) (c .before .enum-told2 .given .1))
-          (c .power-fault .result) (of-powers _ _ (b .pre .0) (c .power-fault .result) (c .power-fault .ensures)),
-      laid-answer _ _ _ (c .power-fault .result) (of-laid _ _ (b .pre .0) (laid-said _ _ _ _ _ _ (m .result) (m .ensures .1) (c .before .enum-told2 .given .1))),
+          (of-marks _ _ (b .pre .0) (m .result) (m .ensures .0)) (c .enum-told2 .given .1))
+          No-fault (λ input. lawful-powers-pass input (table-lawful (table-of (b .args .rule .now) (b .pre .0 .verdict 1)) (table-associates (table 1)))),
+      of-laid _ _ (b .pre .0) (laid-said _ _ _ _ _ _ (m .result) (m .ensures .1) (c .enum-told2 .given .1)),
     )
 
 pub content-fault-spec : {M : Type 1} → statement M
@@ -136,6 +138,5 @@ content-fault-spec =
     enum-known-refusal-2
     same-length
     returns-3
-    power-fault-requires
     same-length-2
     returns-4)

@@ -1,68 +1,74 @@
--- `rulefile::table_fault` meets its contract: the first triple that does not associate, and after an associative table the
--- reached elements. Assumes nothing.
+-- `rulefile::table_fault` meets its contract: where words find every element and the tests with letters hold, nothing is refused; else the
+-- triples decide. Assumes nothing.
 use native.Mathlib.Omega.{arith}
-use Rattle.table.specs.Table.{morphismAt}
-use Rattle.table.specs.Answers.{FirstTriple, AllAssociate}
-use Rattle.rulefile.proofs.Faults.{triple-at, triple-none, not-associative, associative}
+use lib.ListN.{length-replicate}
+use Prim.Native.Nat.{ℕ}
 use borrow.Author.Needs.{needs}
+use Rattle.rulefile.proofs.Faults.{blank-queue, all-found, letters-pass}
 use Rattle.rulefile.proofs.table_fault.Statement.{statement}
 use Rattle.rulefile.proofs.table_fault.Tie as tie
 
-first-not-associative-requires : tie.Need-first-not-associative-requires
-first-not-associative-requires c κs = search needs
+slice-aggregate-reach : tie.Need-slice-aggregate-reach
+slice-aggregate-reach c = search needs
 
-enum-known-a : tie.Need-enum-known-a
-enum-known-a c = search needs
+reach-requires : tie.Need-reach-requires
+reach-requires c κs = (c .before .before .pre, blank-queue)
 
--- the triple that was found
-found : (c : tie.After-known-told)
-    → FirstTriple (morphismAt (c .before .before .before .before .before .args .rule .now) (c .before .before .before .before .before .args .n) (c .before .before .before .before .before .args .k))
-    (c .before .a .given .0 .0) (c .before .a .given .0 .1 .0) (c .before .a .given .0 .1 .1 .0)
-found c =
-    let a = c .before .before .before .before .before .args in
-    triple-at (a .rule .now) (a .n) (a .k) (c .before .before .before .first-not-associative .result) (c .before .before .before .first-not-associative .ensures) (c .before .a .given .1)
+slice-aggregate-least-without : tie.Need-slice-aggregate-least-without
+slice-aggregate-least-without c = search needs
 
-mul-t10 : tie.Need-mul-t10
-mul-t10 c = omega (arith, found c .a-inside, found c .b-inside, found c .c-inside, c .before .before .before .before .before .pre .small)
+least-without-requires : tie.Need-least-without-requires
+least-without-requires c κs = search needs
 
-mul-t11 : tie.Need-mul-t11
-mul-t11 c = omega (arith, found c .a-inside, found c .b-inside, found c .c-inside, c .before .before .before .before .before .pre .small)
+enum-known-s : tie.Need-enum-known-s
+enum-known-s c = search needs
 
-add-t12 : tie.Need-add-t12
-add-t12 c = omega (arith, found c .a-inside, found c .b-inside, found c .c-inside, c .before .before .before .before .before .pre .small)
+triples-fault-requires : tie.Need-triples-fault-requires
+triples-fault-requires c κs = search needs
 
-add-t13 : tie.Need-add-t13
-add-t13 c = omega (arith, found c .a-inside, found c .b-inside, found c .c-inside, c .before .before .before .before .before .pre .small)
+returns : tie.Need-returns
+returns c = search needs
 
 enum-told : tie.Need-enum-told
 enum-told c = search needs
 
-reach-fault-requires : tie.Need-reach-fault-requires
-reach-fault-requires c κs =
-    let b = c .before .before .before .before in
-    (b .pre, triple-none (b .args .rule .now) (b .args .n) (b .args .k) (c .before .before .first-not-associative .result) (c .before .before .first-not-associative .ensures) (c .enum-told .given .1))
+slice-aggregate-associates : tie.Need-slice-aggregate-associates
+slice-aggregate-associates c = search needs
 
-returns : tie.Need-returns
-returns c = not-associative (found c)
+associates-requires : tie.Need-associates-requires
+associates-requires c κs =
+    let b = c .before .before .before .before .before .before .before .before .before in
+    (b .pre, all-found (omega (arith, length-replicate {A = ℕ} 256 0)) (c .before .before .before .before .before .before .reach .ensures)
+    (c .before .before .before .least-without .result) (c .before .before .before .least-without .ensures) (c .before .enum-told .given .1))
 
 returns-2 : tie.Need-returns-2
 returns-2 c =
-    let b = c .before .before .before .before .before in
-    let all = triple-none (b .args .rule .now) (b .args .n) (b .args .k) (c .before .before .before .first-not-associative .result) (c .before .before .before .first-not-associative .ensures)
-    (c .before .enum-told .given .1) in
-    associative _ (c .reach-fault .result) all (c .reach-fault .ensures)
+    let b = c .before .before .before .before .before .before .before .before .before .before .before in
+    let d = c .before .before .before in
+    letters-pass (b .args .rule .now) (b .args .n) (b .args .k) (b .pre) (d .before .before .before .before .before .reach .ensures)
+    (d .before .before .least-without .result) (d .before .before .least-without .ensures) (d .enum-told .given .1)
+    (c .before .associates .result) (c .before .associates .ensures) (c .if1 .taken)
+
+triples-fault-requires-2 : tie.Need-triples-fault-requires-2
+triples-fault-requires-2 c κs = search needs
+
+returns-3 : tie.Need-returns-3
+returns-3 c = search needs
 
 pub table-fault-spec : {M : Type 1} → statement M
 table-fault-spec =
     tie.close
     (tie.spec
-    first-not-associative-requires
-    enum-known-a
-    mul-t10
-    mul-t11
-    add-t12
-    add-t13
-    enum-told
-    reach-fault-requires
+    slice-aggregate-reach
+    reach-requires
+    slice-aggregate-least-without
+    least-without-requires
+    enum-known-s
+    triples-fault-requires
     returns
-    returns-2)
+    enum-told
+    slice-aggregate-associates
+    associates-requires
+    returns-2
+    triples-fault-requires-2
+    returns-3)

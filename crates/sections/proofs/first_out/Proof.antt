@@ -1,57 +1,24 @@
--- `sections::first_out` meets its contract: the loop passes only bytes below the bound, so a byte that stops it is the first
--- that is not, and where none does all are below it. Assumes nothing.
-use Prim.Native.Nat.{_≤_, _+_, _-_}
-use native.Mathlib.Omega.{arith}
-use Rattle.sections.specs.Answers.{AllBelow}
-use Rattle.sections.proofs.Laws.{none-out, one-more-below, out-first, all-below}
+-- `sections::first_out` meets its contract: where the greatest of the bytes is below the bound all are; else the search answers. Assumes nothing.
+use borrow.Author.Needs.{needs}
+use Rattle.sections.proofs.Laws.{under-bound}
 use Rattle.sections.proofs.first_out.Statement.{statement}
 use Rattle.sections.proofs.first_out.Tie as tie
 
-abbrev Inv-loop : tie.InvT-loop
-Inv-loop s from count bound i₀ i = AllBelow s from i bound × (i ≤ count)
+greatest-requires : tie.Need-greatest-requires
+greatest-requires c κs = search needs
 
-abbrev μ-loop : tie.MeasureT-loop
-μ-loop s from count bound i₀ i = count - i
+cast-top : tie.Need-cast-top
+cast-top c = search needs
 
-loop-holds : tie.Need-loop-holds Inv-loop μ-loop
-loop-holds c = (none-out _ _ _, omega arith)
+returns : tie.Need-returns
+returns c = under-bound (c .before .greatest .ensures) (c .if1 .taken)
 
-add-if1 : tie.Need-add-if1 Inv-loop μ-loop
-add-if1 c = omega arith
+scan-out-requires : tie.Need-scan-out-requires
+scan-out-requires c κs = search needs
 
-shared-slice-read-if1 : tie.Need-shared-slice-read-if1 Inv-loop μ-loop
-shared-slice-read-if1 c = omega arith
-
-cast-if1 : tie.Need-cast-if1 Inv-loop μ-loop
-cast-if1 c = omega (arith, c .shared-slice-known .given (c .before .before .before .args .from + c .before .before .loop .i))
-
-returns : tie.Need-returns Inv-loop μ-loop
-returns c = out-first (c .before .before .before .loop .inv .0) (omega arith) (omega arith)
-
-add-i : tie.Need-add-i Inv-loop μ-loop
-add-i c = omega arith
-
-loop-less : tie.Need-loop-less Inv-loop μ-loop
-loop-less c = omega arith
-
-loop-again : tie.Need-loop-again Inv-loop μ-loop
-loop-again c = (one-more-below (c .before .before .before .loop .inv .0) (c .if1 .left), omega arith)
-
-returns-2 : tie.Need-returns-2 Inv-loop μ-loop
-returns-2 c = all-below (c .before .loop .inv .0) (c .loop-test .left)
+returns-2 : tie.Need-returns-2
+returns-2 c = search needs
 
 pub first-out-spec : {M : Type 1} → statement M
 first-out-spec =
-    tie.close
-    (tie.spec
-    Inv-loop
-    μ-loop
-    loop-holds
-    add-if1
-    shared-slice-read-if1
-    cast-if1
-    returns
-    add-i
-    loop-less
-    loop-again
-    returns-2)
+    tie.close (tie.spec greatest-requires cast-top returns scan-out-requires returns-2)

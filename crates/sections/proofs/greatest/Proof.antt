@@ -1,0 +1,53 @@
+-- `sections::greatest` meets its contract: no byte that was passed is above the greatest so far. Assumes nothing.
+use Prim.Native.Nat.{_≤_, _+_, _-_}
+use native.Mathlib.Omega.{arith}
+use borrow.Author.Needs.{needs}
+use Rattle.sections.specs.Answers.{AllBelow}
+use Rattle.sections.proofs.Laws.{none-out, all-below, raised-below}
+use Rattle.sections.proofs.greatest.Statement.{statement}
+use Rattle.sections.proofs.greatest.Tie as tie
+
+abbrev Inv-loop : tie.InvT-loop
+Inv-loop s from count top₀ i₀ top i = AllBelow s from i (top + 1) × (i ≤ count)
+
+abbrev μ-loop : tie.MeasureT-loop
+μ-loop s from count top₀ i₀ top i = count - i
+
+loop-holds : tie.Need-loop-holds Inv-loop μ-loop
+loop-holds c = (none-out _ _ _, omega arith)
+
+add-x : tie.Need-add-x Inv-loop μ-loop
+add-x c = omega arith
+
+shared-slice-read-x : tie.Need-shared-slice-read-x Inv-loop μ-loop
+shared-slice-read-x c = omega arith
+
+greater-requires : tie.Need-greater-requires Inv-loop μ-loop
+greater-requires c κs = search needs
+
+add-i : tie.Need-add-i Inv-loop μ-loop
+add-i c = omega arith
+
+loop-less : tie.Need-loop-less Inv-loop μ-loop
+loop-less c = omega arith
+
+loop-again : tie.Need-loop-again Inv-loop μ-loop
+loop-again c = (raised-below (c .before .before .before .loop .inv .0) (c .greater .ensures .0) (c .greater .ensures .1), omega arith)
+
+returns : tie.Need-returns Inv-loop μ-loop
+returns c = all-below (c .before .loop .inv .0) (c .loop-test .left)
+
+pub greatest-spec : {M : Type 1} → statement M
+greatest-spec =
+    tie.close
+    (tie.spec
+    Inv-loop
+    μ-loop
+    loop-holds
+    add-x
+    shared-slice-read-x
+    greater-requires
+    add-i
+    loop-less
+    loop-again
+    returns)
