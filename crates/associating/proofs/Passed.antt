@@ -1,13 +1,15 @@
 -- How far the loops of the two tests have come: their invariants, what one turn adds, and what they give at the end. Assumes nothing.
 use Prim.Native.Nat.{ℕ, _+_, _-_, _≤_, _<_}
-use mathlib.Core.Path.{_≡_, subst}
+use mathlib.Core.Path.{_≡_, sym, subst}
+use mathlib.Core.Logic.{⊎-elim}
 use mathlib.Core.Bool.{Bool, true, false, not}
 use mathlib.Core.List.{List}
 use native.Mathlib.Omega.{arith}
+use native.Mathlib.Nat.{eq-or-lt-of-le}
 use borrow.Author.Count.{below-more}
 use lib.ListN.{getD}
 use Rattle.table.specs.Table.{Table, productAt, imageAt, morphismAt}
-use Rattle.associating.specs.Tests.{Along, AlongAnswer, WordAlong, WordAnswer, WordsAlong, Between, BetweenAnswer, Behind, BehindAnswer, LettersBehind, AllBehindAnswer, Front, FrontAnswer, LettersBetween}
+use Rattle.associating.specs.Tests.{LetterEntries, Along, AlongAnswer, WordAlong, WordsAlong, Between, BetweenAnswer, LettersBetween}
 
 pub true-apart : not false ≡ false → ⊥
 true-apart e = let z : _≡_ {A = ℕ} 0 1 = cc in omega arith
@@ -54,52 +56,62 @@ module _ {bytes : List ℕ} {n k g h : ℕ} where
   pub between-all : {x : ℕ} → BetweenBefore bytes n k g h x → n ≤ x → Between (morphismAt bytes n k) g h
   between-all b l = record { between = λ y g. b .passed y (omega arith) }
 
--- the answer about one entry, from the answer about its elements
-pub word-said : (bytes : List ℕ) (n k : ℕ) (queue : List ℕ) (i : ℕ) {h : ℕ} (r : Bool) → h ≡ imageAt bytes n (getD queue (128 + i) 0)
-    → AlongAnswer (morphismAt bytes n k) (getD queue (getD queue (64 + i) 0 - 1) 0) h (getD queue i 0) r → WordAnswer bytes n k queue i r
-word-said bytes n k queue i true e a = λ l. subst (λ (x : ℕ). Along (morphismAt bytes n k) (getD queue (getD queue (64 + i) 0 - 1) 0) x (getD queue i 0)) e a
-word-said bytes n k queue i false e a = tt
+-- the first entries were found from the empty word's
+pub record LettersTo (queue : List ℕ) (i : ℕ) : Type 0 where
+  pub first : (j : ℕ) → j < i → getD queue (64 + j) 0 ≡ 0
 
-pub behind-said : (bytes : List ℕ) (n k : ℕ) (queue : List ℕ) (g j : ℕ) (r : Bool) → BetweenAnswer (morphismAt bytes n k) g (getD queue j 0) r
-    → BehindAnswer bytes n k queue g j r
-behind-said bytes n k queue g j true b = λ e. b
-behind-said bytes n k queue g j false b = tt
+module _ {queue : List ℕ} where
+  pub letters-none : LettersTo queue 0
+  letters-none = record { first = λ j h. absurd (omega arith) }
 
-pub front-said : (bytes : List ℕ) (n k : ℕ) (queue : List ℕ) (count i : ℕ) (r : Bool) → AllBehindAnswer bytes n k queue count (getD queue i 0) r
-    → FrontAnswer bytes n k queue count i r
-front-said bytes n k queue count i true b = λ e. b
-front-said bytes n k queue count i false b = tt
+  pub letters-one : {i : ℕ} → LettersTo queue i → getD queue (64 + i) 0 ≤ 0 → LettersTo queue (i + 1)
+  letters-one {i} l h = record { first = below-more (λ j. getD queue (64 + j) 0 ≡ 0) i (l .first) (omega arith) }
+
+  -- all of them were
+  pub letters-only : {i count : ℕ} → LettersTo queue i → count ≤ i → LetterEntries queue count count
+  letters-only l h = record { few = omega arith; first = λ j g. l .first j (omega arith); later = λ j g b. absurd (let z : ⊥ = omega arith in z) }
+
+-- (g·x)·h = g·(x·h) for the element g of an entry and the elements h of the first entries
+pub record RowBetween (bytes : List ℕ) (n k : ℕ) (queue : List ℕ) (i cols : ℕ) : Type 0 where
+  pub behind : (j : ℕ) → j < cols → Between (morphismAt bytes n k) (getD queue i 0) (getD queue j 0)
 
 -- one entry more
 module _ {bytes : List ℕ} {n k : ℕ} {queue : List ℕ} where
-  pub words-start : WordsAlong bytes n k queue 0
-  words-start = record { words = λ i l. absurd (omega arith) }
+  pub words-start : (from : ℕ) → WordsAlong bytes n k queue from from
+  words-start from = record { word = λ i l h. absurd (omega arith) }
 
-  pub words-next : {i : ℕ} → WordsAlong bytes n k queue i → (r : Bool) → WordAnswer bytes n k queue i r → not r ≡ false → WordsAlong bytes n k queue (i + 1)
-  words-next {i} w true a e = record { words = below-more (λ j. WordAlong bytes n k queue j) i (w .words) a }
-  words-next w false a e = absurd (true-apart e)
+  pub words-next : {from i h : ℕ} → WordsAlong bytes n k queue from i → h ≡ imageAt bytes n (getD queue (128 + i) 0) → (r : Bool)
+      → AlongAnswer (morphismAt bytes n k) (getD queue (getD queue (64 + i) 0 - 1) 0) h (getD queue i 0) r → not r ≡ false → WordsAlong bytes n k queue from (i + 1)
+  words-next {from} {i} w e true a q = record {
+    word = λ j l h. ⊎-elim
+        (λ (p : j ≡ i). subst (WordAlong bytes n k queue) (sym p) (subst (λ (x : ℕ). Along (morphismAt bytes n k) (getD queue (getD queue (64 + i) 0 - 1) 0) x (getD queue i 0)) e a))
+        (λ (b : j < i). w .word j l b) (eq-or-lt-of-le (let b : j ≤ i = omega arith in b));
+  }
+  words-next w e false a q = absurd (true-apart q)
 
-  pub words-all : {i count : ℕ} → WordsAlong bytes n k queue i → count ≤ i → WordsAlong bytes n k queue count
-  words-all w l = record { words = λ j h. w .words j (omega arith) }
+  pub words-all : {from i count : ℕ} → WordsAlong bytes n k queue from i → count ≤ i → WordsAlong bytes n k queue from count
+  words-all w l = record { word = λ j g h. w .word j g (omega arith) }
 
-  module _ {g : ℕ} where
-    pub behind-start : LettersBehind bytes n k queue 0 g
-    behind-start = record { behind = λ j l. absurd (omega arith) }
+  pub row-start : {i : ℕ} → RowBetween bytes n k queue i 0
+  row-start = record { behind = λ j l. absurd (omega arith) }
 
-    pub behind-next : {j : ℕ} → LettersBehind bytes n k queue j g → (r : Bool) → BehindAnswer bytes n k queue g j r → not r ≡ false → LettersBehind bytes n k queue (j + 1) g
-    behind-next {j} b true a e = record { behind = below-more (λ i. Behind bytes n k queue g i) j (b .behind) a }
-    behind-next b false a e = absurd (true-apart e)
+  -- one letter behind more
+  pub row-next : {i j : ℕ} → RowBetween bytes n k queue i j → (r : Bool) → BetweenAnswer (morphismAt bytes n k) (getD queue i 0) (getD queue j 0) r → not r ≡ false
+      → RowBetween bytes n k queue i (j + 1)
+  row-next {i} {j} b true a e = record { behind = below-more (λ q. Between (morphismAt bytes n k) (getD queue i 0) (getD queue q 0)) j (b .behind) a }
+  row-next b false a e = absurd (true-apart e)
 
-    pub behind-all : {j count : ℕ} → LettersBehind bytes n k queue j g → count ≤ j → LettersBehind bytes n k queue count g
-    behind-all b l = record { behind = λ i h. b .behind i (omega arith) }
+  module _ {letters : ℕ} where
+    pub letters-start : LettersBetween bytes n k queue 0 letters
+    letters-start = record { letter = λ i j h l. absurd (omega arith) }
 
-  module _ {count : ℕ} where
-    pub front-start : LettersBetween bytes n k queue count 0
-    front-start = record { front = λ i l. absurd (omega arith) }
+    -- one letter in front more, with all behind
+    pub letters-next : {i j : ℕ} → LettersBetween bytes n k queue i letters → RowBetween bytes n k queue i j → letters ≤ j → LettersBetween bytes n k queue (i + 1) letters
+    letters-next {i} b row l = record {
+      letter = λ p q h g.
+          below-more (λ p. (q : ℕ) → q < letters → Between (morphismAt bytes n k) (getD queue p 0) (getD queue q 0)) i (λ p h q g. b .letter p q h g)
+          (λ q g. row .behind q (omega arith)) p h q g;
+    }
 
-    pub front-next : {i : ℕ} → LettersBetween bytes n k queue count i → (r : Bool) → FrontAnswer bytes n k queue count i r → not r ≡ false → LettersBetween bytes n k queue count (i + 1)
-    front-next {i} b true a e = record { front = below-more (λ j. Front bytes n k queue count j) i (b .front) a }
-    front-next b false a e = absurd (true-apart e)
-
-    pub front-all : {i : ℕ} → LettersBetween bytes n k queue count i → count ≤ i → LettersBetween bytes n k queue count count
-    front-all b l = record { front = λ j h. b .front j (omega arith) }
+    pub letters-all : {i : ℕ} → LettersBetween bytes n k queue i letters → letters ≤ i → LettersBetween bytes n k queue letters letters
+    letters-all b l = record { letter = λ i j h g. b .letter i j (omega arith) g }

@@ -19,6 +19,12 @@ pub record AllFound (bytes : List ℕ) (n k : ℕ) (queue : List ℕ) (count : �
   pub places : Places queue n count
   pub have : (s : ℕ) → s < n → 0 < placeAt queue s
 
+-- so many entries were found from the empty word's, and those behind them from others
+pub record LetterEntries (queue : List ℕ) (count letters : ℕ) : Type 0 where
+  pub few : letters ≤ count
+  pub first : (i : ℕ) → i < letters → getD queue (64 + i) 0 ≡ 0
+  pub later : (i : ℕ) → letters ≤ i → i < count → 0 < getD queue (64 + i) 0
+
 -- (x·p)·h = x·s for every x
 pub record Along (m : Morphism) (p h s : ℕ) : Type 0 where
   pub along : (x : ℕ) → x < m .size → m .product (m .product x p) h ≡ m .product x s
@@ -27,23 +33,18 @@ abbrev pub AlongAnswer : Morphism → ℕ → ℕ → ℕ → Bool → Type 0
 AlongAnswer m p h s true = Along m p h s
 AlongAnswer m p h s false = Unit {0}
 
--- so for the element of an entry that was found from another
+-- so for the element of an entry, with the element that it was found from and its letter's
 abbrev pub WordAlong : List ℕ → ℕ → ℕ → List ℕ → ℕ → Type 0
 WordAlong bytes n k queue i =
-    0 < getD queue (64 + i) 0
-    → Along (morphismAt bytes n k) (getD queue (getD queue (64 + i) 0 - 1) 0) (imageAt bytes n (getD queue (128 + i) 0)) (getD queue i 0)
+    Along (morphismAt bytes n k) (getD queue (getD queue (64 + i) 0 - 1) 0) (imageAt bytes n (getD queue (128 + i) 0)) (getD queue i 0)
 
-abbrev pub WordAnswer : List ℕ → ℕ → ℕ → List ℕ → ℕ → Bool → Type 0
-WordAnswer bytes n k queue i true = WordAlong bytes n k queue i
-WordAnswer bytes n k queue i false = Unit {0}
+-- so for every entry from one number up to another
+pub record WordsAlong (bytes : List ℕ) (n k : ℕ) (queue : List ℕ) (from to : ℕ) : Type 0 where
+  pub word : (i : ℕ) → from ≤ i → i < to → WordAlong bytes n k queue i
 
--- so for the first entries
-pub record WordsAlong (bytes : List ℕ) (n k : ℕ) (queue : List ℕ) (count : ℕ) : Type 0 where
-  pub words : (i : ℕ) → i < count → WordAlong bytes n k queue i
-
-abbrev pub WordsAnswer : List ℕ → ℕ → ℕ → List ℕ → ℕ → Bool → Type 0
-WordsAnswer bytes n k queue count true = WordsAlong bytes n k queue count
-WordsAnswer bytes n k queue count false = Unit {0}
+abbrev pub WordsAnswer : List ℕ → ℕ → ℕ → List ℕ → ℕ → ℕ → Bool → Type 0
+WordsAnswer bytes n k queue from to true = WordsAlong bytes n k queue from to
+WordsAnswer bytes n k queue from to false = Unit {0}
 
 -- (g·x)·h = g·(x·h) for every x
 pub record Between (m : Morphism) (g h : ℕ) : Type 0 where
@@ -53,37 +54,13 @@ abbrev pub BetweenAnswer : Morphism → ℕ → ℕ → Bool → Type 0
 BetweenAnswer m g h true = Between m g h
 BetweenAnswer m g h false = Unit {0}
 
--- so for g and an entry that is a letter's element
-abbrev pub Behind : List ℕ → ℕ → ℕ → List ℕ → ℕ → ℕ → Type 0
-Behind bytes n k queue g j = getD queue (64 + j) 0 ≡ 0 → Between (morphismAt bytes n k) g (getD queue j 0)
-
-abbrev pub BehindAnswer : List ℕ → ℕ → ℕ → List ℕ → ℕ → ℕ → Bool → Type 0
-BehindAnswer bytes n k queue g j true = Behind bytes n k queue g j
-BehindAnswer bytes n k queue g j false = Unit {0}
-
--- so for g and the first entries
-pub record LettersBehind (bytes : List ℕ) (n k : ℕ) (queue : List ℕ) (count g : ℕ) : Type 0 where
-  pub behind : (j : ℕ) → j < count → Behind bytes n k queue g j
-
-abbrev pub AllBehindAnswer : List ℕ → ℕ → ℕ → List ℕ → ℕ → ℕ → Bool → Type 0
-AllBehindAnswer bytes n k queue count g true = LettersBehind bytes n k queue count g
-AllBehindAnswer bytes n k queue count g false = Unit {0}
-
--- so for an entry that is a letter's element
-abbrev pub Front : List ℕ → ℕ → ℕ → List ℕ → ℕ → ℕ → Type 0
-Front bytes n k queue count i = getD queue (64 + i) 0 ≡ 0 → LettersBehind bytes n k queue count (getD queue i 0)
-
-abbrev pub FrontAnswer : List ℕ → ℕ → ℕ → List ℕ → ℕ → ℕ → Bool → Type 0
-FrontAnswer bytes n k queue count i true = Front bytes n k queue count i
-FrontAnswer bytes n k queue count i false = Unit {0}
-
--- so for the first entries
-pub record LettersBetween (bytes : List ℕ) (n k : ℕ) (queue : List ℕ) (count first : ℕ) : Type 0 where
-  pub front : (i : ℕ) → i < first → Front bytes n k queue count i
+-- so for the elements of two entries, the first below one number and the second below another
+pub record LettersBetween (bytes : List ℕ) (n k : ℕ) (queue : List ℕ) (rows letters : ℕ) : Type 0 where
+  pub letter : (i j : ℕ) → i < rows → j < letters → Between (morphismAt bytes n k) (getD queue i 0) (getD queue j 0)
 
 abbrev pub LettersAnswer : List ℕ → ℕ → ℕ → List ℕ → ℕ → Bool → Type 0
-LettersAnswer bytes n k queue count true = LettersBetween bytes n k queue count count
-LettersAnswer bytes n k queue count false = Unit {0}
+LettersAnswer bytes n k queue letters true = LettersBetween bytes n k queue letters letters
+LettersAnswer bytes n k queue letters false = Unit {0}
 
 abbrev pub AssociatesAnswer : Morphism → Bool → Type 0
 AssociatesAnswer m true = AllAssociate m

@@ -4,7 +4,21 @@ use table::image;
 use table::product;
 ghost use Prim.Native.Nat.{_<_};
 ghost use Rattle.table.specs.Table.{Table, morphismAt};
-ghost use Rattle.associating.specs.Tests.{AllFound, AlongAnswer, WordAnswer, WordsAnswer, BetweenAnswer, BehindAnswer, AllBehindAnswer, FrontAnswer, LettersAnswer, AssociatesAnswer};
+ghost use Rattle.associating.specs.Tests.{AllFound, LetterEntries, AlongAnswer, WordsAnswer, BetweenAnswer, LettersAnswer, AssociatesAnswer};
+
+// How many entries are letters' elements: those that were found from entry 0, which stand first, each once.
+fn letter_entries(rule: &[u8], n: usize, k: usize, queue: &[u8], count: usize) -> usize
+    requires { ⌜ Table (now rule) n k ⌝ }
+    requires { ⌜ AllFound (now rule) n k (now queue) count ⌝ }
+    ensures { λ r. ⌜ LetterEntries (now (queue .entry)) count r ⌝ }
+{
+    for i in 0..count {
+        if 0 < queue[64 + i] {
+            return i;
+        }
+    }
+    count
+}
 
 // Whether (x·p)·h is x·s for every x.
 fn along(rule: &[u8], n: usize, k: usize, p: usize, h: usize, s: usize) -> bool
@@ -23,32 +37,28 @@ fn along(rule: &[u8], n: usize, k: usize, p: usize, h: usize, s: usize) -> bool
     true
 }
 
-// Whether every product with the element of an entry is one with the element that it was found from and then one with its letter's.
-fn word_associates(rule: &[u8], n: usize, k: usize, queue: &[u8], count: usize, i: usize) -> bool
+// Whether every product with the element of an entry behind the letters' is one with the element that it was found from and then one
+// with its letter's.
+fn words_associate(
+    rule: &[u8],
+    n: usize,
+    k: usize,
+    queue: &[u8],
+    count: usize,
+    letters: usize,
+) -> bool
     requires { ⌜ Table (now rule) n k ⌝ }
     requires { ⌜ AllFound (now rule) n k (now queue) count ⌝ }
-    requires { ⌜ i < count ⌝ }
-    ensures { λ r. ⌜ WordAnswer (now (rule .entry)) n k (now (queue .entry)) i r ⌝ }
+    requires { ⌜ LetterEntries (now queue) count letters ⌝ }
+    ensures { λ r. ⌜ WordsAnswer (now (rule .entry)) n k (now (queue .entry)) letters count r ⌝ }
 {
-    let from = queue[64 + i] as usize;
-    if from == 0 {
-        return true;
-    }
-    let p = queue[from - 1] as usize;
-    let s = queue[i] as usize;
-    let letter = queue[128 + i] as usize;
-    let h = image(rule, n, letter);
-    along(rule, n, k, p, h, s)
-}
-
-// Whether this holds for every entry.
-fn words_associate(rule: &[u8], n: usize, k: usize, queue: &[u8], count: usize) -> bool
-    requires { ⌜ Table (now rule) n k ⌝ }
-    requires { ⌜ AllFound (now rule) n k (now queue) count ⌝ }
-    ensures { λ r. ⌜ WordsAnswer (now (rule .entry)) n k (now (queue .entry)) count r ⌝ }
-{
-    for i in 0..count {
-        if !word_associates(rule, n, k, queue, count, i) {
+    for i in letters..count {
+        let from = queue[64 + i] as usize;
+        let p = queue[from - 1] as usize;
+        let s = queue[i] as usize;
+        let letter = queue[128 + i] as usize;
+        let h = image(rule, n, letter);
+        if !along(rule, n, k, p, h, s) {
             return false;
         }
     }
@@ -73,79 +83,45 @@ fn between(rule: &[u8], n: usize, k: usize, g: usize, h: usize) -> bool
     true
 }
 
-// Whether this holds for g and an entry, if the entry is a letter's element: those were found from entry 0, each once.
-fn letter_behind(
+// Whether this holds for every two letters' elements.
+fn letters_associate(
     rule: &[u8],
     n: usize,
     k: usize,
     queue: &[u8],
     count: usize,
-    g: usize,
-    j: usize,
+    letters: usize,
 ) -> bool
     requires { ⌜ Table (now rule) n k ⌝ }
     requires { ⌜ AllFound (now rule) n k (now queue) count ⌝ }
-    requires { ⌜ (g < n) × (j < count) ⌝ }
-    ensures { λ r. ⌜ BehindAnswer (now (rule .entry)) n k (now (queue .entry)) g j r ⌝ }
+    requires { ⌜ LetterEntries (now queue) count letters ⌝ }
+    ensures { λ r. ⌜ LettersAnswer (now (rule .entry)) n k (now (queue .entry)) letters r ⌝ }
 {
-    if 0 < queue[64 + j] {
-        return true;
-    }
-    let h = queue[j] as usize;
-    between(rule, n, k, g, h)
-}
-
-// Whether this holds for g and every letter's element.
-fn letters_behind(rule: &[u8], n: usize, k: usize, queue: &[u8], count: usize, g: usize) -> bool
-    requires { ⌜ Table (now rule) n k ⌝ }
-    requires { ⌜ AllFound (now rule) n k (now queue) count ⌝ }
-    requires { ⌜ g < n ⌝ }
-    ensures { λ r. ⌜ AllBehindAnswer (now (rule .entry)) n k (now (queue .entry)) count g r ⌝ }
-{
-    for j in 0..count {
-        if !letter_behind(rule, n, k, queue, count, g, j) {
-            return false;
+    for i in 0..letters {
+        let g = queue[i] as usize;
+        for j in 0..letters {
+            let h = queue[j] as usize;
+            if !between(rule, n, k, g, h) {
+                return false;
+            }
         }
     }
     true
 }
 
-// Whether this holds for an entry and every letter's element, if the entry is a letter's element.
-fn letter_in_front(rule: &[u8], n: usize, k: usize, queue: &[u8], count: usize, i: usize) -> bool
-    requires { ⌜ Table (now rule) n k ⌝ }
-    requires { ⌜ AllFound (now rule) n k (now queue) count ⌝ }
-    requires { ⌜ i < count ⌝ }
-    ensures { λ r. ⌜ FrontAnswer (now (rule .entry)) n k (now (queue .entry)) count i r ⌝ }
-{
-    if 0 < queue[64 + i] {
-        return true;
-    }
-    let g = queue[i] as usize;
-    letters_behind(rule, n, k, queue, count, g)
-}
-
-// Whether this holds for every two letters' elements.
-fn letters_associate(rule: &[u8], n: usize, k: usize, queue: &[u8], count: usize) -> bool
-    requires { ⌜ Table (now rule) n k ⌝ }
-    requires { ⌜ AllFound (now rule) n k (now queue) count ⌝ }
-    ensures { λ r. ⌜ LettersAnswer (now (rule .entry)) n k (now (queue .entry)) count r ⌝ }
-{
-    for i in 0..count {
-        if !letter_in_front(rule, n, k, queue, count, i) {
-            return false;
-        }
-    }
-    true
-}
-
-// Both tests: true only where every triple associates.
+// Both tests: true only where every triple associates. The first looks up three products for each element and entry behind the letters',
+// the second four for each element and two letters; where that is no less than the three for each triple, the triples are left to decide.
 pub fn associates(rule: &[u8], n: usize, k: usize, queue: &[u8], count: usize) -> bool
     requires { ⌜ Table (now rule) n k ⌝ }
     requires { ⌜ AllFound (now rule) n k (now queue) count ⌝ }
     ensures { λ r. ⌜ AssociatesAnswer (morphismAt (now (rule .entry)) n k) r ⌝ }
 {
-    if !words_associate(rule, n, k, queue, count) {
+    let letters = letter_entries(rule, n, k, queue, count);
+    if 3 * (n * n) <= 3 * (n - letters) + 4 * (letters * letters) {
         return false;
     }
-    letters_associate(rule, n, k, queue, count)
+    if !words_associate(rule, n, k, queue, count, letters) {
+        return false;
+    }
+    letters_associate(rule, n, k, queue, count, letters)
 }

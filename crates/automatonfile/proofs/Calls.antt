@@ -1,10 +1,9 @@
 -- What a call that reads an automaton first knows of it afterwards. Assumes nothing.
 use Prim.Native.Nat.{ℕ, _≤_, _<_}
 use mathlib.Core.Path.{_≡_, refl, ap, _∙_, subst}
-use mathlib.Core.Bool.{Bool}
 use mathlib.Core.List.{List}
 use native.Mathlib.Omega.{arith}
-use lib.ListN.{length, getD, replicate}
+use lib.ListN.{length, replicate}
 use Rattle.answer.specs.declared.Refusal.{Refusal}
 use Rattle.answer.specs.Checks.{passed, FirstFailure}
 use Rattle.answer.proofs.Order.{passes-head, passes-tail}
@@ -15,8 +14,7 @@ use Rattle.automatonformat.specs.AutomatonChecks.{readChecks}
 use Rattle.automatonformat.specs.GoodAutomaton.{GoodAutomaton}
 use Rattle.automatonfile.specs.declared.AutomatonRead.{AutomatonRead}
 use Rattle.automatonfile.specs.declared.AutomatonRead.the-variants.{Automaton, Refused}
-use Rattle.automatonfile.specs.Answers.{tripleIndex, TransitionsLaid, ReadPromise}
-use Rattle.automatonfile.proofs.Laid.{index-apart}
+use Rattle.automatonfile.specs.Answers.{ReadPromise}
 use Rattle.automatonfile.proofs.CheckedAutomaton.{good-automaton}
 
 module _ (input : ℕ) (bytes entry : List ℕ) (all : FirstFailure (readChecks input bytes entry) passed) where
@@ -41,15 +39,3 @@ module _ (input : ℕ) (bytes entry exit : List ℕ) (answer : AutomatonRead) (k
 
   pub was-refused : {r : Refusal} {i place : ℕ} → answer ≡ Refused r i place → ReadPromise input bytes entry exit (Refused r i place)
   was-refused e = subst (ReadPromise input bytes entry exit) e known
-
--- a triple out of range has the byte 0
-pub laid-outside : {present : ℕ → ℕ → ℕ → Bool} {m k size : ℕ} {exit : List ℕ} → m ≤ 6 → k ≤ 16 → TransitionsLaid present m k size exit
-    → (p a q : ℕ) → a < 16 → q < 6 → ((p < m) × (a < k) × (q < m) → ⊥) → getD exit (tripleIndex p a q) 0 ≡ 0
-laid-outside hm hk l p a q ha hq f =
-    l .other (tripleIndex p a q)
-    (λ p′ a′ q′ gp ga gq e.
-    let d = index-apart p a q p′ a′ q′ ha hq (omega arith) (omega arith) e in
-    let ep : p ≡ p′ = d .0 in
-    let ea : a ≡ a′ = d .1 in
-    let eq : q ≡ q′ = d .2 in
-    f (omega arith, omega arith, omega arith))

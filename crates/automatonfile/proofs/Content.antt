@@ -1,38 +1,23 @@
 -- The counts that were read, and what the checks after the sections say in terms of them. Assumes nothing.
 use Prim.Native.Nat.{ℕ, _+_, _*_, _≤_, _<_}
 use mathlib.Core.Path.{_≡_, sym, ap, _∙_, subst}
-use mathlib.Core.Logic.{⊎-elim}
 use mathlib.Core.List.{List}
 use native.Mathlib.Omega.{arith}
-use lib.ListN.{length, getD, drop, replicate, length-drop, length-replicate, getD-replicate, List·getD-eq-default}
+use lib.ListN.{length, drop, length-drop}
 use Rattle.answer.specs.declared.Refusal.the-variants.{TrailingBytes}
 use Rattle.answer.specs.Checks.{Verdict, refused, FirstFailure}
 use Rattle.answer.proofs.Order.{first-passes, first-fails}
-use Rattle.finite.proofs.Numbers.{le-or-lt}
 use Rattle.format.specs.RuleChecks.{trailingCheck}
 use Rattle.markchecks.specs.declared.Fault.{Fault}
 use Rattle.markchecks.specs.declared.Fault.the-variants.{Nothing, Refused}
 use Rattle.markchecks.specs.Faults.{FaultAnswer}
-use Rattle.rulefile.specs.Answers.{Blank}
 use Rattle.automatonformat.specs.Format.{lettersAt, transitionsAt, transitionsOf, automatonEnd}
 use Rattle.automatonformat.specs.AutomatonChecks.{repeatedChecks, contentChecks}
 use Rattle.automatonformat.specs.GoodAutomaton.{GoodSections}
 use Rattle.automatonsections.specs.declared.Counts.{Counts}
 use Rattle.automatonsections.specs.Sections.{LayoutPassed}
-use Rattle.automatonfile.specs.Answers.{TransitionsPlace, BlankRoom}
+use Rattle.automatonfile.specs.Answers.{TransitionsPlace}
 use Rattle.automatonfile.proofs.Passed.{good-sections}
-
--- zeros are 0 wherever they are read
-zero-at : (n i : ℕ) → _≡_ {A = ℕ} (getD (replicate n 0) i 0) 0
-zero-at n i =
-    ⊎-elim (λ (h : n ≤ i). List·getD-eq-default (replicate n 0) 0 (omega (arith, length-replicate {A = ℕ} n 0))) (λ h. getD-replicate n i 0 0 h) (le-or-lt n i)
-
--- a blank scratch has room for the transitions
-pub blank-room : {scratch : List ℕ} → Blank scratch → BlankRoom scratch
-blank-room {scratch} b = record {
-  room = omega (arith, b .room);
-  blank = λ i. subst (λ (l : List ℕ). getD l i 0 ≡ 0) (sym (b .zeros)) (zero-at (length scratch) i);
-}
 
 module _ (bytes : List ℕ) (counts : Counts) (p : LayoutPassed bytes counts) where
   abbrev m : ℕ

@@ -81,12 +81,11 @@ module _ (bytes : List ℕ) where
       ∙ ap (λ (b : Bool). b || amongFirst bytes i p a q) (T-false (isTransition bytes p a q i) (λ t. f (goes-elim bytes p a q i t)))
 
   -- none stands among none
-  pub laid-start : {m k : ℕ} {table : List ℕ} → BlankRoom table → TransitionsLaid (amongFirst bytes 0) m k (length table) table
+  pub laid-start : {m k : ℕ} {table : List ℕ} → m ≤ 6 → k ≤ 16 → BlankRoom table → TransitionsLaid (amongFirst bytes 0) m k (length table) table
   unfolding amongFirst
-  laid-start r = record {
+  laid-start hm hk r = record {
     same-length = refl;
-    transition = λ p a q hp ha hq. r .blank (tripleIndex p a q) ∙ ap oneIf (sym (any-zero (isTransition bytes p a q)));
-    other = λ i f. r .blank i;
+    transition = λ p a q hp ha hq. r .blank (tripleIndex p a q) (index-below hm hk hp ha hq) ∙ ap oneIf (sym (any-zero (isTransition bytes p a q)));
   }
 
   -- all of them stand among all
@@ -159,7 +158,4 @@ module _ (bytes : List ℕ) where
     laid-next b = record {
       same-length = length-set now (indexOf bytes i) 1 ∙ l .same-length;
       transition = λ p a q hp ha hq. laid-at p a q hp ha hq (ℕ-discrete (indexOf bytes i) (tripleIndex p a q)) b;
-      other = λ j f.
-          getD-set-other now (indexOf bytes i) j 1 0 (λ e. f pᵢ aᵢ qᵢ (good .from-below i h) (good .letter-below i h) (good .to-below i h) e)
-          ∙ l .other j f;
     }

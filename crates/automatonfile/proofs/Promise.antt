@@ -2,8 +2,9 @@
 use Prim.Native.Nat.{ℕ, _≤_, _<_}
 use mathlib.Core.Path.{_≡_, sym, ap, _∙_, subst}
 use mathlib.Core.List.{List}
+use native.Mathlib.Omega.{arith}
 use borrow.Author.Tests.{lt-ltb}
-use lib.ListN.{length, replicate, length-replicate}
+use lib.ListN.{length, replicate}
 use Rattle.answer.specs.declared.Refusal.{Refusal}
 use Rattle.answer.specs.declared.Refusal.the-variants.{BufferTooShort}
 use Rattle.answer.specs.Checks.{passed, refused, FirstFailure}
@@ -12,6 +13,7 @@ use Rattle.format.proofs.Buffers.{buffer-short, buffer-long}
 use Rattle.format.specs.RuleChecks.{scratchSize}
 use Rattle.markchecks.specs.declared.Fault.{Fault}
 use Rattle.markchecks.specs.declared.Fault.the-variants.{Nothing, Refused as Fault-refused}
+use Rattle.sections.specs.Answers.{PartZeroed}
 use Rattle.rulefile.specs.Answers.{afterCall}
 use Rattle.rulefile.proofs.Promise.{zeros-after}
 use Rattle.automatonformat.specs.Format.{statesOf, lettersOf, hasTransition}
@@ -21,7 +23,7 @@ use Rattle.automatonsections.specs.declared.Layout.{Layout}
 use Rattle.automatonsections.specs.declared.Layout.the-variants.{Read, Refused as Layout-refused}
 use Rattle.automatonfile.specs.declared.AutomatonRead.the-variants.{Automaton, Refused}
 use Rattle.automatonsections.specs.Sections.{LayoutAnswer, LayoutPassed}
-use Rattle.automatonfile.specs.Answers.{LaidAnswer, TransitionsLaid, ReadPromise}
+use Rattle.automatonfile.specs.Answers.{transitionTableSize, BlankRoom, LaidAnswer, TransitionsLaid, ReadPromise}
 
 -- a short scratch is left as it came
 pub short-scratch : (input : ℕ) (bytes scratch : List ℕ) → length scratch < scratchSize → ReadPromise input bytes scratch scratch (Refused BufferTooShort 1 0)
@@ -53,17 +55,15 @@ module _ (input : ℕ) (bytes entry : List ℕ) (h : scratchSize ≤ length entr
     content-promise z f = record { verdict = buffer-long h (passed-before _ _ (p .verdict input) (f input)); scratch = z ∙ zeros-after entry h }
 
     -- every check passes
-    pub automaton-promise : {zeros exit : List ℕ} → zeros ≡ replicate (length entry) 0 → ((input : ℕ) → FirstFailure (contentChecks input bytes) passed)
-        → TransitionsLaid (hasTransition bytes) (statesOf bytes) (lettersOf bytes) (length zeros) exit
+    pub automaton-promise : {size : ℕ} {exit : List ℕ} → size ≡ length entry → ((input : ℕ) → FirstFailure (contentChecks input bytes) passed)
+        → TransitionsLaid (hasTransition bytes) (statesOf bytes) (lettersOf bytes) size exit
         → ReadPromise input bytes entry exit (Automaton (counts .states) (counts .letters) (counts .transitions))
     unfolding automatonChecks
-    automaton-promise {zeros} {exit} z f l = record {
+    automaton-promise {exit = exit} z f l = record {
       verdict = buffer-long h (passed-before _ _ (p .verdict input) (f input));
       scratch = record {
         counts-are = p .counts-are;
-        laid =
-            subst (λ (n : ℕ). TransitionsLaid (hasTransition bytes) (statesOf bytes) (lettersOf bytes) n exit)
-            (ap length z ∙ length-replicate (length entry) 0) l;
+        laid = subst (λ (n : ℕ). TransitionsLaid (hasTransition bytes) (statesOf bytes) (lettersOf bytes) n exit) z l;
       };
     }
 
@@ -75,7 +75,10 @@ module _ (bytes entry exit : List ℕ) (answer : Fault) (known : LaidAnswer byte
   pub kept-said : {r : Refusal} {place : ℕ} → answer ≡ Fault-refused r place → length exit ≡ length entry
   kept-said e = subst (LaidAnswer bytes entry exit) e known
 
--- a scratch that kept its length from zeros on, made zeros again
-pub zeros-again : (entry zeros : List ℕ) {size : ℕ} {exit : List ℕ} → zeros ≡ replicate (length entry) 0 → size ≡ length zeros → exit ≡ replicate size 0
-    → exit ≡ replicate (length entry) 0
-zeros-again entry zeros z k e = e ∙ ap (λ (n : ℕ). replicate n 0) (k ∙ ap length z ∙ length-replicate (length entry) 0)
+-- a scratch that kept its length, made zeros
+pub zeros-again : (entry : List ℕ) {size : ℕ} {exit : List ℕ} → size ≡ length entry → exit ≡ replicate size 0 → exit ≡ replicate (length entry) 0
+zeros-again entry k e = e ∙ ap (λ (n : ℕ). replicate n 0) k
+
+-- a table that was made blank
+pub blank-room : {entry now : List ℕ} → scratchSize ≤ length entry → PartZeroed 0 transitionTableSize entry now → BlankRoom now
+blank-room h z = record { room = omega (arith, z .outside .same-length); blank = λ i l. z .zeros i (omega arith) l }

@@ -30,17 +30,19 @@ pub record TransitionsPlace (bytes : List ℕ) (at count : ℕ) : Type 0 where
   pub is-place : at ≡ transitionsAt bytes
   pub is-count : count ≡ transitionsOf bytes
 
--- room for a byte for each possible transition, all of them 0
-pub record BlankRoom (table : List ℕ) : Type 0 where
-  pub room : 576 ≤ length table
-  pub blank : (i : ℕ) → getD table i 0 ≡ 0
+-- the bytes that the transitions take: one for each triple of up to 6 states and 16 letters
+abbrev pub transitionTableSize : ℕ
+transitionTableSize = 576
 
--- transitions laid out in so many bytes: 1 at the index of each, 0 at that of any other triple of m states and k letters, and
--- every other byte is 0
+-- room for them, all of them 0
+pub record BlankRoom (table : List ℕ) : Type 0 where
+  pub room : transitionTableSize ≤ length table
+  pub blank : (i : ℕ) → i < transitionTableSize → getD table i 0 ≡ 0
+
+-- transitions laid out in a buffer of so many bytes: 1 at the index of each, 0 at that of any other triple of m states and k letters
 pub record TransitionsLaid (present : ℕ → ℕ → ℕ → Bool) (m k size : ℕ) (exit : List ℕ) : Type 0 where
   pub same-length : length exit ≡ size
   pub transition : (p a q : ℕ) → p < m → a < k → q < m → getD exit (tripleIndex p a q) 0 ≡ oneIf (present p a q)
-  pub other : (i : ℕ) → ((p a q : ℕ) → p < m → a < k → q < m → i ≡ tripleIndex p a q → ⊥) → getD exit i 0 ≡ 0
 
 -- the transitions of a file are laid out; or, where a check fails, nothing is said of the bytes but their number
 abbrev pub LaidAnswer : List ℕ → List ℕ → List ℕ → Fault → Type 0
@@ -52,7 +54,7 @@ abbrev pub verdictOf : AutomatonRead → Verdict
 verdictOf (Automaton states letters transitions) = passed
 verdictOf (Read-refused refusal input place) = refused refusal input place
 
--- an automaton that was read: its counts, and scratch holds its transitions and nothing else
+-- an automaton that was read: its counts, and scratch holds its transitions
 pub record AutomatonLaid (bytes : List ℕ) (states letters transitions : ℕ) (entry exit : List ℕ) : Type 0 where
   pub counts-are : CountsAre bytes states letters transitions
   pub laid : TransitionsLaid (hasTransition bytes) (statesOf bytes) (lettersOf bytes) (length entry) exit

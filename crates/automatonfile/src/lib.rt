@@ -7,10 +7,10 @@ use automatonsections::read_layout;
 use markchecks::Fault;
 use rulefile::rest_after;
 use sections::zero;
+use sections::zero_part;
 ghost use mathlib.Core.Path.{_≡_};
 ghost use Prim.Native.Nat.{_+_, _*_, _<_};
 ghost use Rattle.markchecks.specs.Faults.{FaultAnswer};
-ghost use Rattle.rulefile.specs.Answers.{Blank};
 ghost use Rattle.automatonformat.specs.Format.{transitionsOf};
 ghost use Rattle.automatonformat.specs.AutomatonChecks.{repeatedChecks, contentChecks};
 ghost use Rattle.automatonsections.specs.Sections.{LayoutPassed};
@@ -53,7 +53,7 @@ fn repeated_fault(bytes: &[u8], at: usize, count: usize, table: &mut [u8]) -> Fa
 // The checks of a file whose sections are there: nothing follows, and no transition stands twice.
 fn content_fault(bytes: &[u8], counts: Counts, scratch: &mut [u8]) -> Fault
     requires { ⌜ LayoutPassed (now bytes) counts ⌝ }
-    requires { ⌜ Blank (now scratch) ⌝ }
+    requires { ⌜ BlankRoom (now scratch) ⌝ }
     ensures verdict { λ r. ⌜ FaultAnswer (λ input. contentChecks input (now (bytes .entry))) r ⌝ }
     ensures laid { λ r. ⌜ LaidAnswer (now (bytes .entry)) (now (scratch .entry)) (now (scratch .exit)) r ⌝ }
 {
@@ -86,7 +86,7 @@ pub enum AutomatonRead {
 }
 
 // Reads an automaton file that is the input of the given number. Scratch is then zeros, or, of an automaton that passes, holds its
-// transitions and nothing else: byte p·96 + (a·6 + q) is 1 where one goes from p by a to q.
+// transitions in its first 576 bytes: byte p·96 + (a·6 + q) is 1 where one goes from p by a to q.
 pub fn read_automaton(bytes: &[u8], input: usize, scratch: &mut [u8]) -> AutomatonRead
     ensures { λ r. ⌜ ReadPromise input (now (bytes .entry)) (now (scratch .entry)) (now (scratch .exit)) r ⌝ }
 {
@@ -97,10 +97,11 @@ pub fn read_automaton(bytes: &[u8], input: usize, scratch: &mut [u8]) -> Automat
             place: 0,
         };
     }
-    zero(scratch);
+    zero_part(scratch, 0, 576);
     let counts = match read_layout(bytes) {
         Layout::Read(counts) => counts,
         Layout::Refused { refusal, place } => {
+            zero(scratch);
             return AutomatonRead::Refused {
                 refusal,
                 input,

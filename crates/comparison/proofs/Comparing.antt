@@ -12,7 +12,6 @@ use Rattle.reach.proofs.Words.{wordAt, found-word, reached-found}
 use Rattle.scratch.specs.Map.{pairsFrom}
 use Rattle.spelling.specs.Spelling.{SpellPlace, WordWritten}
 use Rattle.spelling.proofs.Entries.{spell-place}
-use Rattle.searchlist.specs.Queue.{seenAt}
 use Rattle.search.specs.Search.{Stands, EscapePlace, EscapeAnswer, EscapedAt, Escaped}
 use Rattle.search.specs.declared.Escape.{Escape}
 use Rattle.search.specs.declared.Escape.the-variants.{At, Nothing as No-escape}
@@ -38,14 +37,11 @@ module _ {bytes : List ℕ} {n k : ℕ} {before queue : List ℕ} {count s : ℕ
 module _ {m : Morphism} {entry : List ℕ} (place : ComparePlace m entry) where
   -- the search compares the first marking with the second
   pub compare-search : EscapePlace m 0 4096 entry
-  unfolding seenAt
   compare-search = record {
     lawful = place .lawful;
     first-base = omega arith;
     second-base = omega arith;
     room = place .room;
-    lists = record { room = omega (arith, place .room); blank = λ i h l. place .blank i (omega arith) };
-    unseen = λ c h. place .blank _ (omega arith);
   }
 
   module _ {mid : List ℕ} {answer : Escape} (r : Escaped m 0 4096 entry mid answer) where

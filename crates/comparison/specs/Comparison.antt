@@ -24,12 +24,11 @@ pub record StartWritten (m : Morphism) (s : ℕ) (entry exit : List ℕ) (r : �
   pub found : ShortWord m s
   pub written : WordWritten (found .word) entry exit r
 
--- a lawful table whose elements are all reached, room, and zeros behind both tables of marks
+-- a lawful table whose elements are all reached, and room, whatever stands behind both tables of marks
 pub record ComparePlace (m : Morphism) (scratch : List ℕ) : Type 0 where
   pub lawful : Lawful m
   pub reached : AllReached m
   pub room : 65536 ≤ length scratch
-  pub blank : (i : ℕ) → 8192 ≤ i → getD scratch i 0 ≡ 0
 
 -- "Otherwise u of at most n letters and v of at most (n+1)·(n+1) − 1 letters, accepted under the first and not under the second",
 -- at the front of their buffers

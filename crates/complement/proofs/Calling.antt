@@ -67,7 +67,7 @@ module _ (bytes out entry : List ℕ) where
           let e : answer ≡ false = sym (not-not answer) ∙ ap not n in
           record {
             verdict = buffer-long long (passed-before _ _ (p .verdict)
-                (first-fails (weakCheck bytes) (record { weak = subst (StrongIf (morphismOf bytes) (pairsOf bytes)) e (decided-file 1 bytes entry p d); is-place = refl })));
+                (first-fails (weakCheck 1 bytes) (record { weak = subst (StrongIf (morphismOf bytes) (pairsOf bytes)) e (decided-file 1 bytes entry p d); is-place = refl })));
             answered = refl;
             scratch = zeros decided end refl z;
           }

@@ -32,7 +32,7 @@ pub record TablesWritten (m : Morphism) (scratch entry exit : List ℕ) (r : ℕ
 
 -- "First 13", of both buffers; then the rule's own checks; then 12
 abbrev pub complementChecks : List ℕ → List ℕ → List ℕ → List Check
-complementChecks bytes out scratch = bufferCheck ruleSize out ∷ (checkedChecks 1 bytes scratch ++ (weakCheck bytes ∷ []))
+complementChecks bytes out scratch = bufferCheck ruleSize out ∷ (checkedChecks 1 bytes scratch ++ (weakCheck 1 bytes ∷ []))
 
 -- document 01's number, input and place of an answer
 abbrev pub complementVerdict : Complemented → Verdict

@@ -16,7 +16,7 @@ use Rattle.sections.specs.Sections.{twoBytes, sectionChecks}
 use Rattle.table.specs.Table.{morphismAt}
 use Rattle.format.specs.Format.{elementsOf, morphismOf, pairsOf, markWidth, marksSection}
 use Rattle.format.proofs.Buffers.{buffer-short, buffer-long}
-use Rattle.format.specs.RuleChecks.{trailingCheck, markChecks, secondMarksChecks}
+use Rattle.format.specs.RuleChecks.{scratchSize, trailingCheck, markChecks, secondMarksChecks}
 use Rattle.layout.specs.declared.Shape.{Shape}
 use Rattle.rulefile.specs.declared.Checked.the-variants.{Rule, Refused as Checked-refused}
 use Rattle.markchecks.specs.declared.Fault.{Fault}
@@ -27,8 +27,8 @@ use Rattle.rulefile.proofs.Calls.{zeros-left, checked-length, shape-morphism}
 use Rattle.rulefile.proofs.MarksPassed.{passed-marks, marking-linked}
 use Rattle.scratch.specs.Map.{pairsFrom}
 use Rattle.search.specs.Search.{Stands}
-use Rattle.strength.proofs.Calling.{checked-table, checked-lawful, checked-reached, checked-linked, marks-stand, zeros-behind, checked-room}
-use Rattle.inclusion.specs.Laying.{SecondRoom, SecondLaid, LaidAnswer}
+use Rattle.strength.proofs.Calling.{checked-table, checked-lawful, checked-reached, checked-linked, marks-stand, checked-room}
+use Rattle.inclusion.specs.Laying.{SecondLaid, LaidAnswer}
 use Rattle.comparison.specs.Comparison.{ComparePlace, InclusionAnswer, Answered, answered-included, answered-apart, Compared}
 use Rattle.inclusion.specs.Promise.{startSize, cycleSize, secondPairs, inclusionChecks, inclusionVerdict, inclusionLeft, InclusionPromise}
 use Rattle.comparison.specs.declared.Inclusion.{Inclusion}
@@ -72,8 +72,8 @@ module _ (bytes second u v entry : List ℕ) where
         abbrev m : Morphism
         m = morphismAt bytes (shape .elements) (shape .letters)
 
-        pub second-room : SecondRoom mid
-        second-room = record { room = checked-room 1 bytes entry p; blank = zeros-behind 1 bytes entry p }
+        pub second-room : scratchSize ≤ length mid
+        second-room = checked-room 1 bytes entry p
 
         zeros : (was end : List ℕ) → length was ≡ length mid → end ≡ replicate (length was) 0 → end ≡ inclusionLeft u v entry
         zeros was end e z = left (zeros-left 1 bytes entry (p .verdict) was end (e ∙ checked-length (p .scratch)) z)
@@ -102,7 +102,6 @@ module _ (bytes second u v entry : List ℕ) where
               lawful = checked-lawful 1 bytes entry p;
               reached = checked-reached 1 bytes entry p;
               room = omega (arith, checked-room 1 bytes entry p, second-laid .same-length);
-              blank = λ i h. second-laid .after i h ∙ zeros-behind 1 bytes entry p i (omega arith);
             }
 
             second-linked : LinkedOnly m (secondPairs second)

@@ -10,24 +10,29 @@ use borrow.Rule.Slice.PartMut.{putMid, same-len-mid}
 use Rattle.finite.proofs.Numbers.{le-or-lt}
 use Rattle.theory.specs.Rules.{Pairs}
 use Rattle.format.specs.Format.{marksIn}
+use Rattle.format.specs.RuleChecks.{scratchSize}
 use Rattle.markchecks.specs.declared.Fault.{Fault}
 use Rattle.markchecks.specs.declared.Fault.the-variants.{Nothing, Refused as Fault-refused}
 use Rattle.markchecks.specs.Faults.{MarksLaid}
 use Rattle.secondmarks.specs.SecondMarks.{MarksSpace, SecondAnswer}
-use Rattle.scratch.specs.Map.{pairsFrom}
+use Rattle.sections.specs.Answers.{PartZeroed}
+use Rattle.scratch.specs.Map.{pairsFrom, secondBase, tablesEnd}
 use Rattle.search.specs.Search.{Stands}
-use Rattle.inclusion.specs.Laying.{SecondRoom, SecondLaid, LaidAnswer}
+use Rattle.inclusion.specs.Laying.{SecondLaid, LaidAnswer}
 use Rattle.scratch.proofs.Parts.{part-length, part-byte, before-part, in-part}
 
-module _ {scratch : List ℕ} (place : SecondRoom scratch) where
-  inside : 4096 ≤ length scratch
-  inside = omega (arith, place .room)
+module _ {entry scratch : List ℕ} (room : scratchSize ≤ length entry) (z : PartZeroed secondBase tablesEnd entry scratch) where
+  long-still : scratchSize ≤ length scratch
+  long-still = omega (arith, z .outside .same-length)
 
-  -- the part behind the first marks is blank
+  inside : 4096 ≤ length scratch
+  inside = omega (arith, long-still)
+
+  -- the part behind the first marks begins with a blank table
   pub second-space : MarksSpace (take (length scratch - 4096) (drop 4096 scratch))
   second-space = record {
-    room = omega (arith, part-length scratch 4096 inside, place .room);
-    blank = λ i h. part-byte scratch 4096 inside i (omega (arith, place .room)) ∙ place .blank (4096 + i) (omega arith);
+    room = omega (arith, part-length scratch 4096 inside, long-still);
+    blank = λ i h. part-byte scratch 4096 inside i (omega (arith, long-still)) ∙ z .zeros (4096 + i) (omega arith) (omega arith);
   }
 
   module _ (second : List ℕ) {n : ℕ} (small : n ≤ 64) (new : List ℕ) where
@@ -45,7 +50,7 @@ module _ {scratch : List ℕ} (place : SecondRoom scratch) where
       before = before-part scratch 4096 inside new rest;
       after = λ i h. ⊎-elim (λ past. List·getD-eq-default (take 4096 scratch ++ (new ++ rest)) 0 (omega (arith, put-length (l .same-length))) ∙ sym (List·getD-eq-default scratch 0 past))
           (λ within. behind i h within) (le-or-lt (length scratch) i);
-      mark = λ s e hs he. in-part scratch 4096 inside new rest (s * 64 + e) (omega (arith, long, place .room)) ∙ l .mark s e hs he;
+      mark = λ s e hs he. in-part scratch 4096 inside new rest (s * 64 + e) (omega (arith, long, long-still)) ∙ l .mark s e hs he;
     }
       where
         long : length new ≡ length scratch - 4096
@@ -63,9 +68,16 @@ module _ {scratch : List ℕ} (place : SecondRoom scratch) where
             subst (λ (x : ℕ). getD (take 4096 scratch ++ (new ++ rest)) x 0 ≡ getD scratch x 0) (sym e) (byte (i - 4096) (omega arith) (omega arith))
 
     pub laid-answer : (answer : Fault) → SecondAnswer second n (take (length scratch - 4096) (drop 4096 scratch)) new answer
-        → LaidAnswer second n scratch (putMid 4096 (length scratch - 4096) scratch new) answer
-    laid-answer Nothing l = second-laid l
-    laid-answer (Fault-refused refusal place) l = put-length l
+        → LaidAnswer second n entry (putMid 4096 (length scratch - 4096) scratch new) answer
+    laid-answer Nothing l =
+        let d = second-laid l in
+        record {
+          same-length = d .same-length ∙ z .outside .same-length;
+          before = λ i h. d .before i h ∙ z .outside .before i h;
+          after = λ i h. d .after i h ∙ z .outside .after i h;
+          mark = d .mark;
+        }
+    laid-answer (Fault-refused refusal place) l = put-length l ∙ z .outside .same-length
 
 -- the first marks stand where they stood
 pub moved-marks : {n : ℕ} {P : Pairs} {entry exit : List ℕ} → n ≤ 64 → ((i : ℕ) → i < 4096 → getD exit i 0 ≡ getD entry i 0) → Stands n P entry 0 → Stands n P exit 0

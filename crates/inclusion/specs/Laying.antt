@@ -7,11 +7,6 @@ use Rattle.format.specs.Format.{marksIn}
 use Rattle.markchecks.specs.declared.Fault.{Fault}
 use Rattle.markchecks.specs.declared.Fault.the-variants.{Nothing, Refused as Fault-refused}
 
--- room, and zeros behind the first table of marks
-pub record SecondRoom (scratch : List ℕ) : Type 0 where
-  pub room : 65536 ≤ length scratch
-  pub blank : (i : ℕ) → 4096 ≤ i → getD scratch i 0 ≡ 0
-
 -- the second marking is laid out behind the first, and every other byte is as it was
 pub record SecondLaid (second : List ℕ) (n : ℕ) (entry exit : List ℕ) : Type 0 where
   pub same-length : length exit ≡ length entry

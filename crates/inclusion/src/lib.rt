@@ -8,22 +8,26 @@ use rulefile::Checked;
 use rulefile::check;
 use secondmarks::second_marks;
 use sections::zero;
+use sections::zero_part;
 ghost use mathlib.Core.Path.{_≡_};
+ghost use Prim.Native.Nat.{_≤_};
+ghost use lib.ListN.{length};
 ghost use Rattle.table.specs.Table.{Table};
 ghost use Rattle.format.specs.Format.{elementsOf, lettersOf};
-ghost use Rattle.format.specs.RuleChecks.{secondMarksChecks};
+ghost use Rattle.format.specs.RuleChecks.{scratchSize, secondMarksChecks};
 ghost use Rattle.markchecks.specs.Faults.{FaultAnswer};
-ghost use Rattle.inclusion.specs.Laying.{SecondRoom, LaidAnswer};
+ghost use Rattle.inclusion.specs.Laying.{LaidAnswer};
 ghost use Rattle.inclusion.specs.Promise.{InclusionPromise};
 
 // Checks the second marks and lays them out behind the first.
 fn lay_second(rule: &[u8], n: usize, k: usize, second: &[u8], scratch: &mut [u8]) -> Fault
     requires { ⌜ Table (now rule) n k ⌝ }
     requires { ⌜ (n ≡ elementsOf (now rule)) × (k ≡ lettersOf (now rule)) ⌝ }
-    requires { ⌜ SecondRoom (now scratch) ⌝ }
+    requires { ⌜ scratchSize ≤ length (now scratch) ⌝ }
     ensures verdict { λ r. ⌜ FaultAnswer (λ input. secondMarksChecks input (now (rule .entry)) (now (second .entry))) r ⌝ }
     ensures laid { λ r. ⌜ LaidAnswer (now (second .entry)) n (now (scratch .entry)) (now (scratch .exit)) r ⌝ }
 {
+    zero_part(scratch, 4096, 8192);
     second_marks(rule, n, k, second, &mut scratch[4096..])
 }
 

@@ -1,43 +1,32 @@
 -- What an inspection promises, from what the check of the same file promises, and that it has one answer only. Assumes nothing.
-use Prim.Native.Nat.{ℕ, _≤_, _<_}
+use Prim.Native.Nat.{ℕ}
 use mathlib.Core.Path.{_≡_, refl, sym, ap, _∙_, subst}
 use mathlib.Core.List.{List}
-use native.Mathlib.Omega.{arith}
-use lib.ListN.{length, replicate, length-replicate}
+use lib.ListN.{length, replicate}
 use Rattle.answer.specs.declared.Refusal.{Refusal}
-use Rattle.answer.specs.Checks.{passed, FirstFailure}
-use Rattle.answer.proofs.Order.{passes-head, one-verdict}
+use Rattle.answer.proofs.Order.{one-verdict}
 use Rattle.answer.proofs.Verdicts.{same-refusal, not-passed}
-use Rattle.format.specs.RuleChecks.{scratchSize}
 use Rattle.layout.specs.declared.Shape.{Shape}
 use Rattle.rulefile.specs.declared.Checked.{Checked}
 use Rattle.rulefile.specs.declared.Checked.the-variants.{Rule, Refused}
 use Rattle.inspection.specs.declared.Inspected.{Inspected}
 use Rattle.inspection.specs.declared.Inspected.the-variants.{Rule as Inspected-rule, Refused as Inspected-refused}
 use Rattle.inspection.specs.Inspection.{inspectedVerdict, InspectPromise}
-use Rattle.rulefile.specs.Answers.{checkedChecks, CheckPromise}
-use Rattle.rulefile.proofs.Promise.{zeros-after}
+use Rattle.rulefile.specs.Answers.{CheckPromise}
+use Rattle.rulefile.proofs.Calls.{zeros-left, checked-length}
 use Rattle.rulefile.proofs.OneVerdict.{checked-single}
-
--- where every check passes, scratch has its full size
-pub scratch-long : (input : ℕ) (bytes scratch : List ℕ) → FirstFailure (checkedChecks input bytes scratch) passed → scratchSize ≤ length scratch
-scratch-long input bytes scratch f =
-    let h : length scratch < scratchSize → ⊥ = λ l. passes-head f .nowhere 0 (record { short = l; is-place = refl }) in
-    omega arith
 
 module _ (bytes entry mid : List ℕ) (answer : Checked) (known : CheckPromise 1 bytes entry mid answer) where
   -- a checked rule, after which scratch was cleared
   pub inspected-rule : {shape : Shape} {exit : List ℕ} → answer ≡ Rule shape → exit ≡ replicate (length mid) 0
       → InspectPromise bytes entry exit (Inspected-rule (shape .elements) (shape .letters) (shape .marks))
-  inspected-rule {shape} e z =
+  inspected-rule {shape} {exit} e z =
       let p : CheckPromise 1 bytes entry mid (Rule shape) = subst (CheckPromise 1 bytes entry mid) e known in
       let s = p .scratch .shape-is in
       record {
         verdict = p .verdict;
         values = record { elements-are = s .elements; letters-are = s .letters; marks-are = s .marks };
-        scratch =
-            z ∙ ap (λ (n : ℕ). replicate n 0) (p .scratch .marks .same-length ∙ length-replicate (length entry) 0)
-            ∙ zeros-after entry (scratch-long 1 bytes entry (p .verdict));
+        scratch = zeros-left 1 bytes entry (p .verdict) mid exit (checked-length (p .scratch)) z;
       }
 
   -- a refusal is handed on

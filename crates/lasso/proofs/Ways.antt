@@ -69,7 +69,7 @@ module _ (bytes u v entry : List ℕ) where
     unfolding marked level markedIn
     agrees = record {
       same = λ s e hs he. ap (leb 1)
-          (sym (p .scratch .marks .mark s e (omega (arith, p .scratch .shape-is .elements)) (omega (arith, p .scratch .shape-is .elements))));
+          (sym (p .scratch .mark s e (omega (arith, p .scratch .shape-is .elements)) (omega (arith, p .scratch .shape-is .elements))));
     }
 
     -- zeros after the marks or after their use

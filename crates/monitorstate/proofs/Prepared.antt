@@ -19,14 +19,11 @@ use Rattle.rulefile.proofs.Calls.{zeros-left, checked-length, called-good, shap
 use Rattle.monitorstate.specs.declared.Monitor.{Monitor}
 use Rattle.monitorstate.specs.declared.Ready.{Ready}
 use Rattle.monitorstate.specs.declared.Ready.the-variants.{Rule as Ready-rule, Refused as Not-ready}
-use Rattle.monitorstate.specs.Monitor.{IsStray, StrayAt}
-use Rattle.monitorstate.specs.Ready.{GoodNumber, StrayAnswer, monitorChecks, ReadyPromise}
+use Rattle.monitorstate.specs.Monitor.{IsStray}
+use Rattle.monitorstate.specs.Ready.{GoodNumber, StrayAnswer, strayCheck, monitorChecks, ReadyPromise}
 use Rattle.monitorstate.proofs.Numbers.{not-stray, good-not-stray}
 
 module _ (bytes : List ℕ) (f : Monitor) (entry : List ℕ) where
-  abbrev stray-check : Check
-  stray-check = record { refusal = EntryOutOfRange; input = 1; Fails = StrayAt (elementsOf bytes) f }
-
   -- the rule is refused
   pub rule-refused : {exit : List ℕ} {r : Refusal} {i place : ℕ} → CheckPromise 1 bytes entry exit (Refused r i place) → ReadyPromise bytes f entry exit (Not-ready r i place)
   rule-refused p = record { verdict = refused-before _ _ (p .verdict); shape = tt; scratch = p .scratch }
@@ -40,7 +37,7 @@ module _ (bytes : List ℕ) (f : Monitor) (entry : List ℕ) where
     monitor-stray s = record {
       verdict =
           passed-before _ _ (p .verdict)
-          (first-fails stray-check
+          (first-fails (strayCheck 1 (elementsOf bytes) f)
           (record { stray = subst (λ (x : ℕ). IsStray x (f .before) ⊎ IsStray x (f .since)) (p .scratch .shape-is .elements) s; is-place = refl }));
       shape = tt;
       scratch = left;

@@ -28,10 +28,13 @@ abbrev pub StrayAnswer : ℕ → ℕ → Bool → Type 0
 StrayAnswer n s true = IsStray n s
 StrayAnswer n s false = GoodNumber n s
 
+-- 3 for the values of a monitor of a rule with n elements, which is the input of the given number
+abbrev pub strayCheck : ℕ → ℕ → Monitor → Check
+strayCheck input n f = record { refusal = EntryOutOfRange; input = input; Fails = StrayAt n f }
+
 -- "Then 3 for a follower's values": after the rule's own checks
 abbrev pub monitorChecks : List ℕ → Monitor → List ℕ → List Check
-monitorChecks bytes f scratch =
-    checkedChecks 1 bytes scratch ++ record { refusal = EntryOutOfRange; input = 1; Fails = StrayAt (elementsOf bytes) f } ∷ []
+monitorChecks bytes f scratch = checkedChecks 1 bytes scratch ++ strayCheck 1 (elementsOf bytes) f ∷ []
 
 abbrev pub readyVerdict : Ready → Verdict
 readyVerdict (Rule shape) = passed

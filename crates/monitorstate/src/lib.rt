@@ -4,7 +4,7 @@ use answer::Refusal;
 use layout::Shape;
 use rulefile::Checked;
 use rulefile::check;
-use sections::zero_front;
+use sections::zero;
 use table::product;
 ghost use mathlib.Core.Path.{_≡_};
 ghost use Prim.Native.Nat.{_<_};
@@ -68,7 +68,7 @@ pub fn prepare(rule: &[u8], m: Monitor, scratch: &mut [u8]) -> Ready
             };
         }
     };
-    zero_front(scratch, 4096);
+    zero(scratch);
     let n = shape.elements;
     let before = m.before;
     let since = m.since;

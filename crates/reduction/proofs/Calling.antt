@@ -44,7 +44,7 @@ module _ (bytes out entry : List ℕ) (long : ruleSize ≤ length out) where
   pub reduce-refused : {mid : List ℕ} {r : Refusal} {input place : ℕ} → CheckPromise 1 bytes entry mid (Checked-refused r input place)
       → ReducePromise bytes out out entry mid (Refused r input place)
   reduce-refused p = record {
-    verdict = buffer-long long (refused-before (checkedChecks 1 bytes entry) (weakCheck bytes ∷ []) (p .verdict));
+    verdict = buffer-long long (refused-before (checkedChecks 1 bytes entry) (weakCheck 1 bytes ∷ []) (p .verdict));
     answered = refl;
     scratch = long-left ruleSize out entry long (p .scratch);
   }
@@ -70,8 +70,8 @@ module _ (bytes out entry : List ℕ) (long : ruleSize ≤ length out) where
     -- a rule that is not strong is refused
     pub reduce-weak : (end : List ℕ) → end ≡ replicate (length decided) 0 → answer ≡ false → ReducePromise bytes out out entry end (Refused NotStrong 1 0)
     reduce-weak end z e = record {
-      verdict = buffer-long long (passed-before (checkedChecks 1 bytes entry) (weakCheck bytes ∷ []) (p .verdict)
-          (first-fails (weakCheck bytes) (record { weak = subst (StrongIf (morphismOf bytes) (pairsOf bytes)) e (decided-file 1 bytes entry p d); is-place = refl })));
+      verdict = buffer-long long (passed-before (checkedChecks 1 bytes entry) (weakCheck 1 bytes ∷ []) (p .verdict)
+          (first-fails (weakCheck 1 bytes) (record { weak = subst (StrongIf (morphismOf bytes) (pairsOf bytes)) e (decided-file 1 bytes entry p d); is-place = refl })));
       answered = refl;
       scratch = long-left ruleSize out entry long (decided-left 1 bytes entry p d decided end refl z);
     }
@@ -98,7 +98,7 @@ module _ (bytes out entry : List ℕ) (long : ruleSize ≤ length out) where
 
       pub reduce-strong : (end : List ℕ) → end ≡ replicate (length exit) 0 → ReducePromise bytes out after entry end (Is-rule length-of)
       reduce-strong end z = record {
-        verdict = buffer-long long (passed-before (checkedChecks 1 bytes entry) (weakCheck bytes ∷ []) (p .verdict)
+        verdict = buffer-long long (passed-before (checkedChecks 1 bytes entry) (weakCheck 1 bytes ∷ []) (p .verdict)
             (first-passes (record { nowhere = λ place f. f .weak strong }) none-left));
         answered = reduced-to;
         scratch = long-left ruleSize out entry long (decided-left 1 bytes entry p d exit end (w .same-length) z);

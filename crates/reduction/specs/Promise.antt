@@ -16,7 +16,7 @@ use Rattle.reduction.specs.declared.Reduced.the-variants.{Rule as Is-rul
 
 -- "First 13", of both buffers, then the rule's own checks, then 12
 abbrev pub reduceChecks : List ℕ → List ℕ → List ℕ → List Check
-reduceChecks bytes out scratch = bufferCheck ruleSize out ∷ (checkedChecks 1 bytes scratch ++ weakCheck bytes ∷ [])
+reduceChecks bytes out scratch = bufferCheck ruleSize out ∷ (checkedChecks 1 bytes scratch ++ weakCheck 1 bytes ∷ [])
 
 -- document 01's number, input and place of an answer
 abbrev pub reducedVerdict : Reduced → Verdict

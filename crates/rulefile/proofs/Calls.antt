@@ -3,10 +3,7 @@ use Prim.Native.Nat.{ℕ, _≤_, _<_}
 use mathlib.Core.Path.{_≡_, refl, sym, ap, _∙_, subst}
 use mathlib.Core.List.{List}
 use native.Mathlib.Omega.{arith}
-use mathlib.Core.Logic.{⊎-elim}
-use lib.ListN.{length, getD, replicate, length-replicate, getD-replicate, List·getD-eq-default}
-use Rattle.finite.proofs.Numbers.{le-or-lt}
-use Rattle.sections.specs.Answers.{ZerosFrom}
+use lib.ListN.{length, replicate}
 use Rattle.answer.specs.declared.Refusal.{Refusal}
 use Rattle.answer.specs.Checks.{passed, FirstFailure}
 use Rattle.answer.proofs.Order.{passes-head, passes-tail}
@@ -48,7 +45,7 @@ module _ (input : ℕ) (bytes entry exit : List ℕ) (answer : Checked) (known :
 
 -- the marks in scratch keep its length
 pub checked-length : {bytes entry exit : List ℕ} {shape : Shape} → RuleChecked bytes shape entry exit → length exit ≡ length entry
-checked-length {entry = entry} r = r .marks .same-length ∙ length-replicate (length entry) 0
+checked-length r = r .kept .same-length
 
 -- by the counts that were read: the file's morphism and its table
 module _ {bytes : List ℕ} {shape : Shape} (s : IsShape bytes shape) where
@@ -58,19 +55,3 @@ module _ {bytes : List ℕ} {shape : Shape} (s : IsShape bytes shape) where
   pub shape-table : Table bytes (elementsOf bytes) (lettersOf bytes) → Table bytes (shape .elements) (shape .letters)
   shape-table t =
       subst (λ (x : ℕ). Table bytes x (shape .letters)) (sym (s .elements)) (subst (λ (x : ℕ). Table bytes (elementsOf bytes) x) (sym (s .letters)) t)
-
--- a checked rule's marks are all that scratch holds
-pub marks-only : (bytes entry exit : List ℕ) {shape : Shape} → CheckPromise 1 bytes entry exit (Rule shape) → ZerosFrom exit 4096
-marks-only bytes entry exit p =
-    let l : length exit ≡ length entry = checked-length (p .scratch) in
-    let long : scratchSize ≤ length entry = scratch-long 1 bytes entry (p .verdict) in
-    let small : elementsOf bytes ≤ 64 = called-good 1 bytes entry (p .verdict) .table .small in
-    record {
-      inside = omega arith;
-      zeros = λ i h. p .scratch .marks .other i (λ s e hs he d. omega arith) ∙ zero-byte (length entry) i;
-    }
-  where
-    zero-byte : (n i : ℕ) → _≡_ {A = ℕ} (getD (replicate n 0) i 0) 0
-    zero-byte n i =
-        ⊎-elim (λ (h : n ≤ i). List·getD-eq-default (replicate n 0) 0 (omega (arith, length-replicate {A = ℕ} n 0)))
-        (λ (h : i < n). getD-replicate n i 0 0 h) (le-or-lt n i)

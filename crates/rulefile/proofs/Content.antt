@@ -4,7 +4,7 @@ use mathlib.Core.Path.{_≡_, sym, ap, _∙_, subst}
 use mathlib.Core.List.{List}
 use native.Mathlib.Omega.{arith}
 use native.Mathlib.Nat.{mul-le-mul}
-use lib.ListN.{length, getD, getD-replicate}
+use lib.ListN.{length}
 use Rattle.answer.specs.declared.Refusal.{Refusal}
 use Rattle.answer.specs.Checks.{passed, FirstFailure}
 use Rattle.theory.specs.Rules.{Morphism}
@@ -16,7 +16,7 @@ use Rattle.layout.specs.Answers.{LayoutPassed}
 use Rattle.markchecks.specs.declared.Fault.{Fault}
 use Rattle.markchecks.specs.declared.Fault.the-variants.{Nothing, Refused}
 use Rattle.markchecks.specs.Faults.{FaultAnswer, MarksRoom, MarksLaid, marksAmong, MarksAnswer}
-use Rattle.rulefile.specs.Answers.{ContentAnswer, Blank}
+use Rattle.rulefile.specs.Answers.{ContentAnswer, BlankMarks}
 use Rattle.rulefile.proofs.Passed.{size-small, letters-small, marks-small, end-inside, table-of, starts-below, cycles-below}
 
 module _ (bytes : List ℕ) (shape : Shape) (p : LayoutPassed bytes shape) where
@@ -68,14 +68,14 @@ module _ (bytes : List ℕ) (shape : Shape) (p : LayoutPassed bytes shape) where
   morphism-is : morphismAt bytes n k ≡ morphismOf bytes
   morphism-is = ap (λ (x : ℕ). morphismAt bytes x k) (p .shape-is .elements) ∙ ap (morphismAt bytes (elementsOf bytes)) (p .shape-is .letters)
 
-  -- room for the marks in a blank scratch
-  pub marks-room : {scratch : List ℕ} → Blank scratch → MarksRoom bytes (1 + n * n + (1 + k)) count n scratch
-  marks-room {scratch} b = record {
+  -- room for the marks where none is laid out yet
+  pub marks-room : {scratch : List ℕ} → BlankMarks scratch → MarksRoom bytes (1 + n * n + (1 + k)) count n scratch
+  marks-room b = record {
     long = end-in;
     starts = λ i h. here (λ (at m : ℕ). markStart bytes at i < m) (starts-below bytes all i (omega (arith, p .shape-is .marks)));
     cycles = λ i h. here (λ (at m : ℕ). markCycle bytes at i < m) (cycles-below bytes all i (omega (arith, p .shape-is .marks)));
-    room = omega (arith, b .room);
-    blank = λ i h. subst (λ (l : List ℕ). getD l i 0 ≡ 0) (sym (b .zeros)) (getD-replicate (length scratch) i 0 0 (omega (arith, b .room)));
+    room = b .room;
+    blank = b .blank;
   }
     where
       here : (P : ℕ → ℕ → Type 0) → P (marksAt bytes) (elementsOf bytes) → P (1 + n * n + (1 + k)) n

@@ -4,7 +4,7 @@ use mathlib.Core.Path.{_≡_, sym, ap, _∙_, subst}
 use mathlib.Core.List.{List}
 use native.Mathlib.Omega.{arith}
 use borrow.Author.Tests.{lt-ltb, le-ltb}
-use lib.ListN.{length, replicate, length-replicate}
+use lib.ListN.{length, replicate}
 use Rattle.answer.specs.declared.Refusal.{Refusal}
 use Rattle.answer.specs.declared.Refusal.the-variants.{BufferTooShort}
 use Rattle.answer.specs.Checks.{passed, refused, FirstFailure}
@@ -18,9 +18,12 @@ use Rattle.layout.specs.declared.Layout.the-variants.{Read, Refused as Layout-r
 use Rattle.layout.specs.Answers.{LayoutAnswer, LayoutPassed}
 use Rattle.markchecks.specs.declared.Fault.{Fault}
 use Rattle.markchecks.specs.declared.Fault.the-variants.{Nothing, Refused as Fault-refused}
+use Rattle.sections.specs.Answers.{PartZeroed}
+use Rattle.rulefile.specs.declared.Checked.{Checked}
 use Rattle.rulefile.specs.declared.Checked.the-variants.{Rule, Refused}
 use Rattle.markchecks.specs.Faults.{MarksLaid}
-use Rattle.rulefile.specs.Answers.{afterCall, Blank, ContentAnswer, CheckPromise}
+use Rattle.rulefile.proofs.Passed.{size-small}
+use Rattle.rulefile.specs.Answers.{markTableSize, BlankMarks, afterCall, ContentAnswer, RuleVerdict, CheckPromise}
 
 -- a short scratch is left as it came
 pub short-scratch : (input : ℕ) (bytes scratch : List ℕ) → length scratch < scratchSize → CheckPromise input bytes scratch scratch (Refused BufferTooShort 1 0)
@@ -41,34 +44,53 @@ module _ (bytes : List ℕ) (answer : Layout) (known : LayoutAnswer bytes answer
   pub layout-refused : {r : Refusal} {place : ℕ} → answer ≡ Layout-refused r place → (input : ℕ) → FirstFailure (layoutChecks input bytes) (refused r input place)
   layout-refused e = subst (LayoutAnswer bytes) e known
 
--- zeros are blank
-pub blank-zeros : (entry now : List ℕ) → scratchSize ≤ length entry → now ≡ replicate (length entry) 0 → Blank now
-blank-zeros entry now h e =
-    let l : length now ≡ length entry = ap length e ∙ length-replicate (length entry) 0 in
-    record { room = omega arith; zeros = e ∙ ap (λ (n : ℕ). replicate n 0) (sym l) }
+-- a table of marks that was made blank
+pub blank-marks : {entry now : List ℕ} → markTableSize ≤ length entry → PartZeroed 0 markTableSize entry now → BlankMarks now
+blank-marks h z = record { room = omega (arith, z .outside .same-length); blank = λ i l. z .zeros i (omega arith) l }
 
-module _ (input : ℕ) (bytes entry : List ℕ) (h : scratchSize ≤ length entry) where
+module _ (input : ℕ) (bytes entry : List ℕ) where
   -- a section refuses
-  pub layout-promise : {exit : List ℕ} {r : Refusal} {place : ℕ} → exit ≡ replicate (length entry) 0
-      → ((input : ℕ) → FirstFailure (layoutChecks input bytes) (refused r input place)) → CheckPromise input bytes entry exit (Refused r input place)
+  pub layout-verdict : {exit : List ℕ} {r : Refusal} {place : ℕ} → PartZeroed 0 markTableSize entry exit
+      → ((input : ℕ) → FirstFailure (layoutChecks input bytes) (refused r input place)) → RuleVerdict input bytes entry exit (Refused r input place)
   unfolding ruleChecks
-  layout-promise z f = record { verdict = buffer-long h (refused-before _ _ (f input)); scratch = z ∙ zeros-after entry h }
+  layout-verdict z f = record { verdict = refused-before _ _ (f input); marks = z .outside .same-length }
 
-  module _ {shape : Shape} (p : LayoutPassed bytes shape) where
+  module _ {shape : Shape} (p : LayoutPassed bytes shape) {blank exit : List ℕ} (z : PartZeroed 0 markTableSize entry blank) where
     -- the contents refuse
-    pub content-promise : {exit : List ℕ} {r : Refusal} {place : ℕ} → exit ≡ replicate (length entry) 0
-        → ((input : ℕ) → FirstFailure (contentChecks input bytes) (refused r input place)) → CheckPromise input bytes entry exit (Refused r input place)
+    pub content-verdict : {r : Refusal} {place : ℕ} → length exit ≡ length blank
+        → ((input : ℕ) → FirstFailure (contentChecks input bytes) (refused r input place)) → RuleVerdict input bytes entry exit (Refused r input place)
     unfolding ruleChecks
-    content-promise z f = record { verdict = buffer-long h (passed-before _ _ (p .verdict input) (f input)); scratch = z ∙ zeros-after entry h }
+    content-verdict e f = record { verdict = passed-before _ _ (p .verdict input) (f input); marks = e ∙ z .outside .same-length }
 
     -- every check passes
-    pub rule-promise : {zeros exit : List ℕ} → zeros ≡ replicate (length entry) 0 → ((input : ℕ) → FirstFailure (contentChecks input bytes) passed)
-        → MarksLaid (markingOf bytes) (elementsOf bytes) zeros exit → CheckPromise input bytes entry exit (Rule shape)
+    pub rule-verdict : ((input : ℕ) → FirstFailure (contentChecks input bytes) passed) → MarksLaid (markingOf bytes) (elementsOf bytes) blank exit
+        → RuleVerdict input bytes entry exit (Rule shape)
     unfolding ruleChecks
-    rule-promise {zeros} {exit} z f l = record {
-      verdict = buffer-long h (passed-before _ _ (p .verdict input) (f input));
-      scratch = record { shape-is = p .shape-is; marks = subst (λ (x : List ℕ). MarksLaid (markingOf bytes) (elementsOf bytes) x exit) z l };
+    rule-verdict f l = record {
+      verdict = passed-before _ _ (p .verdict input) (f input);
+      marks = record {
+        shape-is = p .shape-is;
+        mark = l .mark;
+        kept = record {
+          same-length = l .same-length ∙ z .outside .same-length;
+          before = λ i h. absurd (let n : ⊥ = omega arith in n);
+          after = λ i h. l .other i (λ s e hs he q. omega (arith, size-small bytes (p .verdict 1))) ∙ z .outside .after i h;
+        };
+      };
     }
+
+-- scratch has its size: the rule's own checks decide
+module _ (input : ℕ) (bytes entry mid : List ℕ) (answer : Checked) (h : scratchSize ≤ length entry) (known : RuleVerdict input bytes entry mid answer) where
+  pub rule-promise : {shape : Shape} → answer ≡ Rule shape → CheckPromise input bytes entry mid (Rule shape)
+  rule-promise {shape} e =
+      let k : RuleVerdict input bytes entry mid (Rule shape) = subst (RuleVerdict input bytes entry mid) e known in
+      record { verdict = buffer-long h (k .verdict); scratch = k .marks }
+
+  pub refused-promise : {exit : List ℕ} {r : Refusal} {i place : ℕ} → answer ≡ Refused r i place → exit ≡ replicate (length mid) 0
+      → CheckPromise input bytes entry exit (Refused r i place)
+  refused-promise {r = r} {i = i} {place = place} e z =
+      let k : RuleVerdict input bytes entry mid (Refused r i place) = subst (RuleVerdict input bytes entry mid) e known in
+      record { verdict = buffer-long h (k .verdict); scratch = z ∙ ap (λ (n : ℕ). replicate n 0) (k .marks) ∙ zeros-after entry h }
 
 -- what the contents leave, known by its case
 module _ (bytes entry exit : List ℕ) (answer : Fault) (known : ContentAnswer bytes entry exit answer) where

@@ -1,9 +1,9 @@
 -- What the answers of this crate's functions say. Assumes nothing.
-use Prim.Native.Nat.{ℕ, _≤_}
+use Prim.Native.Nat.{ℕ, _+_, _*_, _≤_, _<_}
 use mathlib.Core.Path.{_≡_}
 use mathlib.Core.Bool.{cond}
 use mathlib.Core.List.{List, [], _∷_}
-use lib.ListN.{length, replicate}
+use lib.ListN.{length, getD, replicate}
 use lib.Dec.{ltb}
 use Rattle.answer.specs.declared.Refusal.the-variants.{Unreachable}
 use Rattle.table.specs.TableChecks.{UnreachedAt}
@@ -11,6 +11,7 @@ use Rattle.answer.specs.Checks.{Check, Verdict, passed, refused, FirstFailure}
 use Rattle.theory.specs.Rules.{Morphism}
 use Rattle.format.specs.Format.{elementsOf, markingOf}
 use Rattle.format.specs.RuleChecks.{ruleChecks, bufferCheck, scratchSize}
+use Rattle.sections.specs.Answers.{UnchangedOutside}
 use Rattle.layout.specs.declared.Shape.{Shape}
 use Rattle.layout.specs.Answers.{IsShape}
 use Rattle.markchecks.specs.declared.Fault.{Fault}
@@ -23,10 +24,14 @@ use Rattle.markchecks.specs.Faults.{MarksLaid}
 abbrev pub reachChecks : ℕ → Morphism → List Check
 reachChecks input m = record { refusal = Unreachable; input = input; Fails = UnreachedAt m } ∷ []
 
--- a scratch of full size that is all zeros
-pub record Blank (scratch : List ℕ) : Type 0 where
-  pub room : scratchSize ≤ length scratch
-  pub zeros : scratch ≡ replicate (length scratch) 0
+-- the bytes that a table of marks takes: one for each pair of up to 64 elements
+abbrev pub markTableSize : ℕ
+markTableSize = 4096
+
+-- room for a table of marks that marks nothing yet
+pub record BlankMarks (scratch : List ℕ) : Type 0 where
+  pub room : markTableSize ≤ length scratch
+  pub blank : (i : ℕ) → i < markTableSize → getD scratch i 0 ≡ 0
 
 -- good contents lay out the marks of the file; else nothing is said of scratch but its length
 abbrev pub ContentAnswer : List ℕ → List ℕ → List ℕ → Fault → Type 0
@@ -46,10 +51,22 @@ afterCall scratch = cond (ltb (length scratch) scratchSize) scratch (replicate (
 abbrev pub scratchLeft : ℕ → List ℕ → List ℕ → List ℕ
 scratchLeft needed buffer scratch = cond (ltb (length buffer) needed) scratch (afterCall scratch)
 
--- a checked rule: its counts, and scratch holds the marks, a byte for each pair, and nothing else
+-- a checked rule: its counts, and its marks in a table at the front of scratch, that of (s, e) at s·64 + e; what follows the table is
+-- as it was
 pub record RuleChecked (bytes : List ℕ) (shape : Shape) (entry exit : List ℕ) : Type 0 where
   pub shape-is : IsShape bytes shape
-  pub marks : MarksLaid (markingOf bytes) (elementsOf bytes) (replicate (length entry) 0) exit
+  pub mark : (s e : ℕ) → s < elementsOf bytes → e < elementsOf bytes → getD exit (s * 64 + e) 0 ≡ markingOf bytes s e
+  pub kept : UnchangedOutside 0 markTableSize entry exit
+
+-- of a refused rule only the length of scratch is said
+abbrev pub MarksAfter : List ℕ → List ℕ → List ℕ → Checked → Type 0
+MarksAfter bytes entry exit (Rule shape) = RuleChecked bytes shape entry exit
+MarksAfter bytes entry exit (Checked-refused refusal input place) = length exit ≡ length entry
+
+-- the rule's own checks, in the input of the given number: which refusal and when; else the rule's counts, and its marks
+pub record RuleVerdict (input : ℕ) (bytes entry exit : List ℕ) (answer : Checked) : Type 0 where
+  pub verdict : FirstFailure (ruleChecks input bytes) (verdictOf answer)
+  pub marks : MarksAfter bytes entry exit answer
 
 abbrev pub ScratchAfter : List ℕ → List ℕ → List ℕ → Checked → Type 0
 ScratchAfter bytes entry exit (Rule shape) = RuleChecked bytes shape entry exit

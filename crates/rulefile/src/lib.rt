@@ -11,6 +11,7 @@ use reach::least_without;
 use reach::reach;
 use sections::Found;
 use sections::zero;
+use sections::zero_part;
 use table::Triple;
 use table::first_not_associative;
 ghost use mathlib.Core.Path.{_≡_};
@@ -21,7 +22,7 @@ ghost use Rattle.table.specs.Answers.{AllAssociate};
 ghost use Rattle.format.specs.RuleChecks.{tableChecks, contentChecks};
 ghost use Rattle.layout.specs.Answers.{LayoutPassed};
 ghost use Rattle.markchecks.specs.Faults.{FaultAnswer};
-ghost use Rattle.rulefile.specs.Answers.{reachChecks, Blank, ContentAnswer, CheckPromise};
+ghost use Rattle.rulefile.specs.Answers.{reachChecks, markTableSize, BlankMarks, ContentAnswer, RuleVerdict, CheckPromise};
 
 // Whether every element is some word's value.
 fn reach_fault(rule: &[u8], n: usize, k: usize) -> Fault
@@ -86,7 +87,7 @@ pub fn rest_after(bytes: &[u8], end: usize) -> &[u8]
 // (theory/proofs/Powers), so their check is passed.
 fn content_fault(rule: &[u8], shape: Shape, scratch: &mut [u8]) -> Fault
     requires { ⌜ LayoutPassed (now rule) shape ⌝ }
-    requires { ⌜ Blank (now scratch) ⌝ }
+    requires { ⌜ BlankMarks (now scratch) ⌝ }
     ensures verdict { λ r. ⌜ FaultAnswer (λ input. contentChecks input (now (rule .entry))) r ⌝ }
     ensures marks { λ r. ⌜ ContentAnswer (now (rule .entry)) (now (scratch .entry)) (now (scratch .exit)) r ⌝ }
 {
@@ -127,19 +128,13 @@ pub enum Checked {
     },
 }
 
-// Every check of a rule file that is the input of the given number. Scratch is then zeros, or, of a checked rule, holds its
-// marks, a byte for each pair, and nothing else.
-pub fn check(rule: &[u8], input: usize, scratch: &mut [u8]) -> Checked
-    ensures { λ r. ⌜ CheckPromise input (now (rule .entry)) (now (scratch .entry)) (now (scratch .exit)) r ⌝ }
+// The rule's own checks, as the input of the given number. A rule that passes leaves its marks in the first 4096 bytes, a byte for
+// each pair; the bytes behind them are kept, so that a second rule can be checked in a part of its own.
+pub fn check_rule(rule: &[u8], input: usize, scratch: &mut [u8]) -> Checked
+    requires { ⌜ markTableSize ≤ length (now scratch) ⌝ }
+    ensures { λ r. ⌜ RuleVerdict input (now (rule .entry)) (now (scratch .entry)) (now (scratch .exit)) r ⌝ }
 {
-    if scratch.len() < 65536 {
-        return Checked::Refused {
-            refusal: Refusal::BufferTooShort,
-            input: 1,
-            place: 0,
-        };
-    }
-    zero(scratch);
+    zero_part(scratch, 0, 4096);
     let shape = match read_layout(rule) {
         Layout::Read(shape) => shape,
         Layout::Refused { refusal, place } => {
@@ -152,11 +147,37 @@ pub fn check(rule: &[u8], input: usize, scratch: &mut [u8]) -> Checked
     };
     match content_fault(rule, shape, scratch) {
         Fault::Nothing => Checked::Rule(shape),
-        Fault::Refused { refusal, place } => {
+        Fault::Refused { refusal, place } => Checked::Refused {
+            refusal,
+            input,
+            place,
+        },
+    }
+}
+
+// Every check of a rule file that is the input of the given number, the size of scratch first. A refusal leaves zeros, but where
+// scratch is too short; a checked rule leaves its marks in the first 4096 bytes and the others as they were.
+pub fn check(rule: &[u8], input: usize, scratch: &mut [u8]) -> Checked
+    ensures { λ r. ⌜ CheckPromise input (now (rule .entry)) (now (scratch .entry)) (now (scratch .exit)) r ⌝ }
+{
+    if scratch.len() < 65536 {
+        return Checked::Refused {
+            refusal: Refusal::BufferTooShort,
+            input: 1,
+            place: 0,
+        };
+    }
+    match check_rule(rule, input, scratch) {
+        Checked::Rule(shape) => Checked::Rule(shape),
+        Checked::Refused {
+            refusal,
+            input: of,
+            place,
+        } => {
             zero(scratch);
             Checked::Refused {
                 refusal,
-                input,
+                input: of,
                 place,
             }
         }

@@ -17,6 +17,20 @@ use lib.ListN.{getD}
 use lib.Dec.{ltb}
 use Rattle.theory.specs.Rules.{Pairs}
 
+-- where the second marking begins, and where it ends
+abbrev pub secondBase : ℕ
+secondBase = 4096
+
+abbrev pub tablesEnd : ℕ
+tablesEnd = 8192
+
+-- from here on stand the bytes of the states, and the lists of preimages behind them, of which the second kind needs no blank bytes
+abbrev pub statesBase : ℕ
+statesBase = 49152
+
+abbrev pub listsEnd : ℕ
+listsEnd = 59392
+
 -- the pairs that a table of marks has, which begins at a byte: those whose byte is not 0
 unfoldable pub pairsFrom : List ℕ → ℕ → Pairs
 pairsFrom bytes base s e = ltb 0 (getD bytes (base + (s * 64 + e)) 0)

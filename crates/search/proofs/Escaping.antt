@@ -9,8 +9,9 @@ use lib.Dec.{ltb}
 use Rattle.finite.proofs.Numbers.{below-cases}
 use Rattle.theory.specs.Rules.{Morphism, Lawful, Pairs}
 use Rattle.theory.proofs.Escapes.{Escapes}
-use Rattle.scratch.specs.Map.{pairsFrom}
-use Rattle.scratch.specs.Preimages.{Preimages, KeptBut, PreimagesListed}
+use Rattle.sections.specs.Answers.{PartZeroed}
+use Rattle.scratch.specs.Map.{pairsFrom, statesBase, listsEnd}
+use Rattle.scratch.specs.Preimages.{Preimages, PreimagesRoom, KeptBut, PreimagesListed}
 use Rattle.searchlist.specs.Queue.{seenAt, Kept}
 use Rattle.search.specs.Search.{Stands, SearchPlace, Searched, AllPlace, EscapePlace, Escaped}
 use Rattle.search.specs.declared.Ended.{Ended}
@@ -65,6 +66,7 @@ module _ {m : Morphism} {first second : ℕ} {entry : List ℕ} (small : m .size
           same-length = w .same-length;
           says = λ P P′ t t′. record { start-inside = h; ended = d .ends P P′ (first-stands P P′ t t′) (second-stands P P′ t t′) };
           marks = w .marks;
+          behind = λ j g. w .lists j (omega arith);
         }
 
     -- or it does not
@@ -89,28 +91,37 @@ module _ {m : Morphism} {first second : ℕ} {entry : List ℕ} (small : m .size
       same-length = k .kept .same-length;
       says = λ P P′ t t′ u l. k .none P P′ t t′ u (omega arith);
       marks = k .kept .marks;
+      behind = λ j g. k .kept .lists j (omega arith);
     }
 
--- with the lists of preimages made first
-module _ {m : Morphism} {first second : ℕ} {entry mid : List ℕ} (small : m .size ≤ 64) (place : EscapePlace m first second entry)
-    (l : PreimagesListed m entry mid) where
-  pub all-place : AllPlace m first second mid
-  unfolding seenAt
-  all-place = record {
-    lawful = place .lawful;
-    first-base = place .first-base;
-    second-base = place .second-base;
-    room = omega (arith, place .room, l .kept .same-length);
-    preimages = l .preimages;
-    unseen = λ c h. omega (arith, l .kept .before (49152 + c) (omega arith), place .unseen c h);
-  }
+-- with the states and the lists of preimages made blank first, and the lists made then
+module _ {m : Morphism} {first second : ℕ} {entry blank : List ℕ} (small : m .size ≤ 64) (place : EscapePlace m first second entry)
+    (z : PartZeroed statesBase listsEnd entry blank) where
+  pub preimages-room : PreimagesRoom blank
+  preimages-room = record { room = omega (arith, place .room, z .outside .same-length); blank = λ i h l. z .zeros i (omega arith) l }
 
-  pub escaped-listed : {exit : List ℕ} {answer : Escape} → Escaped m first second mid exit answer → Escaped m first second entry exit answer
-  escaped-listed r = record {
-    same-length = r .same-length ∙ l .kept .same-length;
-    says = λ P P′ t t′. r .says P P′ (moved first (place .first-base) t) (moved second (place .second-base) t′);
-    marks = λ i h. r .marks i h ∙ l .kept .before i (omega arith);
-  }
-    where
-      moved : {P : Pairs} (base : ℕ) → base ≤ 4096 → Stands (m .size) P entry base → Stands (m .size) P mid base
-      moved base h t = stands-kept base small h (λ i g. l .kept .before i (omega arith)) t
+  module _ {mid : List ℕ} (l : PreimagesListed m blank mid) where
+    pub all-place : AllPlace m first second mid
+    unfolding seenAt
+    all-place = record {
+      lawful = place .lawful;
+      first-base = place .first-base;
+      second-base = place .second-base;
+      room = omega (arith, place .room, l .kept .same-length, z .outside .same-length);
+      preimages = l .preimages;
+      unseen = λ c h. omega (arith, l .kept .before (49152 + c) (omega arith), z .zeros (49152 + c) (omega arith) (omega arith));
+    }
+
+    pub escaped-listed : {exit : List ℕ} {answer : Escape} → Escaped m first second mid exit answer → Escaped m first second entry exit answer
+    escaped-listed r = record {
+      same-length = r .same-length ∙ l .kept .same-length ∙ z .outside .same-length;
+      says = λ P P′ t t′. r .says P P′ (moved first (place .first-base) t) (moved second (place .second-base) t′);
+      marks = λ i h. r .marks i h ∙ same i h;
+      behind = λ i h. r .behind i h ∙ l .kept .after i h ∙ z .outside .after i (omega arith);
+    }
+      where
+        same : (i : ℕ) → i < 8192 → getD mid i 0 ≡ getD entry i 0
+        same i h = l .kept .before i (omega arith) ∙ z .outside .before i (omega arith)
+
+        moved : {P : Pairs} (base : ℕ) → base ≤ 4096 → Stands (m .size) P entry base → Stands (m .size) P mid base
+        moved base h t = stands-kept base small h same t

@@ -7,7 +7,7 @@ use lib.Dec.{T}
 use Rattle.theory.specs.Rules.{Morphism, Lawful, Pairs}
 use Rattle.theory.proofs.Escapes.{Escapes}
 use Rattle.scratch.specs.Map.{pairsFrom}
-use Rattle.scratch.specs.Preimages.{afterLetter, Preimages, PreimagesRoom}
+use Rattle.scratch.specs.Preimages.{afterLetter, Preimages}
 use Rattle.searchlist.specs.Queue.{frontAt, backAt, letterAt, parentAt, seenAt, Queue, HasState, Kept, Grown}
 use Rattle.searchlist.specs.Steps.{beforeLetter, Takes, splitMarked}
 use Rattle.search.specs.declared.Escape.{Escape}
@@ -91,14 +91,12 @@ pub record AllPlace (m : Morphism) (first second : ℕ) (scratch : List ℕ) : T
   pub preimages : Preimages m scratch
   pub unseen : (c : ℕ) → c < 4225 → seenAt scratch c ≤ 0
 
--- the same where the lists of preimages are still to be made
+-- the same whatever stands behind the tables of marks
 pub record EscapePlace (m : Morphism) (first second : ℕ) (scratch : List ℕ) : Type 0 where
   pub lawful : Lawful m
   pub first-base : first ≤ 4096
   pub second-base : second ≤ 4096
   pub room : 65536 ≤ length scratch
-  pub lists : PreimagesRoom scratch
-  pub unseen : (c : ℕ) → c < 4225 → seenAt scratch c ≡ 0
 
 -- the search ended at an entry for the start value s
 pub record EscapedAt (m : Morphism) (P P′ : Pairs) (s : ℕ) (scratch : List ℕ) (i : ℕ) : Type 0 where
@@ -110,7 +108,9 @@ abbrev pub EscapeAnswer : Morphism → Pairs → Pairs → List ℕ → Escape �
 EscapeAnswer m P P′ scratch (Escape-at s i) = EscapedAt m P P′ s scratch i
 EscapeAnswer m P P′ scratch No-escape = (s : ℕ) → s < m .size → (v : List ℕ) → Escapes m P P′ s v → ⊥
 
+-- the answer; the tables of marks and the bytes behind the lists of preimages are as they were
 pub record Escaped (m : Morphism) (first second : ℕ) (entry exit : List ℕ) (answer : Escape) : Type 0 where
   pub same-length : length exit ≡ length entry
   pub says : (P P′ : Pairs) → Stands (m .size) P entry first → Stands (m .size) P′ entry second → EscapeAnswer m P P′ exit answer
   pub marks : (i : ℕ) → i < 8192 → getD exit i 0 ≡ getD entry i 0
+  pub behind : (i : ℕ) → 61440 ≤ i → getD exit i 0 ≡ getD entry i 0

@@ -7,6 +7,7 @@
 use preimages::list_preimages;
 use searchlist::begin;
 use searchlist::expand;
+use sections::zero_part;
 use table::product;
 ghost use mathlib.Core.Path.{_≡_};
 ghost use Prim.Native.Nat.{_≤_, _<_};
@@ -160,7 +161,8 @@ fn search_all(
 }
 
 // Compares the marking whose table begins at `first` with the one whose table begins at `second`: a start value with a
-// cycle that the first marking has and the second does not accept after it.
+// cycle that the first marking has and the second does not accept after it. It makes blank what it needs blank, and keeps the tables of
+// marks and the bytes from 61440 on.
 pub fn first_escape(
     rule: &[u8],
     n: usize,
@@ -173,6 +175,7 @@ pub fn first_escape(
     requires { ⌜ EscapePlace (morphismAt (now rule) n k) first second (now scratch) ⌝ }
     ensures { λ r. ⌜ Escaped (morphismAt (now (rule .entry)) n k) first second (now (scratch .entry)) (now (scratch .exit)) r ⌝ }
 {
+    zero_part(scratch, 49152, 59392);
     list_preimages(rule, n, k, scratch);
     search_all(rule, n, k, scratch, first, second)
 }

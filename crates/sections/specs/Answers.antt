@@ -20,10 +20,16 @@ pub record FirstOut (bytes : List ℕ) (from count bound index : ℕ) : Type 0 w
 pub record AllBelow (bytes : List ℕ) (from count bound : ℕ) : Type 0 where
   pub below : (i : ℕ) → i < count → getD bytes (from + i) 0 < bound
 
--- every byte from a place of the buffer on is 0
-pub record ZerosFrom (bytes : List ℕ) (from : ℕ) : Type 0 where
-  pub inside : from ≤ length bytes
-  pub zeros : (i : ℕ) → from ≤ i → getD bytes i 0 ≡ 0
+-- every byte outside a part is as it was
+pub record UnchangedOutside (from to : ℕ) (entry exit : List ℕ) : Type 0 where
+  pub same-length : length exit ≡ length entry
+  pub before : (i : ℕ) → i < from → getD exit i 0 ≡ getD entry i 0
+  pub after : (i : ℕ) → to ≤ i → getD exit i 0 ≡ getD entry i 0
+
+-- a part was filled with zeros, and nothing else changed
+pub record PartZeroed (from to : ℕ) (entry exit : List ℕ) : Type 0 where
+  pub zeros : (i : ℕ) → from ≤ i → i < to → getD exit i 0 ≡ 0
+  pub outside : UnchangedOutside from to entry exit
 
 abbrev pub FoundOut : List ℕ → ℕ → ℕ → ℕ → Found → Type 0
 FoundOut bytes from count bound (At i) = FirstOut bytes from count bound i

@@ -5,25 +5,24 @@ ghost use mathlib.Core.Path.{_≡_};
 ghost use Prim.Native.Nat.{_+_, _≤_, _<_, _^_};
 ghost use lib.ListN.{length, replicate};
 ghost use Rattle.sections.specs.Sections.{one-byte, two-byte};
-ghost use Rattle.sections.specs.Answers.{AllBelow, ZerosFrom, FoundOut, CountAnswer, EntriesAnswer};
+ghost use Rattle.sections.specs.Answers.{AllBelow, PartZeroed, FoundOut, CountAnswer, EntriesAnswer};
+
+// Fills a part of a lent buffer with zeros.
+pub fn zero_part(s: &mut [u8], from: usize, to: usize)
+    requires { ⌜ (from ≤ to) × (to ≤ length (now s)) ⌝ }
+    ensures { λ r. ⌜ PartZeroed from to (now (s .entry)) (now (s .exit)) ⌝ }
+{
+    for i in from..to {
+        s[i] = 0;
+    }
+}
 
 // Fills a lent buffer with zeros, whatever its length.
 pub fn zero(s: &mut [u8])
     ensures { λ r. ⌜ now (s .exit) ≡ replicate (length (now (s .entry))) 0 ⌝ }
 {
-    for i in 0..s.len() {
-        s[i] = 0;
-    }
-}
-
-// Fills the front of a lent buffer with zeros, where all that follows is zeros.
-pub fn zero_front(s: &mut [u8], count: usize)
-    requires { ⌜ ZerosFrom (now s) count ⌝ }
-    ensures { λ r. ⌜ now (s .exit) ≡ replicate (length (now (s .entry))) 0 ⌝ }
-{
-    for at in 0..count {
-        s[at] = 0;
-    }
+    let end = s.len();
+    zero_part(s, 0, end);
 }
 
 // The greater of two bytes.

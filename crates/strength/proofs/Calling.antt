@@ -2,12 +2,10 @@
 use Prim.Native.Nat.{ℕ, _+_, _*_, _≤_, _<_}
 use mathlib.Core.Path.{_≡_, refl, sym, ap, _∙_, subst}
 use mathlib.Core.Bool.{Bool, true, false}
-use mathlib.Core.Logic.{⊎-elim}
 use mathlib.Core.List.{List}
 use native.Mathlib.Omega.{arith}
-use lib.ListN.{length, getD, replicate, length-replicate, getD-replicate, List·getD-eq-default}
+use lib.ListN.{length, getD, replicate}
 use lib.Dec.{leb, ltb}
-use Rattle.finite.proofs.Numbers.{le-or-lt}
 use Rattle.answer.specs.declared.Refusal.{Refusal}
 use Rattle.answer.specs.Checks.{passed, refused, FirstFailure}
 use Rattle.theory.specs.Rules.{Morphism, Lawful, Pairs, AllReached, marked, level}
@@ -26,12 +24,6 @@ use Rattle.search.specs.Search.{Stands}
 use Rattle.strength.specs.Deciding.{DecidePlace, StrongIf, Decided}
 use Rattle.strength.specs.Promise.{StrongPromise}
 use Rattle.strength.specs.declared.Strength.the-variants.{Strong as Is-strong, Weak, Refused}
-
--- zeros, past their end too
-zeros-everywhere : (n i : ℕ) → _≡_ {A = ℕ} (getD (replicate n 0) i 0) 0
-zeros-everywhere n i =
-    let z : ℕ = 0 in
-    ⊎-elim (λ h. List·getD-eq-default (replicate n z) z (omega (arith, length-replicate n z))) (λ h. getD-replicate n i z z h) (le-or-lt n i)
 
 module _ (input : ℕ) (bytes entry : List ℕ) {shape : Shape} {mid : List ℕ} (p : CheckPromise input bytes entry mid (Rule shape)) where
   good : GoodRule bytes
@@ -54,12 +46,8 @@ module _ (input : ℕ) (bytes entry : List ℕ) {shape : Shape} {mid : List ℕ}
   unfolding marked level pairsFrom
   marks-stand = record {
     same = λ s e hs he. ap (λ (x : ℕ). leb 1 x)
-        (sym (ap (λ (x : ℕ). getD mid x 0) (let z : 0 + (s * 64 + e) ≡ s * 64 + e = omega arith in z) ∙ p .scratch .marks .mark s e (omega (arith, p .scratch .shape-is .elements)) (omega (arith, p .scratch .shape-is .elements))));
+        (sym (ap (λ (x : ℕ). getD mid x 0) (let z : 0 + (s * 64 + e) ≡ s * 64 + e = omega arith in z) ∙ p .scratch .mark s e (omega (arith, p .scratch .shape-is .elements)) (omega (arith, p .scratch .shape-is .elements))));
   }
-
-  -- and nothing else stands there
-  pub zeros-behind : (i : ℕ) → 4096 ≤ i → getD mid i 0 ≡ 0
-  zeros-behind i h = p .scratch .marks .other i (λ s e hs he q. omega (arith, good .table .small)) ∙ zeros-everywhere (length entry) i
 
   pub checked-room : 65536 ≤ length mid
   checked-room = omega (arith, scratch-long input bytes entry (p .verdict), checked-length (p .scratch))
@@ -70,7 +58,6 @@ module _ (input : ℕ) (bytes entry : List ℕ) {shape : Shape} {mid : List ℕ}
     reached = checked-reached;
     linked = linked-agrees (morphismAt bytes (shape .elements) (shape .letters)) (pairsOf bytes) (pairsFrom mid 0) (marks-stand .same) checked-linked;
     room = checked-room;
-    blank = zeros-behind;
   }
 
   module _ {exit : List ℕ} {answer : Bool} (d : Decided (morphismAt bytes (shape .elements) (shape .letters)) mid exit answer) where

@@ -12,11 +12,10 @@ use Rattle.theory.specs.Pairs.{LinkedOnly}
 use Rattle.theory.proofs.Closure.{closure-test, closure-linked}
 use Rattle.theory.proofs.ShortWords.{short-word}
 use Rattle.theory.proofs.Included.{none-included, included-strong, strong-included, escape-witness}
-use Rattle.scratch.specs.Map.{pairsFrom}
-use Rattle.scratch.specs.Preimages.{PreimagesRoom}
+use Rattle.sections.specs.Answers.{PartZeroed}
+use Rattle.scratch.specs.Map.{pairsFrom, secondBase, tablesEnd}
 use Rattle.closure.specs.Closure.{ClosureRoom, ClosureLaid, ClosureAnswer, ClosedAnswer}
-use Rattle.closure.proofs.Agreement.{SameOn, same-back, strong-agrees, laid-closure, closed-strong}
-use Rattle.searchlist.specs.Queue.{seenAt}
+use Rattle.closure.proofs.Agreement.{same-back, linked-agrees, strong-agrees, laid-closure, closed-strong}
 use Rattle.search.specs.Search.{Stands, EscapePlace, EscapeAnswer, Escaped}
 use Rattle.search.specs.declared.Escape.{Escape}
 use Rattle.search.specs.declared.Escape.the-variants.{At, Nothing}
@@ -24,45 +23,50 @@ use Rattle.search.proofs.Escaping.{stands-kept}
 use Rattle.cycles.proofs.Spelled.{ended-escapes}
 use Rattle.strength.specs.Deciding.{DecidePlace, StrongIf, Decided}
 
-module _ {m : Morphism} {entry : List ℕ} (place : DecidePlace m entry) where
-  -- room for the closure
-  pub closure-room : ClosureRoom m entry
-  closure-room = record { room = omega (arith, place .room); blank = λ i h l. place .blank i h; linked = place .linked }
+module _ {m : Morphism} {entry blank : List ℕ} (small : m .size ≤ 64) (place : DecidePlace m entry) (z : PartZeroed secondBase tablesEnd entry blank) where
+  -- the marks stand as before
+  stands-blank : (P : Pairs) → Stands (m .size) P entry 0 → Stands (m .size) P blank 0
+  unfolding pairsFrom
+  stands-blank P t = record {
+    same = λ s e hs he. t .same s e hs he ∙ ap (ltb 0) (sym (z .outside .before (0 + (s * 64 + e)) (omega arith)));
+  }
 
-  module _ {mid : List ℕ} {closed : Bool} (a : ClosureAnswer m entry mid closed) where
+  linked-blank : LinkedOnly m (pairsFrom blank 0)
+  linked-blank = linked-agrees m (pairsFrom entry 0) (pairsFrom blank 0) (stands-blank (pairsFrom entry 0) (record { same = λ s e hs he. refl }) .same) (place .linked)
+
+  -- room for the closure
+  pub closure-room : ClosureRoom m blank
+  closure-room = record { room = omega (arith, place .room, z .outside .same-length); blank = z .zeros; linked = linked-blank }
+
+  module _ {mid : List ℕ} {closed : Bool} (a : ClosureAnswer m blank mid closed) where
     second-stands : (P : Pairs) → LinkedOnly m P → Stands (m .size) P entry 0 → Stands (m .size) (closure-test m P) mid 4096
-    second-stands P lp t = record { same = λ s e hs he. sym (laid-closure (place .lawful) P lp (t .same) (a .laid) s e hs he) }
+    second-stands P lp t = record { same = λ s e hs he. sym (laid-closure (place .lawful) P lp (stands-blank P t .same) (a .laid) s e hs he) }
 
     -- the marks have all of their closure
     pub decided-closed : closed ≡ true → Decided m entry mid true
     decided-closed e = record {
-      same-length = a .laid .same-length;
-      verdict = λ P lp t. strong-agrees (place .lawful) (pairsFrom entry 0) P (same-back m P (pairsFrom entry 0) (t .same))
-          (closed-strong (place .lawful) (place .linked) (subst (ClosedAnswer m (pairsFrom entry 0)) e (a .answered)));
+      same-length = a .laid .same-length ∙ z .outside .same-length;
+      verdict = λ P lp t. strong-agrees (place .lawful) (pairsFrom blank 0) P (same-back m P (pairsFrom blank 0) (stands-blank P t .same))
+          (closed-strong (place .lawful) linked-blank (subst (ClosedAnswer m (pairsFrom blank 0)) e (a .answered)));
       closure = second-stands;
-      marks = a .laid .before;
+      marks = λ i h. a .laid .before i h ∙ z .outside .before i h;
+      behind = λ i h. a .laid .after i (omega arith) ∙ z .outside .after i (omega arith);
     }
 
     -- the search compares the closure with the marks
-    pub search-place : m .size ≤ 64 → EscapePlace m 4096 0 mid
-    unfolding seenAt
-    search-place small = record {
+    pub search-place : EscapePlace m 4096 0 mid
+    search-place = record {
       lawful = place .lawful;
       first-base = omega arith;
       second-base = omega arith;
-      room = omega (arith, place .room, a .laid .same-length);
-      lists = record {
-        room = omega (arith, place .room, a .laid .same-length);
-        blank = λ i h l. a .laid .after i (omega arith) ∙ place .blank i (omega arith);
-      };
-      unseen = λ c h. a .laid .after _ (omega arith) ∙ place .blank _ (omega arith);
+      room = omega (arith, place .room, a .laid .same-length, z .outside .same-length);
     }
 
-    module _ (small : m .size ≤ 64) {exit : List ℕ} {answer : Escape} (r : Escaped m 4096 0 mid exit answer) where
+    module _ {exit : List ℕ} {answer : Escape} (r : Escaped m 4096 0 mid exit answer) where
       first-stands : (P : Pairs) → Stands (m .size) P entry 0 → Stands (m .size) P mid 0
       unfolding pairsFrom
       first-stands P t = record {
-        same = λ s e hs he. t .same s e hs he ∙ ap (ltb 0) (sym (a .laid .before (0 + (s * 64 + e)) (omega arith)));
+        same = λ s e hs he. stands-blank P t .same s e hs he ∙ ap (ltb 0) (sym (a .laid .before (0 + (s * 64 + e)) (omega arith)));
       }
 
       kept-closure : (P : Pairs) → LinkedOnly m P → Stands (m .size) P entry 0 → Stands (m .size) (closure-test m P) exit 4096
@@ -70,10 +74,11 @@ module _ {m : Morphism} {entry : List ℕ} (place : DecidePlace m entry) where
 
       after-search : {b : Bool} → ((P : Pairs) → LinkedOnly m P → Stands (m .size) P entry 0 → StrongIf m P b) → Decided m entry exit b
       after-search v = record {
-        same-length = r .same-length ∙ a .laid .same-length;
+        same-length = r .same-length ∙ a .laid .same-length ∙ z .outside .same-length;
         verdict = v;
         closure = kept-closure;
-        marks = λ i h. r .marks i (omega arith) ∙ a .laid .before i h;
+        marks = λ i h. r .marks i (omega arith) ∙ a .laid .before i h ∙ z .outside .before i h;
+        behind = λ i h. r .behind i h ∙ a .laid .after i (omega arith) ∙ z .outside .after i (omega arith);
       }
 
       -- no cycle of the closure escapes

@@ -14,7 +14,7 @@ use Rattle.strength.specs.declared.Strength.the-variants.{Strong, Weak, 
 use Rattle.strength.specs.Promise.{strengthVerdict, StrengthAnswer, StrongPromise}
 
 -- each check of a call that needs another buffer and asks for a strong rule fails at one place at most
-pub strong-rule-single : (needed : ℕ) (buffer bytes scratch : List ℕ) → AllSingle (bufferCheck needed buffer ∷ (checkedChecks 1 bytes scratch ++ (weakCheck bytes ∷ [])))
+pub strong-rule-single : (needed : ℕ) (buffer bytes scratch : List ℕ) → AllSingle (bufferCheck needed buffer ∷ (checkedChecks 1 bytes scratch ++ (weakCheck 1 bytes ∷ [])))
 strong-rule-single needed buffer bytes scratch =
     buffer-single (single-append (checked-single 1 bytes scratch) (single-cons (single-at (λ place (a : WeakAt bytes place). a .is-place)) single-nil))
 

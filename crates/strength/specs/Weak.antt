@@ -12,5 +12,6 @@ pub record WeakAt (bytes : List ℕ) (place : ℕ) : Type 0 where
   pub weak : Strong (morphismOf bytes) (pairsOf bytes) → ⊥
   pub is-place : place ≡ 0
 
-abbrev pub weakCheck : List ℕ → Check
-weakCheck bytes = record { refusal = NotStrong; input = 1; Fails = WeakAt bytes }
+-- of the rule that is the input of the given number
+abbrev pub weakCheck : ℕ → List ℕ → Check
+weakCheck input bytes = record { refusal = NotStrong; input = input; Fails = WeakAt bytes }

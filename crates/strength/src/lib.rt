@@ -7,16 +7,18 @@ use rulefile::check;
 use search::Escape;
 use search::first_escape;
 use sections::zero;
+use sections::zero_part;
 ghost use Rattle.table.specs.Table.{Table, morphismAt};
 ghost use Rattle.strength.specs.Deciding.{DecidePlace, Decided};
 ghost use Rattle.strength.specs.Promise.{StrongPromise};
 
-// Decides strength from the marks in scratch, and leaves their closure behind them.
+// Decides strength from the marks in scratch, and leaves their closure behind them. The bytes from 61440 on are kept.
 pub fn decide(rule: &[u8], n: usize, k: usize, scratch: &mut [u8]) -> bool
     requires { ⌜ Table (now rule) n k ⌝ }
     requires { ⌜ DecidePlace (morphismAt (now rule) n k) (now scratch) ⌝ }
     ensures { λ r. ⌜ Decided (morphismAt (now (rule .entry)) n k) (now (scratch .entry)) (now (scratch .exit)) r ⌝ }
 {
+    zero_part(scratch, 4096, 8192);
     let closed = close(rule, n, k, scratch);
     if closed {
         return true;

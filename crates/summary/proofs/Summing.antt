@@ -84,7 +84,7 @@ module _ {bytes work entry : List ℕ} (p : CheckedPlace bytes work entry) where
     unfolding fileOf elementsBytes
     size-strong e =
         let known = subst (ReducePromise bytes work after entry exit) e q in
-        let not-weak = passes-head (passed-last (checkedChecks 1 bytes entry) (weakCheck bytes ∷ []) (passes-tail (known .verdict))) in
+        let not-weak = passes-head (passed-last (checkedChecks 1 bytes entry) (weakCheck 1 bytes ∷ []) (passes-tail (known .verdict))) in
         let r = known .answered in
         record {
           reduces = record {
@@ -101,7 +101,7 @@ module _ {bytes work entry : List ℕ} (p : CheckedPlace bytes work entry) where
     all-pass : Strong (morphismOf bytes) (pairsOf bytes) → FirstFailure (reduceChecks bytes work entry) passed
     all-pass strong =
         buffer-long (p .room)
-        (passed-before (checkedChecks 1 bytes entry) (weakCheck bytes ∷ []) (p .passes) (first-passes (record { nowhere = λ place w. w .weak strong }) none-left))
+        (passed-before (checkedChecks 1 bytes entry) (weakCheck 1 bytes ∷ []) (p .passes) (first-passes (record { nowhere = λ place w. w .weak strong }) none-left))
 
     -- none was written: every other check passes, so the rule is weak
     pub size-weak : {r : Refusal} {input place : ℕ} → answer ≡ Reduced-refused r input place → SizeFound bytes entry exit false 0

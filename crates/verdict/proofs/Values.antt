@@ -9,19 +9,16 @@ use Rattle.answer.proofs.Order.{first-passes, first-fails}
 use Rattle.markchecks.specs.declared.Fault.{Fault}
 use Rattle.markchecks.specs.declared.Fault.the-variants.{Nothing, Refused}
 use Rattle.monitorstate.specs.declared.Monitor.{Monitor}
-use Rattle.monitorstate.specs.Monitor.{noValue, IsStray, StrayAt}
-use Rattle.monitorstate.specs.Ready.{GoodNumber}
+use Rattle.monitorstate.specs.Monitor.{noValue, IsStray}
+use Rattle.monitorstate.specs.Ready.{GoodNumber, strayCheck}
 use Rattle.monitorstate.proofs.Numbers.{good-not-stray, good-element}
 use Rattle.verdict.specs.Promise.{noneCheck}
 use Rattle.verdict.specs.Judging.{valueChecks, BothElements, ValuesAnswer}
 
 module _ (n : ℕ) (f : Monitor) where
-  abbrev stray-check : Check
-  stray-check = record { refusal = EntryOutOfRange; input = 1; Fails = StrayAt n f }
-
   -- a value is stray
   pub values-stray : IsStray n (f .before) ⊎ IsStray n (f .since) → FirstFailure (valueChecks n f) (refused EntryOutOfRange 1 0)
-  values-stray s = first-fails stray-check (record { stray = s; is-place = refl })
+  values-stray s = first-fails (strayCheck 1 n f) (record { stray = s; is-place = refl })
 
   module _ (before : GoodNumber n (f .before)) (since : GoodNumber n (f .since)) where
     -- both are good, and one is none

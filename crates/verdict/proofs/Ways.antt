@@ -35,7 +35,7 @@ module _ (bytes : List ℕ) (f : Monitor) (entry : List ℕ) where
     left {exit} z = zeros-left 1 bytes entry (p .verdict) mid exit (checked-length (p .scratch)) z
 
     -- the rule passed: the values and the strength decide
-    after-rule : {v : Verdict} → FirstFailure (valueChecks (elementsOf bytes) f ++ weakCheck bytes ∷ []) v → FirstFailure (verdictChecks bytes f entry) v
+    after-rule : {v : Verdict} → FirstFailure (valueChecks (elementsOf bytes) f ++ weakCheck 1 bytes ∷ []) v → FirstFailure (verdictChecks bytes f entry) v
     after-rule r = rw append-assoc (passed-before (checkedChecks 1 bytes entry) _ (p .verdict) r)
 
     -- a value is refused
@@ -54,7 +54,7 @@ module _ (bytes : List ℕ) (f : Monitor) (entry : List ℕ) where
           (λ s. omega (arith, s .no-element, b .since-inside, p .scratch .shape-is .elements))
 
       -- both values passed: the strength decides
-      after-values : {v : Verdict} → FirstFailure (weakCheck bytes ∷ []) v → FirstFailure (verdictChecks bytes f entry) v
+      after-values : {v : Verdict} → FirstFailure (weakCheck 1 bytes ∷ []) v → FirstFailure (verdictChecks bytes f entry) v
       after-values w =
           after-rule
           (first-passes (record { nowhere = λ place t. none-stray (t .stray) })
@@ -82,7 +82,7 @@ module _ (bytes : List ℕ) (f : Monitor) (entry : List ℕ) where
       says (Refused r i place) z k = record {
         verdict =
             after-values
-            (subst (FirstFailure (weakCheck bytes ∷ [])) (sym (k .1)) (first-fails (weakCheck bytes) (record { weak = k .0; is-place = refl })));
+            (subst (FirstFailure (weakCheck 1 bytes ∷ [])) (sym (k .1)) (first-fails (weakCheck 1 bytes) (record { weak = k .0; is-place = refl })));
         answered = tt;
         scratch = z;
       }

@@ -2,17 +2,17 @@
 use Prim.Native.Nat.{ℕ, _<_}
 use mathlib.Core.Path.{_≡_}
 use mathlib.Core.List.{List, [], _∷_}
-use Rattle.answer.specs.declared.Refusal.the-variants.{EntryOutOfRange}
 use Rattle.answer.specs.Checks.{Check, refused, FirstFailure}
 use Rattle.markchecks.specs.declared.Fault.{Fault}
 use Rattle.markchecks.specs.declared.Fault.the-variants.{Nothing, Refused as Fault-refused}
 use Rattle.monitorstate.specs.declared.Monitor.{Monitor}
-use Rattle.monitorstate.specs.Monitor.{noValue, StrayAt}
+use Rattle.monitorstate.specs.Monitor.{noValue}
+use Rattle.monitorstate.specs.Ready.{strayCheck}
 use Rattle.verdict.specs.Promise.{noneCheck}
 
 -- 3 for the values of a monitor, then 11
 abbrev pub valueChecks : ℕ → Monitor → List Check
-valueChecks n f = record { refusal = EntryOutOfRange; input = 1; Fails = StrayAt n f } ∷ noneCheck f ∷ []
+valueChecks n f = strayCheck 1 n f ∷ noneCheck f ∷ []
 
 -- both values are elements, and neither is none
 pub record BothElements (n : ℕ) (f : Monitor) : Type 0 where

@@ -26,7 +26,7 @@ noneCheck f = record { refusal = WordLength; input = 1; Fails = NoneAt f }
 
 -- the rule's checks and 3 for the monitor's values, as for an event; then "11 .. for a verdict", then 12
 abbrev pub verdictChecks : List ℕ → Monitor → List ℕ → List Check
-verdictChecks bytes f scratch = monitorChecks bytes f scratch ++ noneCheck f ∷ weakCheck bytes ∷ []
+verdictChecks bytes f scratch = monitorChecks bytes f scratch ++ noneCheck f ∷ weakCheck 1 bytes ∷ []
 
 -- document 01's number, input and place of an answer
 abbrev pub judgedVerdict : Judged → Verdict

@@ -2,7 +2,7 @@
 use mathlib.Core.Path.{refl}
 use native.Mathlib.Omega.{arith}
 use borrow.Author.Needs.{needs}
-use Rattle.automatonfile.proofs.Content.{m-small, count-small, end-in, transitions-place, blank-room, trailing, transitions-decide}
+use Rattle.automatonfile.proofs.Content.{m-small, count-small, end-in, transitions-place, trailing, transitions-decide}
 use Rattle.automatonfile.proofs.content_fault.Statement.{statement}
 use Rattle.automatonfile.proofs.content_fault.Tie as tie
 
@@ -28,7 +28,7 @@ returns : tie.Need-returns
 returns c = (trailing _ _ (c .before .before .before .before .pre .0) (c .before .rest-after .ensures) (c .if1 .taken), refl)
 
 repeated-fault-requires : tie.Need-repeated-fault-requires
-repeated-fault-requires c κs = (transitions-place _ _ (c .before .before .before .before .before .pre .0), blank-room (c .before .before .before .before .before .pre .1))
+repeated-fault-requires c κs = (transitions-place _ _ (c .before .before .before .before .before .pre .0), c .before .before .before .before .before .pre .1)
 
 same-length : tie.Need-same-length
 same-length c = search needs

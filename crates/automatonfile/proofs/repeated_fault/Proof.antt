@@ -17,7 +17,9 @@ abbrev μ-loop : tie.MeasureT-loop
 μ-loop bytes at count table₀ i₀ table i = count - i
 
 loop-holds : tie.Need-loop-holds Inv-loop μ-loop
-loop-holds c = (no-transitions _, laid-start _ (c .before .before .pre .1), omega arith)
+loop-holds c =
+    let good = c .before .before .pre .0 .sections in
+    (no-transitions _, laid-start _ (good .states-small) (good .letters-small) (c .before .before .pre .1), omega arith)
 
 triple-index-requires : tie.Need-triple-index-requires Inv-loop μ-loop
 triple-index-requires c κs = (c .before .before .before .before .pre .0, c .loop-test .taken)

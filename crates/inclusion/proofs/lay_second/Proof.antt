@@ -1,7 +1,12 @@
+-- The table behind the first marks is made blank, and the second section is laid out there. Assumes nothing.
+use native.Mathlib.Omega.{arith}
 use borrow.Author.Needs.{needs}
 use Rattle.inclusion.proofs.Laying.{second-space, laid-answer}
 use Rattle.inclusion.proofs.lay_second.Statement.{statement}
 use Rattle.inclusion.proofs.lay_second.Tie as tie
+
+zero-part-requires : tie.Need-zero-part-requires
+zero-part-requires c κs = (omega arith, omega (arith, c .before .before .before .before .pre .1 .1))
 
 sub-second-marks : tie.Need-sub-second-marks
 sub-second-marks c = search needs
@@ -13,18 +18,24 @@ part-second-marks-end : tie.Need-part-second-marks-end
 part-second-marks-end c = search needs
 
 second-marks-requires : tie.Need-second-marks-requires
-second-marks-requires c κs = (c .before .before .before .before .pre .0, (c .before .before .before .before .pre .1 .0, second-space (c .before .before .before .before .pre .1 .1)))
+second-marks-requires c κs =
+    let start = c .before .before .before .before .before .before .before .before in
+    (start .pre .0, (start .pre .1 .0, second-space (start .pre .1 .1) (c .before .before .before .zero-part .ensures)))
 
 same-length : tie.Need-same-length
 same-length c = search needs
 
 returns : tie.Need-returns
-returns c = (c .before .before .second-marks .ensures .0, laid-answer (c .before .before .before .before .before .before .before .pre .1 .1) _ (c .before .before .before .before .before .before .before .pre .0 .small) _ (c .before .before .second-marks .result) (c .before .before .second-marks .ensures .1))
+returns c =
+    let start = c .before .before .before .before .before .before .before .before .before .before .before in
+    let second = c .before .before .second-marks in
+    (second .ensures .0, laid-answer (start .pre .1 .1) (c .before .before .before .before .before .before .zero-part .ensures) _ (start .pre .0 .small) _ (second .result) (second .ensures .1))
 
 pub lay-second-spec : {M : Type 1} → statement M
 lay-second-spec =
     tie.close
     (tie.spec
+    zero-part-requires
     sub-second-marks
     part-second-marks-start
     part-second-marks-end

@@ -1,6 +1,6 @@
 -- `monitor::prepare` meets its contract: the rule's checks decide, then the monitor's two values. Assumes nothing.
 use mathlib.Core.Logic.{inl, inr}
-use Rattle.rulefile.proofs.Calls.{checked-rule, checked-refused, marks-only}
+use Rattle.rulefile.proofs.Calls.{checked-rule, checked-refused}
 use Rattle.monitorstate.proofs.Prepared.{rule-refused, monitor-stray, monitor-good, said-stray, said-good}
 use borrow.Author.Needs.{needs}
 use Rattle.monitorstate.proofs.prepare.Statement.{statement}
@@ -21,8 +21,8 @@ same-length c = search needs
 returns : tie.Need-returns
 returns c = rule-refused _ _ _ (checked-refused 1 _ _ _ (c .before .before .before .before .before .check .result) (c .before .before .before .before .before .check .ensures) (c .before .refusal .given .1))
 
-zero-front-requires : tie.Need-zero-front-requires
-zero-front-requires c κs = marks-only _ _ _ (checked-rule 1 _ _ _ (c .before .before .before .before .before .before .check .result) (c .before .before .before .before .before .before .check .ensures) (c .before .before .shape .given .1))
+zero-requires : tie.Need-zero-requires
+zero-requires c κs = search needs
 
 stray-requires : tie.Need-stray-requires
 stray-requires c κs = search needs
@@ -32,7 +32,7 @@ same-length-2 c = search needs
 
 returns-2 : tie.Need-returns-2
 returns-2 c =
-    monitor-stray _ _ _ _ _ (checked-rule 1 _ _ _ (c .before .before .before .before .before .before .before .before .before .before .before .check .result) (c .before .before .before .before .before .before .before .before .before .before .before .check .ensures) (c .before .before .before .before .before .before .before .shape .given .1)) (c .before .before .before .before .zero-front .ensures)
+    monitor-stray _ _ _ _ _ (checked-rule 1 _ _ _ (c .before .before .before .before .before .before .before .before .before .before .before .check .result) (c .before .before .before .before .before .before .before .before .before .before .before .check .ensures) (c .before .before .before .before .before .before .before .shape .given .1)) (c .before .before .before .before .zero .ensures)
     (inl (said-stray _ _ (c .before .stray .result) (c .before .stray .ensures) (c .if1 .taken)))
 
 stray-requires-2 : tie.Need-stray-requires-2
@@ -43,7 +43,7 @@ same-length-3 c = search needs
 
 returns-3 : tie.Need-returns-3
 returns-3 c =
-    monitor-stray _ _ _ _ _ (checked-rule 1 _ _ _ (c .before .before .before .before .before .before .before .before .before .before .before .before .before .check .result) (c .before .before .before .before .before .before .before .before .before .before .before .before .before .check .ensures) (c .before .before .before .before .before .before .before .before .before .shape .given .1)) (c .before .before .before .before .before .before .zero-front .ensures)
+    monitor-stray _ _ _ _ _ (checked-rule 1 _ _ _ (c .before .before .before .before .before .before .before .before .before .before .before .before .before .check .result) (c .before .before .before .before .before .before .before .before .before .before .before .before .before .check .ensures) (c .before .before .before .before .before .before .before .before .before .shape .given .1)) (c .before .before .before .before .before .before .zero .ensures)
     (inr (said-stray _ _ (c .before .stray2 .result) (c .before .stray2 .ensures) (c .if2 .taken)))
 
 same-length-4 : tie.Need-same-length-4
@@ -51,7 +51,7 @@ same-length-4 c = search needs
 
 returns-4 : tie.Need-returns-4
 returns-4 c =
-    monitor-good _ _ _ _ _ (checked-rule 1 _ _ _ (c .before .before .before .before .before .before .before .before .before .before .before .before .before .check .result) (c .before .before .before .before .before .before .before .before .before .before .before .before .before .check .ensures) (c .before .before .before .before .before .before .before .before .before .shape .given .1)) (c .before .before .before .before .before .before .zero-front .ensures)
+    monitor-good _ _ _ _ _ (checked-rule 1 _ _ _ (c .before .before .before .before .before .before .before .before .before .before .before .before .before .check .result) (c .before .before .before .before .before .before .before .before .before .before .before .before .before .check .ensures) (c .before .before .before .before .before .before .before .before .before .shape .given .1)) (c .before .before .before .before .before .before .zero .ensures)
     (said-good _ _ (c .before .before .before .stray .result) (c .before .before .before .stray .ensures) (c .before .before .if1 .left))
     (said-good _ _ (c .before .stray2 .result) (c .before .stray2 .ensures) (c .if2 .left))
 
@@ -64,7 +64,7 @@ prepare-spec =
     enum-known-refusal
     same-length
     returns
-    zero-front-requires
+    zero-requires
     stray-requires
     same-length-2
     returns-2

@@ -1,25 +1,15 @@
--- `rulefile::check` meets its contract: a short scratch, a section, the contents, in this order; and every refusal but the first
--- leaves zeros. Assumes nothing.
-use Prim.Native.Nat.{ℕ}
-use mathlib.Core.Path.{_≡_, ap, _∙_}
-use mathlib.Core.List.{List}
-use native.Mathlib.Omega.{arith}
-use lib.ListN.{length, replicate, length-replicate}
-use Rattle.format.specs.RuleChecks.{contentChecks}
-use Rattle.rulefile.proofs.Faults.{no-fault, fault-refused}
-use Rattle.rulefile.proofs.Promise.{short-scratch, layout-said, layout-refused, blank-zeros, layout-promise, content-promise, rule-promise, content-laid, content-kept}
+-- `rulefile::check` meets its contract: a short scratch first, then the rule's own checks; every refusal but the first leaves zeros.
+-- Assumes nothing.
 use borrow.Author.Needs.{needs}
+use Rattle.rulefile.proofs.Promise.{short-scratch, rule-promise, refused-promise}
 use Rattle.rulefile.proofs.check.Statement.{statement}
 use Rattle.rulefile.proofs.check.Tie as tie
 
 returns : tie.Need-returns
 returns c = short-scratch _ _ _ (c .if1 .taken)
 
-zero-requires : tie.Need-zero-requires
-zero-requires c κs = search needs
-
-read-layout-requires : tie.Need-read-layout-requires
-read-layout-requires c κs = search needs
+check-rule-requires : tie.Need-check-rule-requires
+check-rule-requires c κs = search needs
 
 enum-known-shape : tie.Need-enum-known-shape
 enum-known-shape c = search needs
@@ -27,72 +17,35 @@ enum-known-shape c = search needs
 enum-known-refusal : tie.Need-enum-known-refusal
 enum-known-refusal c = search needs
 
+zero-requires : tie.Need-zero-requires
+zero-requires c κs = search needs
+
 same-length : tie.Need-same-length
 same-length c = search needs
 
 returns-2 : tie.Need-returns-2
 returns-2 c =
-    let b = c .before .before .before .before .before .before .before .before .before .before .before in
-    layout-promise (b .args .input) (b .args .rule .now) (b .args .scratch .now) (c .before .before .before .before .before .before .before .before .if1 .left) (c .before .before .before .before .before .before .zero .ensures)
-    (layout-refused (b .args .rule .now) (c .before .before .before .read-layout .result) (c .before .before .before .read-layout .ensures) (c .before .refusal .given .1))
-
-content-fault-requires : tie.Need-content-fault-requires
-content-fault-requires c κs =
-    let b = c .before .before .before .before .before .before .before .before .before .before .before .before in (
-      layout-said (b .args .rule .now) (c .before .before .before .before .read-layout .result) (c .before .before .before .before .read-layout .ensures) (c .before .before .shape .given .1),
-      blank-zeros (b .args .scratch .now) _ (c .before .before .before .before .before .before .before .before .before .if1 .left) (c .before .before .before .before .before .before .before .zero .ensures),
-    )
-
-enum-told : tie.Need-enum-told
-enum-told c = search needs
-
-enum-known-refusal-2 : tie.Need-enum-known-refusal-2
-enum-known-refusal-2 c = search needs
-
-zero-requires-2 : tie.Need-zero-requires-2
-zero-requires-2 c κs = search needs
+    let checked = c .before .before .before .before .before in
+    rule-promise _ _ _ _ (checked .check-rule .result) (checked .before .before .if1 .left) (checked .check-rule .ensures) (c .before .shape .given .1)
 
 same-length-2 : tie.Need-same-length-2
 same-length-2 c = search needs
 
 returns-3 : tie.Need-returns-3
 returns-3 c =
-    let b = c .before .before .before .before .before .before .before .before .before .before .before .before .before .before .before .before .before in
-    let f = c .before .before .before .before .content-fault in
-    rule-promise (b .args .input) (b .args .rule .now) (b .args .scratch .now) (c .before .before .before .before .before .before .before .before .before .before .before .before .before .before .if1 .left)
-    (layout-said (b .args .rule .now) (c .before .before .before .before .before .before .before .before .before .read-layout .result) (c .before .before .before .before .before .before .before .before .before .read-layout .ensures) (c .before .before .before .before .before .before .before .shape .given .1)) (c .before .before .before .before .before .before .before .before .before .before .before .before .zero .ensures)
-    (no-fault (λ input. contentChecks input (b .args .rule .now)) (f .result) (f .ensures .0) (c .enum-told .given .1))
-    (content-laid _ _ _ (f .result) (f .ensures .1) (c .enum-told .given .1))
-
-same-length-3 : tie.Need-same-length-3
-same-length-3 c = search needs
-
-returns-4 : tie.Need-returns-4
-returns-4 c =
-    let b = c .before .before .before .before .before .before .before .before .before .before .before .before .before .before .before .before .before .before .before .before .before .before in
-    let f = c .before .before .before .before .before .before .before .before .before .content-fault in
-    content-promise (b .args .input) (b .args .rule .now) (b .args .scratch .now) (c .before .before .before .before .before .before .before .before .before .before .before .before .before .before .before .before .before .before .before .if1 .left)
-    (layout-said (b .args .rule .now) (c .before .before .before .before .before .before .before .before .before .before .before .before .before .before .read-layout .result) (c .before .before .before .before .before .before .before .before .before .before .before .before .before .before .read-layout .ensures) (c .before .before .before .before .before .before .before .before .before .before .before .before .shape .given .1))
-    (c .before .before .zero2 .ensures
-    ∙ ap (λ (n : ℕ). replicate n 0) (content-kept _ _ _ (f .result) (f .ensures .1) (c .before .before .before .before .before .refusal2 .given .1) ∙ ap length (c .before .before .before .before .before .before .before .before .before .before .before .before .before .before .before .before .before .zero .ensures) ∙ length-replicate (length (b .args .scratch .now)) 0))
-    (fault-refused (λ input. contentChecks input (b .args .rule .now)) (f .result) (f .ensures .0) (c .before .before .before .before .before .refusal2 .given .1))
+    let checked = c .before .before .before .before .before .before .before .before .before in
+    refused-promise _ _ _ _ (checked .check-rule .result) (checked .before .before .if1 .left) (checked .check-rule .ensures) (c .before .before .before .before .before .refusal .given .1) (c .before .before .zero .ensures)
 
 pub check-spec : {M : Type 1} → statement M
 check-spec =
     tie.close
     (tie.spec
     returns
-    zero-requires
-    read-layout-requires
+    check-rule-requires
     enum-known-shape
     enum-known-refusal
+    zero-requires
     same-length
     returns-2
-    content-fault-requires
-    enum-told
-    enum-known-refusal-2
-    zero-requires-2
     same-length-2
-    returns-3
-    same-length-3
-    returns-4)
+    returns-3)

@@ -37,9 +37,11 @@ slice-aggregate-associates c = search needs
 
 associates-requires : tie.Need-associates-requires
 associates-requires c κs =
-    let b = c .before .before .before .before .before .before .before .before .before in
-    (b .pre, all-found (omega (arith, length-replicate {A = ℕ} 256 0)) (c .before .before .before .before .before .before .reach .ensures)
-    (c .before .before .before .least-without .result) (c .before .before .before .least-without .ensures) (c .before .enum-told .given .1))
+    let b = c .before .before .before .before .before .before .before .before .before in (
+      b .pre,
+      all-found (omega (arith, length-replicate {A = ℕ} 256 0)) (c .before .before .before .before .before .before .reach .ensures)
+          (c .before .before .before .least-without .result) (c .before .before .before .least-without .ensures) (c .before .enum-told .given .1),
+    )
 
 returns-2 : tie.Need-returns-2
 returns-2 c =
