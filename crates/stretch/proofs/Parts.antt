@@ -1,5 +1,5 @@
 -- What a stretch is on each way through the lengths and the position. Assumes nothing.
-use Prim.Native.Nat.{ℕ, _-_, _%_, _≤_, _<_}
+use Prim.Native.Nat.{ℕ, _+_, _-_, _%_, _≤_, _<_}
 use mathlib.Core.Path.{_≡_, refl, sym, ap, _∙_}
 use mathlib.Core.Bool.{Bool, true, false, cond, _&&_}
 use mathlib.Core.List.{List, []}
@@ -8,7 +8,9 @@ use borrow.Author.Tests.{le-leb, lt-leb, lt-ltb, le-ltb}
 use lib.Dec.{leb}
 use lib.ListN.{length, take, drop, length-drop}
 use lib.Seq.{take-all}
-use Rattle.stretch.specs.Stretch.{wordFits, unread, stretchOf}
+use denote.Ref.{RefT}
+use denote.Slice.{slice-vals}
+use Rattle.stretch.specs.Stretch.{wordFits, unread, stretchOf, Pointer, unreadPlace, stretchPlace}
 use Rattle.words.specs.WordChecks.{longestWord}
 
 -- a length that refusal 11 names
@@ -60,3 +62,37 @@ module _ {u v : List ℕ} (fu : Fit u) (fv : Fit v) (at : ℕ) where
   pub in-cycle : length u ≤ at → take (length v - (at - length u) % length v) (drop ((at - length u) % length v) v) ≡ stretchOf u v at
   unfolding unread
   in-cycle h = rest-of v ((at - length u) % length v) ∙ sym (simp (le-ltb at (length u) h)) ∙ sym inside
+
+-- where the part begins, for a u that begins at p and a v that begins at q
+module _ (p q : Pointer) where
+  pub start-unfit-place : {u : List ℕ} (v : List ℕ) (at : ℕ) → Unfit u → p ≡ stretchPlace p q u v at
+  unfolding stretchPlace
+  start-unfit-place v at h = simp (unfit h)
+
+  pub cycle-unfit-place : (u : List ℕ) {v : List ℕ} (at : ℕ) → Unfit v → p ≡ stretchPlace p q u v at
+  unfolding stretchPlace
+  cycle-unfit-place u {v} at h = sym (ap (λ (b : Bool). cond b (unreadPlace p q u v at) p) (and-false (wordFits u) (unfit h)))
+
+  module _ {u v : List ℕ} (fu : Fit u) (fv : Fit v) (at : ℕ) where
+    inside-place : stretchPlace p q u v at ≡ unreadPlace p q u v at
+    unfolding stretchPlace
+    inside-place = simp (fit fu, fit fv)
+
+    -- the code's count of bytes is the offset, by whichever sum
+    pub in-start-place : {o : ℕ} → at < length u → o ≡ p .1 + at → (p .0, o) ≡ stretchPlace p q u v at
+    unfolding unreadPlace
+    in-start-place h e =
+        ap {B = Pointer} (λ (x : ℕ). (p .0, x)) e ∙ sym (simp (lt-ltb at (length u) h)) ∙ sym inside-place
+
+    pub in-cycle-place : {o : ℕ} → length u ≤ at → o ≡ q .1 + (at - length u) % length v → (q .0, o) ≡ stretchPlace p q u v at
+    unfolding unreadPlace
+    in-cycle-place h e =
+        ap {B = Pointer} (λ (x : ℕ). (q .0, x)) e ∙ sym (simp (le-ltb at (length u) h)) ∙ sym inside-place
+
+-- two answers to one call are one slice of the machine: its pointer and its number of elements
+pub one-part : (p q : Pointer) (u v : List ℕ) (at : ℕ) (r s : RefT (List ℕ)) → r .now ≡ stretchOf u v at → s .now ≡ stretchOf u v at
+    → r .ptr ≡ stretchPlace p q u v at → s .ptr ≡ stretchPlace p q u v at → slice-vals r ≡ slice-vals s
+one-part p q u v at r s letters-r letters-s place-r place-s =
+    let letters : r .now ≡ s .now = cc in
+    let place : r .ptr ≡ s .ptr = cc in
+    cc
