@@ -1,2 +1,3 @@
 pub mod Zeros
 pub mod Laws
+pub mod Limits
