@@ -1,8 +1,11 @@
 -- Answers packed into one number of 64 bits, for callers in other languages. Assumes nothing.
 --
 -- Byte 0 is 0 for a result, else document 01's number of the refusal. Of a refusal byte 1 is the input, and its place stands from
--- bit 16 on. A result has three fields of 16 bits, from bits 16, 32 and 48 on; what they hold is said at each call.
-use Prim.Native.Nat.{ℕ, _+_, _*_, _%_}
+-- bit 16 on. A result has three fields of 16 bits, from bits 16, 32 and 48 on; what they hold is said at each answer. Nothing that a
+-- call answers reaches these limits, so `unpack` reads every exported number back: `exports/proofs/NothingLost`.
+use Prim.Native.Nat.{ℕ, _+_, _*_, _/_, _%_}
+use mathlib.Core.Bool.{cond}
+use lib.Dec.{eqb}
 use Rattle.answer.specs.Refusals.{numberOf}
 use Rattle.automaton.specs.declared.Translated.{Translated}
 use Rattle.automaton.specs.declared.Translated.the-variants.{Rule as Automaton-rule, Refused as Not-translated}
@@ -24,61 +27,107 @@ use Rattle.strength.specs.declared.Strength.the-variants.{Strong, Weak, Refused
 use Rattle.judging.specs.declared.Judged.{Judged}
 use Rattle.judging.specs.declared.Judged.the-variants.{Accepted as Judged-accepted, NotAccepted as Judged-not-accepted, Refused as Not-judged}
 
--- a refusal: its number, its input, its place (no place that a call answers reaches 2 to the power 48)
+-- a refusal: its number, its input, its place
 unfoldable pub packRefusal : ℕ → ℕ → ℕ → ℕ
 packRefusal number input place = number + (256 * (input % 256) + 65536 * (place % 281474976710656))
 
--- three fields of a result (none that a call answers reaches 65,536)
+-- three fields of a result
 unfoldable pub packFields : ℕ → ℕ → ℕ → ℕ
 packFields a b c = 65536 * (a % 65536) + (4294967296 * (b % 65536) + 281474976710656 * (c % 65536))
 
+-- what a number holds: three fields, or a refusal's number, input and place
+pub data Contents : Type 0 where
+  fields : ℕ → ℕ → ℕ → Contents
+  refusal-at : ℕ → ℕ → ℕ → Contents
+
+abbrev pub pack : Contents → ℕ
+pack (fields a b c) = packFields a b c
+pack (refusal-at number input place) = packRefusal number input place
+
+-- how a caller reads a number, as the functions of include/duknavet.h do
+unfoldable pub unpack : ℕ → Contents
+unpack r =
+    cond (eqb (r % 256) 0) (fields (r / 65536 % 65536) (r / 4294967296 % 65536) (r / 281474976710656 % 65536))
+    (refusal-at (r % 256) (r / 256 % 256) (r / 65536))
+
 -- the linked pairs, the classes, the joins
+abbrev pub listedContents : Listed → Contents
+listedContents (Counts linked classes joins) = fields linked classes joins
+listedContents (Not-listed refusal input place) = refusal-at (numberOf refusal) input place
+
 abbrev pub packListed : Listed → ℕ
-packListed (Counts linked classes joins) = packFields linked classes joins
-packListed (Not-listed refusal input place) = packRefusal (numberOf refusal) input place
+packListed answer = pack (listedContents answer)
 
 -- 1 where the rule is strong
+abbrev pub strengthContents : Strength → Contents
+strengthContents Strong = fields 1 0 0
+strengthContents Weak = fields 0 0 0
+strengthContents (Not-decided refusal input place) = refusal-at (numberOf refusal) input place
+
 abbrev pub packStrength : Strength → ℕ
-packStrength Strong = packFields 1 0 0
-packStrength Weak = packFields 0 0 0
-packStrength (Not-decided refusal input place) = packRefusal (numberOf refusal) input place
+packStrength answer = pack (strengthContents answer)
 
 -- 1 where the lasso is accepted
+abbrev pub membershipContents : Membership → Contents
+membershipContents Accepted = fields 1 0 0
+membershipContents NotAccepted = fields 0 0 0
+membershipContents (Not-a-member refusal input place) = refusal-at (numberOf refusal) input place
+
 abbrev pub packMembership : Membership → ℕ
-packMembership Accepted = packFields 1 0 0
-packMembership NotAccepted = packFields 0 0 0
-packMembership (Not-a-member refusal input place) = packRefusal (numberOf refusal) input place
+packMembership answer = pack (membershipContents answer)
 
 -- how many bytes were written
+abbrev pub complementedContents : Complemented → Contents
+complementedContents (Complement-rule length) = fields length 0 0
+complementedContents (Not-complemented refusal input place) = refusal-at (numberOf refusal) input place
+
 abbrev pub packComplemented : Complemented → ℕ
-packComplemented (Complement-rule length) = packFields length 0 0
-packComplemented (Not-complemented refusal input place) = packRefusal (numberOf refusal) input place
+packComplemented answer = pack (complementedContents answer)
 
 -- likewise
+abbrev pub reducedContents : Reduced → Contents
+reducedContents (Reduced-rule length) = fields length 0 0
+reducedContents (Not-reduced refusal input place) = refusal-at (numberOf refusal) input place
+
 abbrev pub packReduced : Reduced → ℕ
-packReduced (Reduced-rule length) = packFields length 0 0
-packReduced (Not-reduced refusal input place) = packRefusal (numberOf refusal) input place
+packReduced answer = pack (reducedContents answer)
+
+abbrev pub translatedContents : Translated → Contents
+translatedContents (Automaton-rule length) = fields length 0 0
+translatedContents (Not-translated refusal input place) = refusal-at (numberOf refusal) input place
 
 abbrev pub packTranslated : Translated → ℕ
-packTranslated (Automaton-rule length) = packFields length 0 0
-packTranslated (Not-translated refusal input place) = packRefusal (numberOf refusal) input place
+packTranslated answer = pack (translatedContents answer)
 
 -- 1 where the first marking is included; else 0, and how many letters u and v have
+abbrev pub inclusionContents : Inclusion → Contents
+inclusionContents Included = fields 1 0 0
+inclusionContents (NotIncluded u v) = fields 0 u v
+inclusionContents (Not-compared refusal input place) = refusal-at (numberOf refusal) input place
+
 abbrev pub packInclusion : Inclusion → ℕ
-packInclusion Included = packFields 1 0 0
-packInclusion (NotIncluded u v) = packFields 0 u v
-packInclusion (Not-compared refusal input place) = packRefusal (numberOf refusal) input place
+packInclusion answer = pack (inclusionContents answer)
 
 -- the monitor's two values
+abbrev pub monitorContents : Monitor → Contents
+monitorContents m = fields (m .before) (m .since) 0
+
 abbrev pub packMonitor : Monitor → ℕ
-packMonitor m = packFields (m .before) (m .since) 0
+packMonitor m = pack (monitorContents m)
+
+-- those of the moved one; after a refusal the caller's own is unchanged
+abbrev pub movedContents : Moved → Contents
+movedContents (To m) = monitorContents m
+movedContents (Not-moved m refusal input place) = refusal-at (numberOf refusal) input place
 
 abbrev pub packMoved : Moved → ℕ
-packMoved (To m) = packMonitor m
-packMoved (Not-moved m refusal input place) = packRefusal (numberOf refusal) input place
+packMoved answer = pack (movedContents answer)
 
 -- 1 where the lassos with the monitor's values are accepted
+abbrev pub judgedContents : Judged → Contents
+judgedContents Judged-accepted = fields 1 0 0
+judgedContents Judged-not-accepted = fields 0 0 0
+judgedContents (Not-judged refusal input place) = refusal-at (numberOf refusal) input place
+
 abbrev pub packJudged : Judged → ℕ
-packJudged Judged-accepted = packFields 1 0 0
-packJudged Judged-not-accepted = packFields 0 0 0
-packJudged (Not-judged refusal input place) = packRefusal (numberOf refusal) input place
+packJudged answer = pack (judgedContents answer)

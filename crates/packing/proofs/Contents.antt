@@ -1,0 +1,112 @@
+-- What a number holds tells the answer: two answers that hold the same are one. Assumes nothing.
+use Prim.Native.Nat.{ℕ}
+use mathlib.Core.Path.{_≡_, refl, sym, ap, _∙_}
+use Rattle.answer.specs.Checks.{numbered}
+use Rattle.answer.proofs.Verdicts.{same-refusal}
+use Rattle.automaton.specs.declared.Translated.{Translated}
+use Rattle.automaton.specs.declared.Translated.the-variants.{Rule as Automaton-rule, Refused as Not-translated}
+use Rattle.classes.specs.declared.Listed.{Listed}
+use Rattle.classes.specs.declared.Listed.the-variants.{Counts, Refused as Not-listed}
+use Rattle.comparison.specs.declared.Inclusion.{Inclusion}
+use Rattle.comparison.specs.declared.Inclusion.the-variants.{Included, NotIncluded, Refused as Not-compared}
+use Rattle.complement.specs.declared.Complemented.{Complemented}
+use Rattle.complement.specs.declared.Complemented.the-variants.{Rule as Complement-rule, Refused as Not-complemented}
+use Rattle.judging.specs.declared.Judged.{Judged}
+use Rattle.judging.specs.declared.Judged.the-variants.{Accepted as Judged-accepted, NotAccepted as Judged-not-accepted, Refused as Not-judged}
+use Rattle.lasso.specs.declared.Membership.{Membership}
+use Rattle.lasso.specs.declared.Membership.the-variants.{Accepted, NotAccepted, Refused as Not-a-member}
+use Rattle.monitorstate.specs.declared.Monitor.{Monitor}
+use Rattle.monitor.specs.declared.Moved.{Moved}
+use Rattle.monitor.specs.declared.Moved.the-variants.{To, Refused as Not-moved}
+use Rattle.monitor.specs.Promises.{HandsBack}
+use Rattle.reduction.specs.declared.Reduced.{Reduced}
+use Rattle.reduction.specs.declared.Reduced.the-variants.{Rule as Reduced-rule, Refused as Not-reduced}
+use Rattle.strength.specs.declared.Strength.{Strength}
+use Rattle.strength.specs.declared.Strength.the-variants.{Strong, Weak, Refused as Not-decided}
+use Rattle.packing.specs.Packing.{refusal-at, monitorContents, movedContents, listedContents, strengthContents, membershipContents, complementedContents, reducedContents, translatedContents, inclusionContents, judgedContents}
+
+-- a refusal's contents are its verdict
+verdict-of : {n n′ i i′ p p′ : ℕ} → refusal-at n i p ≡ refusal-at n′ i′ p′ → numbered n i p ≡ numbered n′ i′ p′
+verdict-of e = cc
+
+pub listed-told : (x y : Listed) → listedContents x ≡ listedContents y → x ≡ y
+listed-told (Counts a b c) (Counts a′ b′ c′) e = cc
+listed-told (Counts a b c) (Not-listed r′ i′ p′) e = cc
+listed-told (Not-listed r i p) (Counts a′ b′ c′) e = cc
+listed-told (Not-listed r i p) (Not-listed r′ i′ p′) e = same-refusal Not-listed r r′ i i′ p p′ (verdict-of e)
+
+pub strength-told : (x y : Strength) → strengthContents x ≡ strengthContents y → x ≡ y
+strength-told Strong Strong e = refl
+strength-told Strong Weak e = cc
+strength-told Strong (Not-decided r′ i′ p′) e = cc
+strength-told Weak Strong e = cc
+strength-told Weak Weak e = refl
+strength-told Weak (Not-decided r′ i′ p′) e = cc
+strength-told (Not-decided r i p) Strong e = cc
+strength-told (Not-decided r i p) Weak e = cc
+strength-told (Not-decided r i p) (Not-decided r′ i′ p′) e = same-refusal Not-decided r r′ i i′ p p′ (verdict-of e)
+
+pub membership-told : (x y : Membership) → membershipContents x ≡ membershipContents y → x ≡ y
+membership-told Accepted Accepted e = refl
+membership-told Accepted NotAccepted e = cc
+membership-told Accepted (Not-a-member r′ i′ p′) e = cc
+membership-told NotAccepted Accepted e = cc
+membership-told NotAccepted NotAccepted e = refl
+membership-told NotAccepted (Not-a-member r′ i′ p′) e = cc
+membership-told (Not-a-member r i p) Accepted e = cc
+membership-told (Not-a-member r i p) NotAccepted e = cc
+membership-told (Not-a-member r i p) (Not-a-member r′ i′ p′) e = same-refusal Not-a-member r r′ i i′ p p′ (verdict-of e)
+
+pub complemented-told : (x y : Complemented) → complementedContents x ≡ complementedContents y → x ≡ y
+complemented-told (Complement-rule a) (Complement-rule a′) e = cc
+complemented-told (Complement-rule a) (Not-complemented r′ i′ p′) e = cc
+complemented-told (Not-complemented r i p) (Complement-rule a′) e = cc
+complemented-told (Not-complemented r i p) (Not-complemented r′ i′ p′) e = same-refusal Not-complemented r r′ i i′ p p′ (verdict-of e)
+
+pub reduced-told : (x y : Reduced) → reducedContents x ≡ reducedContents y → x ≡ y
+reduced-told (Reduced-rule a) (Reduced-rule a′) e = cc
+reduced-told (Reduced-rule a) (Not-reduced r′ i′ p′) e = cc
+reduced-told (Not-reduced r i p) (Reduced-rule a′) e = cc
+reduced-told (Not-reduced r i p) (Not-reduced r′ i′ p′) e = same-refusal Not-reduced r r′ i i′ p p′ (verdict-of e)
+
+pub translated-told : (x y : Translated) → translatedContents x ≡ translatedContents y → x ≡ y
+translated-told (Automaton-rule a) (Automaton-rule a′) e = cc
+translated-told (Automaton-rule a) (Not-translated r′ i′ p′) e = cc
+translated-told (Not-translated r i p) (Automaton-rule a′) e = cc
+translated-told (Not-translated r i p) (Not-translated r′ i′ p′) e = same-refusal Not-translated r r′ i i′ p p′ (verdict-of e)
+
+pub inclusion-told : (x y : Inclusion) → inclusionContents x ≡ inclusionContents y → x ≡ y
+inclusion-told Included Included e = refl
+inclusion-told Included (NotIncluded a′ b′) e = cc
+inclusion-told Included (Not-compared r′ i′ p′) e = cc
+inclusion-told (NotIncluded a b) Included e = cc
+inclusion-told (NotIncluded a b) (NotIncluded a′ b′) e = cc
+inclusion-told (NotIncluded a b) (Not-compared r′ i′ p′) e = cc
+inclusion-told (Not-compared r i p) Included e = cc
+inclusion-told (Not-compared r i p) (NotIncluded a′ b′) e = cc
+inclusion-told (Not-compared r i p) (Not-compared r′ i′ p′) e = same-refusal Not-compared r r′ i i′ p p′ (verdict-of e)
+
+pub judged-told : (x y : Judged) → judgedContents x ≡ judgedContents y → x ≡ y
+judged-told Judged-accepted Judged-accepted e = refl
+judged-told Judged-accepted Judged-not-accepted e = cc
+judged-told Judged-accepted (Not-judged r′ i′ p′) e = cc
+judged-told Judged-not-accepted Judged-accepted e = cc
+judged-told Judged-not-accepted Judged-not-accepted e = refl
+judged-told Judged-not-accepted (Not-judged r′ i′ p′) e = cc
+judged-told (Not-judged r i p) Judged-accepted e = cc
+judged-told (Not-judged r i p) Judged-not-accepted e = cc
+judged-told (Not-judged r i p) (Not-judged r′ i′ p′) e = same-refusal Not-judged r r′ i i′ p p′ (verdict-of e)
+
+monitor-told : (f g : Monitor) → monitorContents f ≡ monitorContents g → f ≡ g
+monitor-told f g e =
+    let before : f .before ≡ g .before = cc in
+    let since : f .since ≡ g .since = cc in
+    λ i. record { before = before i; since = since i }
+
+-- of one monitor, which a refusal hands back
+pub moved-told : (f next next′ : Monitor) (x y : Moved) → HandsBack f next x → HandsBack f next′ y → movedContents x ≡ movedContents y → x ≡ y
+moved-told f next next′ (To g) (To g′) p q e = ap To (monitor-told g g′ e)
+moved-told f next next′ (To g) (Not-moved g′ r i place) p q e = cc
+moved-told f next next′ (Not-moved g r i place) (To g′) p q e = cc
+moved-told f next next′ (Not-moved g r i place) (Not-moved g′ r′ i′ place′) p q e =
+    ap (λ (h : Monitor). Not-moved h r i place) (p ∙ sym q) ∙ same-refusal (Not-moved g′) r r′ i i′ place place′ (verdict-of e)
