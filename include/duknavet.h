@@ -18,6 +18,8 @@
  *   - A refusal has its input in byte 1 and its place from bit 16 on.
  *   - A result has three fields of 16 bits, from bits 16, 32 and 48 on: duknavet_field(answer, 0), .. 1, .. 2. Fields that a
  *     function does not name are 0.
+ *   - No place and no value is cut off, for inputs of any length: it is proved that the number tells the whole answer
+ *     (crates/exports/proofs/NothingLost; the functions below read a number as unpack in crates/packing/specs/Packing does).
  *
  * Words
  *   A rule file has n elements (n, then n * n products), k letters (k, then an element each) and marks (a two-byte count, low

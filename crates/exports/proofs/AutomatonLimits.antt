@@ -1,0 +1,52 @@
+-- Where the refusals of an automaton file lie, as those of a rule file. Assumes nothing.
+use Prim.Native.Nat.{ℕ, zero, suc, _+_, _≤_}
+use mathlib.Core.List.{List, [], _∷_, _++_}
+use native.Mathlib.Omega.{arith}
+use lib.ListN.{drop}
+use Rattle.answer.specs.Checks.{passed, FirstFailure}
+use Rattle.answer.proofs.Limits.{Limited, limited-nil, limited-cons, limited-append}
+use Rattle.sections.specs.Sections.{sectionChecks}
+use Rattle.sections.proofs.Laws.{passed-good}
+use Rattle.sections.proofs.Limits.{section-limited}
+use Rattle.format.specs.RuleChecks.{TrailingAt}
+use Rattle.automatonformat.specs.Format.{lettersAt, transitionsAt, transitionsOf, transitionAt, automatonEnd, statesSection, lettersSection}
+use Rattle.automatonformat.specs.AutomatonChecks.{RepeatedAt, repeatedChecks, layoutChecks, contentChecks, automatonChecks, readChecks}
+use Rattle.automatonfile.proofs.Passed.{good-sections}
+use Rattle.automaton.specs.Meaning.{RichAt, richCheck}
+use Rattle.exports.proofs.Limits.{Near, near, at-zero, buffer-limited}
+
+module _ (bytes : List ℕ) where
+  -- 1 to 3
+  layout-limited : Limited Near (layoutChecks 1 bytes)
+  unfolding lettersAt transitionsAt
+  layout-limited =
+      limited-append (sectionChecks statesSection 1 0 bytes)
+      (section-limited statesSection 1 0 bytes (λ m place h l. near (omega arith) (omega arith)))
+      (λ states.
+      let m-small = passed-good statesSection 1 0 bytes states .within in
+      limited-append (sectionChecks lettersSection 1 (lettersAt bytes) (drop (lettersAt bytes) bytes))
+      (section-limited lettersSection 1 (lettersAt bytes) _ (λ k place h l. near (omega arith) (omega arith)))
+      (λ _. section-limited _ 1 (transitionsAt bytes) _ (λ c place h l. near (omega arith) (omega arith))))
+
+  -- 8
+  repeated-limited : (i count : ℕ) → transitionAt bytes (i + count) ≤ 12308 → Limited Near (repeatedChecks 1 bytes i count)
+  unfolding repeatedChecks transitionAt
+  repeated-limited i zero l = limited-nil
+  repeated-limited i (suc count) l =
+      limited-cons (λ place (f : RepeatedAt _ _ place). near (omega arith) (omega (arith, f .is-place)))
+      (λ _. repeated-limited (suc i) count (omega arith))
+
+  -- 4, 8
+  content-limited : FirstFailure (layoutChecks 1 bytes) passed → Limited Near (contentChecks 1 bytes)
+  unfolding automatonEnd transitionAt transitionsAt lettersAt
+  content-limited all =
+      let good = good-sections 1 bytes all in
+      limited-cons (λ place (f : TrailingAt _ _ place). near (omega arith) (omega (arith, f .is-place, good .states-small, good .transitions-small)))
+      (λ _. repeated-limited 0 (transitionsOf bytes) (omega (arith, good .states-small, good .transitions-small)))
+
+  -- an automaton, with the scratch that is lent; then 14
+  pub translated-limited : (scratch : List ℕ) → Limited Near (readChecks 1 bytes scratch ++ (richCheck bytes ∷ []))
+  unfolding automatonChecks
+  translated-limited scratch =
+      limited-append (readChecks 1 bytes scratch) (buffer-limited (limited-append (layoutChecks 1 bytes) layout-limited content-limited))
+      (λ _. limited-cons (λ place (f : RichAt _ place). at-zero (f .is-place)) (λ _. limited-nil))

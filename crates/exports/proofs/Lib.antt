@@ -1,0 +1,4 @@
+pub mod Limits
+pub mod AutomatonLimits
+pub mod Monitors
+pub mod NothingLost

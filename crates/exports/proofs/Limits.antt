@@ -1,0 +1,129 @@
+-- Where the refusals of the exported calls lie, for inputs of any length: those of a file no further in than the longest file reaches,
+-- since its counts are looked at first, and those of a word within the longest word. Assumes nothing.
+use Prim.Native.Nat.{ℕ, zero, suc, _+_, _*_, _≤_, _<_}
+use mathlib.Core.Path.{_≡_, refl}
+use mathlib.Core.Logic.{inr}
+use mathlib.Core.List.{List, _∷_}
+use native.Mathlib.Omega.{arith}
+use native.Mathlib.Nat.{mul-le-mul}
+use lib.ListN.{length, drop}
+use Rattle.answer.specs.declared.Refusal.{Refusal}
+use Rattle.answer.specs.Refusals.{numberOf}
+use Rattle.answer.specs.Checks.{Check, passed, refused, FirstFailure}
+use Rattle.answer.proofs.Limits.{Limited, limited-nil, limited-cons, limited-append, number-range}
+use Rattle.theory.specs.Rules.{Morphism}
+use Rattle.table.specs.TableChecks.{NotAssociativeAt, UnreachedAt, UnsettledAt}
+use Rattle.sections.specs.Sections.{twoBytes, sectionChecks}
+use Rattle.sections.proofs.Laws.{passed-good}
+use Rattle.sections.proofs.Limits.{section-limited}
+use Rattle.format.specs.Format.{elementsOf, lettersAt, lettersOf, marksAt, marksOf, ruleEnd, morphismOf, elementsSection, lettersSection, marksSection}
+use Rattle.format.specs.RuleChecks.{TrailingAt, UnlinkedAt, RepeatedAt, ShortAt, markChecks, layoutChecks, tableChecks, contentChecks, ruleChecks, secondMarksChecks, bufferCheck}
+use Rattle.automatonsections.proofs.Rows.{first-byte}
+use Rattle.rulefile.specs.Answers.{checkedChecks}
+use Rattle.rulefile.proofs.Passed.{size-small, letters-small, marks-small}
+use Rattle.words.specs.WordChecks.{longestWord, LengthOutAt, ForeignAt, lassoChecks}
+use Rattle.packing.proofs.ReadBack.{RefusalFits}
+
+-- where refusals lie: in input 1 or 2, and below 2 to the power 18, which the place of the last triple is just below
+pub record Near (input place : ℕ) : Type 0 where
+  pub input-small : input ≤ 2
+  pub place-small : place < 262144
+
+pub near : {input place : ℕ} → input ≤ 2 → place < 262144 → Near input place
+near i l = record { input-small = i; place-small = l }
+
+-- a refusal that lies there is packed whole
+pub refused-fits : {checks : List Check} (r : Refusal) {input place : ℕ} → Limited Near checks → FirstFailure checks (refused r input place)
+    → RefusalFits (numberOf r) input place
+refused-fits r l f =
+    let there = l .refusals _ _ _ f in
+    let number = number-range r in
+    record {
+      number-some = number .0;
+      number-small = omega (arith, number .1);
+      input-small = omega arith;
+      place-small = omega arith;
+    }
+
+pub at-zero : {place : ℕ} → place ≡ 0 → Near 1 place
+at-zero e = near (omega arith) (omega arith)
+
+pub buffer-limited : {needed : ℕ} {buffer : List ℕ} {checks : List Check} → Limited Near checks → Limited Near (bufferCheck needed buffer ∷ checks)
+buffer-limited l = limited-cons (λ place (f : ShortAt _ _ place). at-zero (f .is-place)) (λ _. l)
+
+-- 5, 6
+table-limited : (m : Morphism) → m .size ≤ 64 → Limited Near (tableChecks 1 m)
+table-limited m small =
+    limited-cons
+    (λ place (f : NotAssociativeAt m place). near (omega arith) (omega (arith, f .is-place, f .a-inside, f .b-inside, f .c-inside)))
+    (λ _. limited-cons (λ place (f : UnreachedAt m place). near (omega arith) (omega (arith, f .inside))) (λ _. limited-nil))
+
+-- 7, 8
+marks-limited : (input : ℕ) (m : Morphism) (bytes : List ℕ) (at i count : ℕ) → input ≤ 2 → at + (2 + 2 * (i + count)) ≤ 12308
+    → Limited Near (markChecks input m bytes at i count)
+unfolding markChecks
+marks-limited input m bytes at i zero known l = limited-nil
+marks-limited input m bytes at i (suc count) known l =
+    limited-cons (λ place (f : UnlinkedAt _ _ _ _ place). near known (omega (arith, f .is-place)))
+    (λ _. limited-cons (λ place (f : RepeatedAt _ _ _ place). near known (omega (arith, f .is-place)))
+    (λ _. marks-limited input m bytes at (suc i) count known (omega arith)))
+
+module _ (bytes : List ℕ) where
+  -- 1 to 3
+  layout-limited : Limited Near (layoutChecks 1 bytes)
+  unfolding lettersAt marksAt lettersOf
+  layout-limited =
+      limited-append (sectionChecks elementsSection 1 0 bytes)
+      (section-limited elementsSection 1 0 bytes (λ n place h l. near (omega arith) (omega (arith, mul-le-mul h h))))
+      (λ elements.
+      let n-small = passed-good elementsSection 1 0 bytes elements .within in
+      let square : elementsOf bytes * elementsOf bytes ≤ 64 * 64 = mul-le-mul n-small n-small in
+      limited-append (sectionChecks (lettersSection (elementsOf bytes)) 1 (lettersAt bytes) (drop (lettersAt bytes) bytes))
+      (section-limited _ 1 (lettersAt bytes) _ (λ k place h l. near (omega arith) (omega arith)))
+      (λ letters.
+      let k-small = passed-good (lettersSection (elementsOf bytes)) 1 (lettersAt bytes) (drop (lettersAt bytes) bytes) letters .within in
+      section-limited _ 1 (marksAt bytes) _ (λ c place h l. near (omega arith) (omega (arith, first-byte bytes (lettersAt bytes))))))
+
+  -- 4, 5, 6, 7 and 8, 9
+  content-limited : FirstFailure (layoutChecks 1 bytes) passed → Limited Near (contentChecks 1 bytes)
+  unfolding ruleEnd marksAt lettersAt
+  content-limited all =
+      let n-small = size-small bytes all in
+      let square : elementsOf bytes * elementsOf bytes ≤ 64 * 64 = mul-le-mul n-small n-small in
+      let k-small = letters-small bytes all in
+      let c-small = marks-small bytes all in
+      limited-cons (λ place (f : TrailingAt _ _ place). near (omega arith) (omega (arith, f .is-place)))
+      (λ _. limited-append (tableChecks 1 (morphismOf bytes)) (table-limited (morphismOf bytes) n-small)
+      (λ _. limited-append (markChecks 1 (morphismOf bytes) bytes (marksAt bytes) 0 (marksOf bytes))
+      (marks-limited 1 (morphismOf bytes) bytes (marksAt bytes) 0 (marksOf bytes) (omega arith) (omega arith))
+      (λ _. limited-cons (λ place (f : UnsettledAt (morphismOf bytes) place). near (omega arith) (omega (arith, f .inside))) (λ _. limited-nil))))
+
+  -- a rule, with the scratch that is lent
+  pub checked-limited : (scratch : List ℕ) → Limited Near (checkedChecks 1 bytes scratch)
+  unfolding ruleChecks
+  checked-limited scratch = buffer-limited (limited-append (layoutChecks 1 bytes) layout-limited content-limited)
+
+-- a second marks section
+pub second-limited : (rule bytes : List ℕ) → Limited Near (secondMarksChecks 2 rule bytes)
+unfolding secondMarksChecks
+second-limited rule bytes =
+    limited-append (sectionChecks (marksSection (elementsOf rule)) 2 0 bytes)
+    (section-limited _ 2 0 bytes (λ c place h l. near (omega arith) (omega arith)))
+    (λ section.
+    let c-small = passed-good (marksSection (elementsOf rule)) 2 0 bytes section .within in
+    limited-cons (λ place (f : TrailingAt _ _ place). near (omega arith) (omega (arith, f .is-place)))
+    (λ _. marks-limited 2 (morphismOf rule) bytes 0 0 (twoBytes bytes 0) (omega arith) (omega arith)))
+
+-- a word whose length passed
+word-short : {input : ℕ} {w : List ℕ} {place : ℕ} → ((p : ℕ) → LengthOutAt w p → ⊥) → input ≤ 2 → place < length w → Near input place
+word-short {w = w} passes known l =
+    let h : longestWord < length w → ⊥ = λ g. passes 0 (record { outside = inr g; is-place = refl }) in
+    near known (omega arith)
+
+-- 11 and 10 of u and v
+pub lasso-limited : (k : ℕ) (u v : List ℕ) → Limited Near (lassoChecks k u v)
+lasso-limited k u v =
+    limited-cons (λ place (f : LengthOutAt u place). at-zero (f .is-place))
+    (λ pu. limited-cons (λ place (f : LengthOutAt v place). near (omega arith) (omega (arith, f .is-place)))
+    (λ pv. limited-cons (λ place (f : ForeignAt k u place). word-short (pu .nowhere) (omega arith) (f .inside))
+    (λ _. limited-cons (λ place (f : ForeignAt k v place). word-short (pv .nowhere) (omega arith) (f .inside)) (λ _. limited-nil))))

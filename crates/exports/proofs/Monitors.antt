@@ -1,0 +1,78 @@
+-- The values of a moved monitor are elements or 64. Assumes nothing.
+use Prim.Native.Nat.{ℕ, _≤_}
+use mathlib.Core.Path.{refl, sym, subst}
+use mathlib.Core.Logic.{_⊎_, inl, inr, ⊎-elim}
+use mathlib.Core.List.{List}
+use native.Mathlib.Omega.{arith}
+use Rattle.answer.specs.Checks.{passed, FirstFailure}
+use Rattle.answer.proofs.Order.{passed-first, passed-last, passes-head}
+use Rattle.theory.specs.Rules.{Morphism, Value, join}
+use Rattle.theory.proofs.Values.{Inside, inside-none, inside-element, join-inside}
+use Rattle.format.specs.Format.{elementsOf, lettersOf, morphismOf}
+use Rattle.rulefile.specs.GoodRule.{GoodRule}
+use Rattle.rulefile.specs.Answers.{checkedChecks}
+use Rattle.rulefile.proofs.Calls.{called-good}
+use Rattle.monitorstate.specs.declared.Monitor.{Monitor}
+use Rattle.monitorstate.specs.Monitor.{valueOf, numberFor, IsStray}
+use Rattle.monitorstate.specs.Ready.{GoodNumber, monitorChecks}
+use Rattle.monitorstate.proofs.Numbers.{value-none, value-element, not-stray}
+use Rattle.monitor.specs.Moves.{afterEvent, afterMark}
+use Rattle.monitor.specs.Promises.{eventChecks}
+use Rattle.packing.specs.Packing.{monitorContents}
+use Rattle.packing.proofs.ReadBack.{Fits}
+
+number-small : {m : Morphism} {x : Value} → m .size ≤ 64 → Inside m x → numberFor x ≤ 64
+unfolding numberFor
+number-small small inside-none = omega arith
+number-small small (inside-element h) = omega arith
+
+good-inside : {m : Morphism} {s : ℕ} → m .size ≤ 64 → GoodNumber (m .size) s → Inside m (valueOf s)
+good-inside {m} {s} small (inl h) = subst (Inside m) (sym (value-element (λ e. omega arith))) (inside-element h)
+good-inside {m} {s} small (inr e) = subst (Inside m) (sym (value-none e)) inside-none
+
+good-small : {n s : ℕ} → n ≤ 64 → GoodNumber n s → s ≤ 64
+good-small small g = ⊎-elim (λ h. omega arith) (λ e. omega arith) g
+
+module _ (bytes : List ℕ) (f : Monitor) (entry : List ℕ) (all : FirstFailure (monitorChecks bytes f entry) passed) where
+  rule : GoodRule bytes
+  rule = called-good 1 bytes entry (passed-first (checkedChecks 1 bytes entry) _ all)
+
+  unstray : IsStray (elementsOf bytes) (f .before) ⊎ IsStray (elementsOf bytes) (f .since) → ⊥
+  unstray s = passes-head (passed-last (checkedChecks 1 bytes entry) _ all) .nowhere 0 (record { stray = s; is-place = refl })
+
+  before-good : GoodNumber (elementsOf bytes) (f .before)
+  before-good = not-stray _ _ (λ i. unstray (inl i))
+
+  since-good : GoodNumber (elementsOf bytes) (f .since)
+  since-good = not-stray _ _ (λ i. unstray (inr i))
+
+  joined-small : {x y : Value} → Inside (morphismOf bytes) x → Inside (morphismOf bytes) y → numberFor (join (morphismOf bytes) x y) ≤ 64
+  joined-small hx hy = number-small (rule .table .small) (join-inside (rule .lawful) hx hy)
+
+  pub mark-fits : Fits (monitorContents (afterMark (morphismOf bytes) f))
+  unfolding afterMark
+  mark-fits =
+      let small = rule .table .small in
+      record {
+        first = omega (arith, joined-small (good-inside small before-good) (good-inside small since-good));
+        second = omega arith;
+        third = omega arith;
+      }
+
+pub event-fits : (bytes : List ℕ) (f : Monitor) (letter : ℕ) (entry : List ℕ) → FirstFailure (eventChecks bytes f letter entry) passed
+    → Fits (monitorContents (afterEvent (morphismOf bytes) f letter))
+unfolding afterEvent
+event-fits bytes f letter entry all =
+    let ready = passed-first (monitorChecks bytes f entry) _ all in
+    let good = rule bytes f entry ready in
+    let small = good .table .small in
+    let known : lettersOf bytes ≤ letter → ⊥ = λ h. passes-head (passed-last (monitorChecks bytes f entry) _ all) .nowhere 0 (record { foreign = h; is-place = refl }) in
+    record {
+      first = omega (arith, good-small small (before-good bytes f entry ready));
+      second = omega (
+        arith,
+        joined-small bytes f entry ready (good-inside small (since-good bytes f entry ready))
+            (inside-element (good .lawful .images letter (omega arith))),
+      );
+      third = omega arith;
+    }

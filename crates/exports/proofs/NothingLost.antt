@@ -1,0 +1,242 @@
+-- Packing loses nothing. Of each exported call, for inputs of any length: the number is read back as what the answer holds (`-read`), so
+-- two calls that give one number gave one answer (`-told`). An answer that meets its call's promise keeps to the limits of packing
+-- (`-fits`): the refusals by Limits, the results by what their promises say. Assumes nothing.
+use Prim.Native.Nat.{ℕ, _+_, _*_, _≤_}
+use mathlib.Core.Path.{_≡_, sym, ap, _∙_, subst}
+use mathlib.Core.List.{List, [], _∷_, _++_}
+use native.Mathlib.Omega.{arith}
+use native.Mathlib.Nat.{mul-le-mul}
+use Rattle.answer.proofs.Order.{passed-first, passes-tail}
+use Rattle.answer.proofs.Limits.{Limited, limited-nil, limited-cons, limited-append}
+use Rattle.theory.specs.Rules.{Morphism, Marking}
+use Rattle.theory.specs.Pairs.{LinkedPairs, Classes}
+use Rattle.format.specs.Format.{elementsOf, lettersOf}
+use Rattle.format.specs.RuleChecks.{ruleSize, bufferCheck}
+use Rattle.rulefile.specs.Answers.{checkedChecks}
+use Rattle.rulefile.proofs.Calls.{called-good}
+use Rattle.rulewriter.specs.ReadBack.{WrittenRule}
+use Rattle.strength.specs.Weak.{WeakAt, weakCheck}
+use Rattle.monitorstate.specs.declared.Monitor.{Monitor}
+use Rattle.monitorstate.specs.Monitor.{freshMonitor, StrayAt}
+use Rattle.monitorstate.specs.Ready.{monitorChecks}
+use Rattle.monitor.specs.Moves.{LoneForeignAt}
+use Rattle.monitor.specs.Promises.{EventPromise, MarkPromise}
+use Rattle.verdict.specs.Promise.{NoneAt, VerdictPromise}
+use Rattle.automaton.specs.declared.Translated.{Translated}
+use Rattle.automaton.specs.declared.Translated.the-variants.{Rule as Automaton-rule, Refused as Not-translated}
+use Rattle.automaton.specs.Promise.{RulePromise}
+use Rattle.classes.specs.declared.Listed.{Listed}
+use Rattle.classes.specs.declared.Listed.the-variants.{Counts, Refused as Not-listed}
+use Rattle.classes.specs.Promise.{ListPromise}
+use Rattle.classes.proofs.Counting.{counted-le}
+use Rattle.complement.specs.declared.Complemented.{Complemented}
+use Rattle.complement.specs.declared.Complemented.the-variants.{Rule as Complement-rule, Refused as Not-complemented}
+use Rattle.complement.specs.Promise.{ComplementPromise}
+use Rattle.comparison.specs.declared.Inclusion.{Inclusion}
+use Rattle.comparison.specs.declared.Inclusion.the-variants.{Included, NotIncluded, Refused as Not-compared}
+use Rattle.inclusion.specs.Promise.{InclusionPromise}
+use Rattle.lasso.specs.declared.Membership.{Membership}
+use Rattle.lasso.specs.declared.Membership.the-variants.{Accepted, NotAccepted, Refused as Not-a-member}
+use Rattle.lasso.specs.Promise.{MemberPromise}
+use Rattle.monitor.specs.declared.Moved.{Moved}
+use Rattle.monitor.specs.declared.Moved.the-variants.{To, Refused as Not-moved}
+use Rattle.reduction.specs.declared.Reduced.{Reduced}
+use Rattle.reduction.specs.declared.Reduced.the-variants.{Rule as Reduced-rule, Refused as Not-reduced}
+use Rattle.reduction.specs.Promise.{ReducePromise}
+use Rattle.strength.specs.declared.Strength.{Strength}
+use Rattle.strength.specs.declared.Strength.the-variants.{Strong, Weak, Refused as Not-decided}
+use Rattle.strength.specs.Promise.{StrongPromise}
+use Rattle.judging.specs.declared.Judged.{Judged}
+use Rattle.judging.specs.declared.Judged.the-variants.{Accepted as Judged-accepted, NotAccepted as Judged-not-accepted, Refused as Not-judged}
+use Rattle.packing.specs.Packing.{unpack, listedContents, strengthContents, membershipContents, complementedContents, reducedContents, translatedContents, inclusionContents, monitorContents, movedContents, judgedContents, packMonitor}
+use Rattle.packing.proofs.ReadBack.{FieldsFit, Fits, read-back}
+use Rattle.packing.proofs.Contents.{listed-told, strength-told, membership-told, complemented-told, reduced-told, translated-told, inclusion-told, judged-told, moved-told}
+use Rattle.exports.specs.Exports.{ExportedClasses, ExportedStrength, ExportedMember, ExportedComplement, ExportedInclusion, ExportedEvent, ExportedMark, ExportedReduction, ExportedVerdict, ExportedAutomaton}
+use Rattle.exports.proofs.Limits.{Near, refused-fits, at-zero, buffer-limited, checked-limited, second-limited, lasso-limited}
+use Rattle.exports.proofs.AutomatonLimits.{translated-limited}
+use Rattle.exports.proofs.Monitors.{mark-fits, event-fits}
+
+-- yes or no
+bit-fits : {a : ℕ} → a ≤ 1 → FieldsFit a 0 0
+bit-fits h = record { first = omega arith; second = omega arith; third = omega arith }
+
+-- the length of a written rule
+written-fits : {m : Morphism} {marks : Marking} {entry exit : List ℕ} {r : ℕ} → WrittenRule m marks entry exit r → FieldsFit r 0 0
+written-fits w = record { first = omega (arith, w .counts, w .shape .short); second = omega arith; third = omega arith }
+
+-- the checks of the calls that write a rule, and of those that get a monitor
+strong-rule-limited : {out : List ℕ} (bytes entry : List ℕ) → Limited Near (bufferCheck ruleSize out ∷ (checkedChecks 1 bytes entry ++ (weakCheck bytes ∷ [])))
+strong-rule-limited bytes entry =
+    buffer-limited (limited-append (checkedChecks 1 bytes entry) (checked-limited bytes entry)
+    (λ _. limited-cons (λ place (f : WeakAt _ place). at-zero (f .is-place)) (λ _. limited-nil)))
+
+monitor-limited : (bytes : List ℕ) (f : Monitor) (entry : List ℕ) → Limited Near (monitorChecks bytes f entry)
+monitor-limited bytes f entry =
+    limited-append (checkedChecks 1 bytes entry) (checked-limited bytes entry)
+    (λ _. limited-cons (λ place (a : StrayAt _ _ place). at-zero (a .is-place)) (λ _. limited-nil))
+
+-- classes
+listed-fits : {bytes before after entry exit : List ℕ} (answer : Listed) → ListPromise bytes before after entry exit answer → Fits (listedContents answer)
+unfolding LinkedPairs Classes
+listed-fits {bytes} {entry = entry} (Counts linked classes joins) p =
+    let small = called-good 1 bytes entry (passes-tail (p .verdict)) .table .small in
+    let square : elementsOf bytes * elementsOf bytes ≤ 64 * 64 = mul-le-mul small small in
+    let counts = p .answered .1 in
+    let l = counted-le (counts .linked-pairs) in
+    let c = counted-le (counts .class-count) in
+    record { first = omega arith; second = omega arith; third = omega (arith, counts .difference) }
+listed-fits {bytes} {entry = entry} (Not-listed r i place) p = refused-fits r (buffer-limited (checked-limited bytes entry)) (p .verdict)
+
+-- strong
+strength-fits : {bytes entry exit : List ℕ} (answer : Strength) → StrongPromise bytes entry exit answer → Fits (strengthContents answer)
+strength-fits Strong p = bit-fits (omega arith)
+strength-fits Weak p = bit-fits (omega arith)
+strength-fits {bytes} {entry} (Not-decided r i place) p = refused-fits r (checked-limited bytes entry) (p .verdict)
+
+-- member
+member-fits : {bytes u v entry exit : List ℕ} (answer : Membership) → MemberPromise bytes u v entry exit answer → Fits (membershipContents answer)
+member-fits Accepted p = bit-fits (omega arith)
+member-fits NotAccepted p = bit-fits (omega arith)
+member-fits {bytes} {u} {v} {entry} (Not-a-member r i place) p =
+    refused-fits r (limited-append (checkedChecks 1 bytes entry) (checked-limited bytes entry) (λ _. lasso-limited (lettersOf bytes) u v)) (p .verdict)
+
+-- complement
+complement-fits : {bytes before after entry exit : List ℕ} (answer : Complemented) → ComplementPromise bytes before after entry exit answer
+    → Fits (complementedContents answer)
+complement-fits (Complement-rule length) p = written-fits (p .answered .written)
+complement-fits {bytes} {entry = entry} (Not-complemented r i place) p = refused-fits r (strong-rule-limited bytes entry) (p .verdict)
+
+-- reduce
+reduce-fits : {bytes before after entry exit : List ℕ} (answer : Reduced) → ReducePromise bytes before after entry exit answer → Fits (reducedContents answer)
+reduce-fits (Reduced-rule length) p = written-fits (p .answered .written)
+reduce-fits {bytes} {entry = entry} (Not-reduced r i place) p = refused-fits r (strong-rule-limited bytes entry) (p .verdict)
+
+-- automaton_rule
+automaton-fits : {bytes before after entry exit : List ℕ} (answer : Translated) → RulePromise bytes before after entry exit answer
+    → Fits (translatedContents answer)
+automaton-fits (Automaton-rule length) p = written-fits (p .answered .written)
+automaton-fits {bytes} {entry = entry} (Not-translated r i place) p = refused-fits r (buffer-limited (translated-limited bytes entry)) (p .verdict)
+
+-- included
+inclusion-fits : {bytes second u-entry u-exit v-entry v-exit entry exit : List ℕ} (answer : Inclusion)
+    → InclusionPromise bytes second u-entry u-exit v-entry v-exit entry exit answer → Fits (inclusionContents answer)
+inclusion-fits Included p = bit-fits (omega arith)
+inclusion-fits {bytes} {entry = entry} (NotIncluded u v) p =
+    let checked = passed-first (checkedChecks 1 bytes entry) _ (passes-tail (passes-tail (p .verdict))) in
+    let small = called-good 1 bytes entry checked .table .small in
+    let side : elementsOf bytes + 1 ≤ 65 = omega arith in
+    let square : (elementsOf bytes + 1) * (elementsOf bytes + 1) ≤ 65 * 65 = mul-le-mul side side in
+    let apart = p .answered in
+    record {
+      first = omega arith;
+      second = omega (arith, apart .start-written .counts, apart .witness .start-short);
+      third = omega (arith, apart .cycle-written .counts, apart .witness .cycle-short);
+    }
+inclusion-fits {bytes} {second} {entry = entry} (Not-compared r i place) p =
+    refused-fits r (buffer-limited (buffer-limited (limited-append (checkedChecks 1 bytes entry) (checked-limited bytes entry) (λ _. second-limited bytes second)))) (p .verdict)
+
+-- event, mark
+moved-fits : {f g : Monitor} → f ≡ g → Fits (monitorContents g) → Fits (monitorContents f)
+moved-fits e h = subst (λ (x : Monitor). Fits (monitorContents x)) (sym e) h
+
+event-answer-fits : {bytes : List ℕ} {f : Monitor} {letter : ℕ} {entry exit : List ℕ} (answer : Moved) → EventPromise bytes f letter entry exit answer
+    → Fits (movedContents answer)
+event-answer-fits {bytes} {f} {letter} {entry} (To g) p = moved-fits (p .monitor) (event-fits bytes f letter entry (p .verdict))
+event-answer-fits {bytes} {f} {letter} {entry} (Not-moved g r i place) p =
+    refused-fits r (limited-append (monitorChecks bytes f entry) (monitor-limited bytes f entry)
+    (λ _. limited-cons (λ place (a : LoneForeignAt _ _ place). at-zero (a .is-place)) (λ _. limited-nil))) (p .verdict)
+
+mark-answer-fits : {bytes : List ℕ} {f : Monitor} {entry exit : List ℕ} (answer : Moved) → MarkPromise bytes f entry exit answer → Fits (movedContents answer)
+mark-answer-fits {bytes} {f} {entry} (To g) p = moved-fits (p .monitor) (mark-fits bytes f entry (p .verdict))
+mark-answer-fits {bytes} {f} {entry} (Not-moved g r i place) p = refused-fits r (monitor-limited bytes f entry) (p .verdict)
+
+-- verdict
+verdict-fits : {bytes : List ℕ} {f : Monitor} {entry exit : List ℕ} (answer : Judged) → VerdictPromise bytes f entry exit answer → Fits (judgedContents answer)
+verdict-fits Judged-accepted p = bit-fits (omega arith)
+verdict-fits Judged-not-accepted p = bit-fits (omega arith)
+verdict-fits {bytes} {f} {entry} (Not-judged r i place) p =
+    refused-fits r (limited-append (monitorChecks bytes f entry) (monitor-limited bytes f entry)
+    (λ _. limited-cons (λ place (a : NoneAt _ place). at-zero (a .is-place))
+    (λ _. limited-cons (λ place (a : WeakAt _ place). at-zero (a .is-place)) (λ _. limited-nil)))) (p .verdict)
+
+-- the number of a call is read back as what its answer holds
+pub fresh-read : unpack (packMonitor freshMonitor) ≡ monitorContents freshMonitor
+fresh-read = read-back _ (record { first = omega arith; second = omega arith; third = omega arith })
+
+module _ {bytes entry exit : List ℕ} {r : ℕ} where
+  pub strong-read : (x : ExportedStrength bytes entry exit r) → unpack r ≡ strengthContents (x .answer)
+  strong-read x = ap unpack (x .packed) ∙ read-back _ (strength-fits (x .answer) (x .promise))
+
+  module _ {f : Monitor} where
+    pub event-read : {letter : ℕ} (x : ExportedEvent bytes f letter entry exit r) → unpack r ≡ movedContents (x .answer)
+    event-read x = ap unpack (x .packed) ∙ read-back _ (event-answer-fits (x .answer) (x .promise))
+
+    pub mark-read : (x : ExportedMark bytes f entry exit r) → unpack r ≡ movedContents (x .answer)
+    mark-read x = ap unpack (x .packed) ∙ read-back _ (mark-answer-fits (x .answer) (x .promise))
+
+    pub verdict-read : (x : ExportedVerdict bytes f entry exit r) → unpack r ≡ judgedContents (x .answer)
+    verdict-read x = ap unpack (x .packed) ∙ read-back _ (verdict-fits (x .answer) (x .promise))
+
+  module _ {before after : List ℕ} where
+    pub classes-read : (x : ExportedClasses bytes before after entry exit r) → unpack r ≡ listedContents (x .answer)
+    classes-read x = ap unpack (x .packed) ∙ read-back _ (listed-fits (x .answer) (x .promise))
+
+    pub complement-read : (x : ExportedComplement bytes before after entry exit r) → unpack r ≡ complementedContents (x .answer)
+    complement-read x = ap unpack (x .packed) ∙ read-back _ (complement-fits (x .answer) (x .promise))
+
+    pub reduce-read : (x : ExportedReduction bytes before after entry exit r) → unpack r ≡ reducedContents (x .answer)
+    reduce-read x = ap unpack (x .packed) ∙ read-back _ (reduce-fits (x .answer) (x .promise))
+
+    pub automaton-rule-read : (x : ExportedAutomaton bytes before after entry exit r) → unpack r ≡ translatedContents (x .answer)
+    automaton-rule-read x = ap unpack (x .packed) ∙ read-back _ (automaton-fits (x .answer) (x .promise))
+
+  pub member-read : {u v : List ℕ} (x : ExportedMember bytes u v entry exit r) → unpack r ≡ membershipContents (x .answer)
+  member-read x = ap unpack (x .packed) ∙ read-back _ (member-fits (x .answer) (x .promise))
+
+  pub included-read : {second u-entry u-exit v-entry v-exit : List ℕ} (x : ExportedInclusion bytes second u-entry u-exit v-entry v-exit entry exit r)
+      → unpack r ≡ inclusionContents (x .answer)
+  included-read x = ap unpack (x .packed) ∙ read-back _ (inclusion-fits (x .answer) (x .promise))
+
+-- so one number is one answer, whatever the inputs were
+module _ {bytes entry exit bytes′ entry′ exit′ : List ℕ} {r : ℕ} where
+  pub strong-told : (x : ExportedStrength bytes entry exit r) (y : ExportedStrength bytes′ entry′ exit′ r) → x .answer ≡ y .answer
+  strong-told x y = strength-told _ _ (sym (strong-read x) ∙ strong-read y)
+
+  pub verdict-told : {f f′ : Monitor} (x : ExportedVerdict bytes f entry exit r) (y : ExportedVerdict bytes′ f′ entry′ exit′ r)
+      → x .answer ≡ y .answer
+  verdict-told x y = judged-told _ _ (sym (verdict-read x) ∙ verdict-read y)
+
+  -- for one monitor, which a refused call hands back
+  module _ {f : Monitor} where
+    pub event-told : {letter letter′ : ℕ} (x : ExportedEvent bytes f letter entry exit r) (y : ExportedEvent bytes′ f letter′ entry′ exit′ r)
+        → x .answer ≡ y .answer
+    event-told x y = moved-told f _ _ _ _ (x .promise .monitor) (y .promise .monitor) (sym (event-read x) ∙ event-read y)
+
+    pub mark-told : (x : ExportedMark bytes f entry exit r) (y : ExportedMark bytes′ f entry′ exit′ r) → x .answer ≡ y .answer
+    mark-told x y = moved-told f _ _ _ _ (x .promise .monitor) (y .promise .monitor) (sym (mark-read x) ∙ mark-read y)
+
+  module _ {before after before′ after′ : List ℕ} where
+    pub classes-told : (x : ExportedClasses bytes before after entry exit r) (y : ExportedClasses bytes′ before′ after′ entry′ exit′ r)
+        → x .answer ≡ y .answer
+    classes-told x y = listed-told _ _ (sym (classes-read x) ∙ classes-read y)
+
+    pub complement-told : (x : ExportedComplement bytes before after entry exit r) (y : ExportedComplement bytes′ before′ after′ entry′ exit′ r)
+        → x .answer ≡ y .answer
+    complement-told x y = complemented-told _ _ (sym (complement-read x) ∙ complement-read y)
+
+    pub reduce-told : (x : ExportedReduction bytes before after entry exit r) (y : ExportedReduction bytes′ before′ after′ entry′ exit′ r)
+        → x .answer ≡ y .answer
+    reduce-told x y = reduced-told _ _ (sym (reduce-read x) ∙ reduce-read y)
+
+    pub automaton-rule-told : (x : ExportedAutomaton bytes before after entry exit r) (y : ExportedAutomaton bytes′ before′ after′ entry′ exit′ r)
+        → x .answer ≡ y .answer
+    automaton-rule-told x y = translated-told _ _ (sym (automaton-rule-read x) ∙ automaton-rule-read y)
+
+  pub member-told : {u v u′ v′ : List ℕ} (x : ExportedMember bytes u v entry exit r) (y : ExportedMember bytes′ u′ v′ entry′ exit′ r)
+      → x .answer ≡ y .answer
+  member-told x y = membership-told _ _ (sym (member-read x) ∙ member-read y)
+
+  pub included-told : {second u-entry u-exit v-entry v-exit second′ u-entry′ u-exit′ v-entry′ v-exit′ : List ℕ}
+      (x : ExportedInclusion bytes second u-entry u-exit v-entry v-exit entry exit r)
+      (y : ExportedInclusion bytes′ second′ u-entry′ u-exit′ v-entry′ v-exit′ entry′ exit′ r) → x .answer ≡ y .answer
+  included-told x y = inclusion-told _ _ (sym (included-read x) ∙ included-read y)
