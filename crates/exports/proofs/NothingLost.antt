@@ -65,7 +65,7 @@ written-fits : {m : Morphism} {marks : Marking} {entry exit : List ℕ} {r : ℕ
 written-fits w = record { first = omega (arith, w .counts, w .shape .short); second = omega arith; third = omega arith }
 
 -- the checks of the calls that write a rule, and of those that get a monitor
-strong-rule-limited : {out : List ℕ} (bytes entry : List ℕ) → Limited Near (bufferCheck ruleSize out ∷ (checkedChecks 1 bytes entry ++ (weakCheck bytes ∷ [])))
+strong-rule-limited : {out : List ℕ} (bytes entry : List ℕ) → Limited Near (bufferCheck ruleSize out ∷ (checkedChecks 1 bytes entry ++ (weakCheck 1 bytes ∷ [])))
 strong-rule-limited bytes entry =
     buffer-limited (limited-append (checkedChecks 1 bytes entry) (checked-limited bytes entry)
     (λ _. limited-cons (λ place (f : WeakAt _ place). at-zero (f .is-place)) (λ _. limited-nil)))
