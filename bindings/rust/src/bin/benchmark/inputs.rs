@@ -1,111 +1,138 @@
-//! Rules of 8, 16, 32 and 64 elements, and automata with as many matrices.
+//! Rules of 8, 16, 32 and 64 elements with 3 or 16 letters, and automata with as many matrices.
 
-use crate::engine::{automata, markings, RULE_OUT, SCRATCH};
+use crate::engine::automata::automaton_rule;
+use crate::engine::markings::strong;
+use crate::engine::{Strategy, RULE_OUT, SCRATCH};
 
 pub const SIZES: [usize; 4] = [8, 16, 32, 64];
+pub const LETTERS: [usize; 2] = [3, 16];
 
-/// A semigroup of n = 8·m elements: the group of m elements, times {1, 0} with the product of numbers, times two elements of which
-/// the first of a product stays, times two of which the last stays. Element ((a·2 + b)·2 + c)·2 + d.
-fn product(m: usize, s: usize, t: usize) -> usize {
-    let parts = |x: usize| (x >> 3, x >> 2 & 1, x >> 1 & 1, x & 1);
-    let ((a, b, c, _), (a2, b2, _, d2)) = (parts(s), parts(t));
-    (((a + a2) % m) * 2 + (b & b2)) * 4 + c * 2 + d2
+/// A rule file, its marks section apart.
+pub struct Rule {
+    morphism: Vec<u8>,
+    marks: Vec<u8>,
 }
 
-fn file(n: usize, table: impl Fn(usize, usize) -> usize, images: &[u8], marks: &[u8]) -> Vec<u8> {
-    let mut bytes = vec![n as u8];
-    bytes.extend((0..n * n).map(|at| table(at / n, at % n) as u8));
-    bytes.push(images.len() as u8);
-    bytes.extend(images);
-    bytes.extend((marks.len() as u16 / 2).to_le_bytes());
-    bytes.extend(marks);
-    bytes
+impl Rule {
+    fn new(n: usize, product: impl Fn(usize, usize) -> usize, images: &[u8]) -> Rule {
+        let mut morphism = vec![n as u8];
+        morphism.extend((0..n * n).map(|at| product(at / n, at % n) as u8));
+        morphism.push(images.len() as u8);
+        morphism.extend(images);
+        let marks = Vec::new();
+        Rule { morphism, marks }
+    }
+
+    /// The same with those linked pairs marked that are chosen.
+    fn marked(&self, chosen: impl Fn(usize, usize) -> bool) -> Rule {
+        let n = self.morphism[0] as usize;
+        let product = |s: usize, t: usize| self.morphism[1 + s * n + t] as usize;
+        let linked = |s: usize, e: usize| product(e, e) == e && product(s, e) == s;
+        let pairs = (0..n * n).map(|at| (at / n, at % n));
+        let pairs = pairs.filter(|(s, e)| linked(*s, *e) && chosen(*s, *e));
+        Rule {
+            morphism: self.morphism.clone(),
+            marks: pairs.flat_map(|(s, e)| [s as u8, e as u8]).collect(),
+        }
+    }
+
+    pub fn section(&self) -> Vec<u8> {
+        let count = self.marks.len() as u16 / 2;
+        [&count.to_le_bytes()[..], &self.marks].concat()
+    }
+
+    pub fn file(&self) -> Vec<u8> {
+        [&self.morphism[..], &self.section()].concat()
+    }
 }
 
-/// The rule with closed marks: three letters, of which the last is 0 in the second factor; it accepts the lassos that do not begin
-/// with letter 1 and have letter 2 without end.
-pub fn closed(n: usize) -> (Vec<u8>, Vec<u8>) {
+/// n = 8·m elements: the group of m elements, times {1, 0} with the product of numbers, times two elements of which the first of a
+/// product stays, times two of which the last stays. Element ((a·2 + b)·2 + c)·2 + d. The first three letters are (1, 1, 0, 0),
+/// (0, 1, 1, 1) and (0, 0, 0, 1), which reach every element; further ones have the elements that are left, then all again.
+fn banded(n: usize, letters: usize) -> Rule {
     let m = n / 8;
-    // Letters: (1, 1, 0, 0), (0, 1, 1, 1), (0, 0, 0, 1).
-    let images = [(((1 % m) * 2 + 1) * 4) as u8, 7, 1];
-    let linked = |s: usize, e: usize| product(m, e, e) == e && product(m, s, e) == s;
-    let accepted = |s: usize, e: usize| s >> 1 & 1 == 0 && e >> 2 & 1 == 0;
-    let pairs = (0..n * n).map(|at| (at / n, at % n));
-    let pairs = pairs.filter(|(s, e)| linked(*s, *e) && accepted(*s, *e));
-    let marks: Vec<u8> = pairs.flat_map(|(s, e)| [s as u8, e as u8]).collect();
-    (file(n, |s, t| product(m, s, t), &images, &marks), marks)
-}
-
-/// The same with those marks only whose second element begins as letter 0 or 2 does and ends as letter 0 does: a weak rule.
-pub fn unclosed(n: usize) -> (Vec<u8>, Vec<u8>) {
-    let (bytes, marks) = closed(n);
-    let morphism = &bytes[..1 + n * n + 4];
-    let kept = marks.chunks(2).filter(|pair| pair[1] & 3 == 0);
-    let marks: Vec<u8> = kept.flatten().copied().collect();
-    ([morphism, &section(&marks)[..]].concat(), marks)
-}
-
-/// The cyclic group by 16 letters, all of them its generator, with one mark: unclosed, and strong all the same, since a cycle can be
-/// cut at each of its letters. The search that shows it goes through every start value.
-pub fn cyclic(n: usize) -> Vec<u8> {
-    file(n, |s, t| (s + t) % n, &[1; 16], &[0, 0])
-}
-
-/// The cyclic group with every linked pair marked: its lassos are those of `cyclic`.
-pub fn cyclic_closed(n: usize) -> Vec<u8> {
-    let marks: Vec<u8> = (0..n as u8).flat_map(|s| [s, 0]).collect();
-    file(n, |s, t| (s + t) % n, &[1; 16], &marks)
-}
-
-pub fn section(marks: &[u8]) -> Vec<u8> {
-    let mut bytes = (marks.len() as u16 / 2).to_le_bytes().to_vec();
-    bytes.extend(marks);
-    bytes
-}
-
-/// u and v of one length over three letters, not accepted by the rules above, so that every cut is looked at.
-pub fn lasso(length: usize) -> (Vec<u8>, Vec<u8>) {
-    let mut state = 1u32;
-    let mut letters = || {
-        let next = || {
-            state = state.wrapping_mul(1_664_525).wrapping_add(1_013_904_223);
-            (state >> 16) as u8 % 3
-        };
-        std::iter::repeat_with(next).take(length).collect()
+    let product = |s: usize, t: usize| {
+        let parts = |x: usize| (x >> 3, x >> 2 & 1, x >> 1 & 1, x & 1);
+        let ((a, b, c, _), (a2, b2, _, d2)) = (parts(s), parts(t));
+        (((a + a2) % m) * 2 + (b & b2)) * 4 + c * 2 + d2
     };
-    let (mut u, v): (Vec<u8>, Vec<u8>) = (letters(), letters());
+    let first = [(((1 % m) * 2 + 1) * 4) as u8, 7, 1];
+    let others = (0..n as u8).filter(|s| !first.contains(s));
+    let all: Vec<u8> = first.into_iter().chain(others).collect();
+    let images: Vec<u8> = all.into_iter().cycle().take(letters).collect();
+    Rule::new(n, product, &images)
+}
+
+/// Closed marks: it accepts the lassos that begin with a letter of third part 0 and have letters of second part 0 without end.
+pub fn closed(n: usize, letters: usize) -> Rule {
+    let accepted = |s: usize, e: usize| s >> 1 & 1 == 0 && e >> 2 & 1 == 0;
+    banded(n, letters).marked(accepted)
+}
+
+/// The same with those marks only whose second element has its last two parts 0: a weak rule.
+pub fn weak(n: usize, letters: usize) -> Rule {
+    let accepted = |s: usize, e: usize| s >> 1 & 1 == 0 && e & 7 == 0;
+    banded(n, letters).marked(accepted)
+}
+
+/// A cyclic group times as many elements as there are different letters, of which the last of a product stays: each letter has the
+/// group's generator. With every linked pair marked it accepts every lasso.
+pub fn rotating_closed(n: usize, letters: usize) -> Rule {
+    let different = if letters < 16 { 2 } else { 16.min(n / 2) };
+    let m = n / different;
+    let product =
+        |s: usize, t: usize| (s / different + t / different) % m * different + t % different;
+    let images = (0..letters).map(|a| (different + a % different) as u8);
+    let images: Vec<u8> = images.collect();
+    Rule::new(n, product, &images).marked(|_, _| true)
+}
+
+/// Only the linked pairs are marked whose first element is idempotent: unclosed, and strong all the same, since a cycle can be cut
+/// where the group's part is 0. The search that shows it goes through every start value.
+pub fn rotating(n: usize, letters: usize) -> Rule {
+    rotating_closed(n, letters).marked(|s, e| s == e)
+}
+
+/// A sequence of numbers below bounds.
+struct Numbers(u64);
+
+impl Numbers {
+    fn below(&mut self, bound: u64) -> u64 {
+        let next = self.0.wrapping_mul(6_364_136_223_846_793_005);
+        self.0 = next.wrapping_add(1_442_695_040_888_963_407);
+        (self.0 >> 33) % bound
+    }
+}
+
+/// u and v of one length, not accepted by `closed` and `weak`, so that every cut is looked at: u begins with letter 1.
+pub fn lasso(length: usize, letters: usize) -> (Vec<u8>, Vec<u8>) {
+    let mut numbers = Numbers(1);
+    let mut word = || -> Vec<u8> {
+        let letter = || numbers.below(letters as u64) as u8;
+        std::iter::repeat_with(letter).take(length).collect()
+    };
+    let (mut u, v) = (word(), word());
     u[0] = 1;
     (u, v)
 }
 
-/// An automaton with n matrices: the first one found of many.
-pub fn automaton(n: usize) -> Vec<u8> {
-    let mut state = 7u64;
-    let mut below = |bound: u64| {
-        state = state
-            .wrapping_mul(6_364_136_223_846_793_005)
-            .wrapping_add(1_442_695_040_888_963_407);
-        (state >> 33) % bound
-    };
+/// An automaton with n matrices: the first one found of many. Three letters are drawn; further ones have their transitions again.
+pub fn automaton(states: u8, letters: u8, n: usize) -> Vec<u8> {
+    let mut numbers = Numbers(7);
     let (mut out, mut scratch) = (vec![0; RULE_OUT], vec![0; SCRATCH]);
     loop {
-        let (states, letters) = (4u8, 3u8);
-        let mut bytes = vec![states];
-        bytes.extend((0..states).map(|_| below(4) as u8));
-        bytes.push(letters);
+        let kinds: Vec<u8> = (0..states).map(|_| numbers.below(4) as u8).collect();
+        let drawn: Vec<bool> = (0..3 * states * states)
+            .map(|_| numbers.below(4) == 0)
+            .collect();
         let mut triples = Vec::new();
-        for from in 0..states {
-            for letter in 0..letters {
-                triples.extend(
-                    (0..states)
-                        .filter(|_| below(4) == 0)
-                        .map(|to| [from, letter, to]),
-                );
-            }
+        for (from, letter) in (0..states).flat_map(|from| (0..letters).map(move |a| (from, a))) {
+            let there = |to: &u8| drawn[((letter % 3 * states + from) * states + to) as usize];
+            triples.extend((0..states).filter(there).map(|to| [from, letter, to]));
         }
-        bytes.extend((triples.len() as u16).to_le_bytes());
-        bytes.extend(triples.concat());
-        let made = automata::automaton_rule(&bytes, &mut out, &mut scratch);
+        let count = (triples.len() as u16).to_le_bytes();
+        let bytes = [&[states], &kinds[..], &[letters], &count, &triples.concat()].concat();
+        let made = automaton_rule(Strategy::Same, &bytes, &mut out, &mut scratch);
         if made.is_ok() && out[0] as usize == n {
             return bytes;
         }
@@ -114,10 +141,14 @@ pub fn automaton(n: usize) -> Vec<u8> {
 
 /// Fails if the rules are not what their comments say.
 pub fn confirm() {
-    let strong = |rule: &[u8]| markings::strong(rule, &mut vec![0; SCRATCH]);
-    for n in SIZES {
-        assert_eq!(strong(&closed(n).0), Ok(true));
-        assert_eq!(strong(&unclosed(n).0), Ok(false));
-        assert_eq!(strong(&cyclic(n)), Ok(true));
+    let decided = |rule: Rule| strong(Strategy::Plain, &rule.file(), &mut vec![0; SCRATCH]);
+    for (n, letters) in SIZES
+        .iter()
+        .flat_map(|n| LETTERS.map(|letters| (*n, letters)))
+    {
+        assert_eq!(decided(closed(n, letters)), Ok(true));
+        assert_eq!(decided(weak(n, letters)), Ok(false));
+        assert_eq!(decided(rotating(n, letters)), Ok(true));
+        assert_eq!(decided(rotating_closed(n, letters)), Ok(true));
     }
 }

@@ -1,15 +1,15 @@
-//! Times of two closures, taken in turn so that a change of the machine's speed meets both.
+//! Times of several engines, taken in turn so that a change of the machine's speed meets all.
 
 use std::time::Instant;
 
-const REPEATS: usize = 15;
+const REPEATS: usize = 21;
 const SECONDS: f64 = 0.005;
 
-pub struct Measured {
+/// The times of one engine.
+pub struct Times {
     /// Microseconds a call, the least of the repeats: other work on the machine only ever adds.
-    pub library: f64,
-    pub rust: f64,
-    /// By how much the median of the library's repeats lies above their least, as a part of it.
+    pub least: f64,
+    /// By how much the median of the repeats lies above the least, as a part of it.
     pub spread: f64,
 }
 
@@ -27,19 +27,19 @@ fn rounds(call: &mut dyn FnMut()) -> usize {
     ((SECONDS * 1e6 / one) as usize).clamp(1, 100_000)
 }
 
-pub fn measure(library: &mut dyn FnMut(), rust: &mut dyn FnMut()) -> Measured {
-    let counts = (rounds(library), rounds(rust));
-    let mut times = (Vec::new(), Vec::new());
+pub fn measure<const ENGINES: usize>(mut call: impl FnMut(usize)) -> [Times; ENGINES] {
+    let counts: [usize; ENGINES] = std::array::from_fn(|engine| rounds(&mut || call(engine)));
+    let mut times: [Vec<f64>; ENGINES] = std::array::from_fn(|_| Vec::new());
     for _ in 0..REPEATS {
-        times.0.push(time(library, counts.0));
-        times.1.push(time(rust, counts.1));
+        for engine in 0..ENGINES {
+            times[engine].push(time(&mut || call(engine), counts[engine]));
+        }
     }
-    times.0.sort_by(f64::total_cmp);
-    times.1.sort_by(f64::total_cmp);
-    let (library, rust) = (times.0[0], times.1[0]);
-    Measured {
-        library,
-        rust,
-        spread: times.0[REPEATS / 2] / library - 1.0,
-    }
+    times.map(|mut times| {
+        times.sort_by(f64::total_cmp);
+        Times {
+            least: times[0],
+            spread: times[REPEATS / 2] / times[0] - 1.0,
+        }
+    })
 }

@@ -1,8 +1,9 @@
 //! Reduction by rounds.
 
-use super::file::{check, reached, write};
-use super::markings::decide;
-use super::{lengths, on_scratch, Refusal, Rule, RULE_OUT, SCRATCH, SECOND, WORK};
+use super::file::write;
+use super::markings::from_strong;
+use super::reached::reached;
+use super::{lent_or_new, Length, Rule, Strategy, PAIRS, SECOND, WORK};
 
 /// The least element of each element's block, once no round changes anything.
 fn blocks(rule: &Rule, outcomes: &[u8]) -> [u8; 64] {
@@ -36,53 +37,52 @@ fn blocks(rule: &Rule, outcomes: &[u8]) -> [u8; 64] {
     }
 }
 
-pub fn reduce(bytes: &[u8], out: &mut [u8], scratch: &mut [u8]) -> Result<usize, Refusal> {
-    lengths(&[(out.len(), RULE_OUT), (scratch.len(), SCRATCH)])?;
-    on_scratch(scratch, |scratch| {
-        let rule = check(bytes, scratch)?;
-        if !decide(&rule, scratch) {
-            return Err((12, 1, 0));
+/// Writes the rule of the blocks, from the closure of the marks as the second table; answers its length.
+fn write_reduced(rule: &Rule, memory: &mut [u8], out: &mut [u8]) -> usize {
+    let n = rule.n;
+    let (tables, rest) = memory.split_at_mut(WORK);
+    let closure = &tables[SECOND..];
+    let mut new = Vec::new();
+    let (outcomes, table) = lent_or_new(rest, &mut new, 2 * PAIRS).split_at_mut(PAIRS);
+    for z in 0..n {
+        let (e, _) = rule.power(z);
+        for s in 0..n {
+            outcomes[s * 64 + z] = closure[rule.product(s, e) * 64 + e];
         }
-        let n = rule.n;
-        let (tables, work) = scratch.split_at_mut(WORK);
-        let closure = &tables[SECOND..];
-        let (outcomes, table) = work.split_at_mut(4_096);
-        for z in 0..n {
-            let (e, _) = rule.idempotent_power(z).expect("a checked rule");
-            for s in 0..n {
-                outcomes[s * 64 + z] = closure[rule.product(s, e) * 64 + e];
-            }
+    }
+    let blocks = blocks(rule, outcomes);
+    // Blocks are numbered by the first of their elements in the order of first words.
+    let reached = reached(rule);
+    let (mut numbers, mut elements, mut count) = ([64u8; 64], [0u8; 64], 0);
+    for s in &reached.order[..n] {
+        let block = blocks[*s as usize] as usize;
+        if numbers[block] == 64 {
+            numbers[block] = count as u8;
+            elements[count] = *s;
+            count += 1;
         }
-        let blocks = blocks(&rule, outcomes);
-        // Blocks are numbered by the first of their elements in the order of first words.
-        let reached = reached(&rule);
-        let (mut numbers, mut elements, mut count) = ([64u8; 64], [0u8; 64], 0);
-        for s in &reached.order[..n] {
-            let block = blocks[*s as usize] as usize;
-            if numbers[block] == 64 {
-                numbers[block] = count as u8;
-                elements[count] = *s;
-                count += 1;
-            }
+    }
+    let number = |s: usize| numbers[blocks[s] as usize];
+    for s in 0..count {
+        for t in 0..count {
+            let product = rule.product(elements[s] as usize, elements[t] as usize);
+            table[s * 64 + t] = number(product);
         }
-        let number = |s: usize| numbers[blocks[s] as usize];
-        for s in 0..count {
-            for t in 0..count {
-                let product = rule.product(elements[s] as usize, elements[t] as usize);
-                table[s * 64 + t] = number(product);
-            }
-        }
-        let mut images = [0; 16];
-        for (a, image) in rule.images.iter().enumerate() {
-            images[a] = number(*image as usize);
-        }
-        let at = |s: usize, t: usize| table[s * 64 + t] as usize;
-        let marked = |s: usize, e: usize| {
-            at(e, e) == e
-                && at(s, e) == s
-                && outcomes[elements[s] as usize * 64 + elements[e] as usize] != 0
-        };
-        let images = &images[..rule.images.len()];
-        Ok(write(out, (count, 64), table, images, marked))
-    })
+    }
+    let mut images = [0; 16];
+    for (a, image) in rule.images.iter().enumerate() {
+        images[a] = number(*image as usize);
+    }
+    let at = |s: usize, t: usize| table[s * 64 + t] as usize;
+    let marked = |s: usize, e: usize| {
+        at(e, e) == e
+            && at(s, e) == s
+            && outcomes[elements[s] as usize * 64 + elements[e] as usize] != 0
+    };
+    let images = &images[..rule.images.len()];
+    write(out, (count, 64), table, images, marked)
+}
+
+pub fn reduce(strategy: Strategy, bytes: &[u8], out: &mut [u8], scratch: &mut [u8]) -> Length {
+    from_strong(strategy, bytes, out, scratch, write_reduced)
 }

@@ -1,0 +1,156 @@
+//! Each call on an input, by the library or by one of the engines, with its answer in one form.
+
+use crate::engine::{automata, inclusion, lassos, markings, monitors, reductions};
+use crate::engine::{Refusal, Strategy};
+use duknavet as library;
+use duknavet::{Inclusion, Membership, Monitor, Refused, Strength, Verdict};
+use duknavet::{CLASSES_OUT, RULE_OUT, SCRATCH, U_OUT, V_OUT};
+
+#[derive(Clone, Copy, Debug, PartialEq, Eq)]
+pub enum Engine {
+    Library,
+    Rust(Strategy),
+}
+
+/// The library comes first.
+pub const ENGINES: [(&str, Engine); 3] = [
+    ("library", Engine::Library),
+    ("plain", Engine::Rust(Strategy::Plain)),
+    ("same", Engine::Rust(Strategy::Same)),
+];
+
+/// What a call is lent.
+pub struct Buffers {
+    out: Vec<u8>,
+    u: Vec<u8>,
+    v: Vec<u8>,
+    scratch: Vec<u8>,
+}
+
+impl Buffers {
+    pub fn new() -> Buffers {
+        Buffers {
+            out: vec![0; RULE_OUT.max(CLASSES_OUT)],
+            u: vec![0; U_OUT],
+            v: vec![0; V_OUT],
+            scratch: vec![0; SCRATCH],
+        }
+    }
+}
+
+/// What the definitions fix of an answer, in up to three numbers: of a written rule its bytes and its elements, of an inclusion
+/// whether it holds.
+type Fixed = [usize; 3];
+
+fn truth(answer: bool) -> Fixed {
+    [usize::from(answer), 0, 0]
+}
+
+fn written(length: usize, out: &[u8]) -> Fixed {
+    [length, out[0] as usize, 0]
+}
+
+/// A call with its input; monitors have the value 0 before and 1 since, and an event is letter 0.
+pub enum Call {
+    Classes(Vec<u8>),
+    Strong(Vec<u8>),
+    Complement(Vec<u8>),
+    Reduce(Vec<u8>),
+    Event(Vec<u8>),
+    Mark(Vec<u8>),
+    Verdict(Vec<u8>),
+    Member(Vec<u8>, (Vec<u8>, Vec<u8>)),
+    Included(Vec<u8>, Vec<u8>),
+    AutomatonRule(Vec<u8>),
+}
+
+impl Call {
+    pub fn run(&self, engine: Engine, buffers: &mut Buffers) -> Result<Fixed, Refusal> {
+        match engine {
+            Engine::Library => self
+                .by_library(buffers)
+                .map_err(|r| (r.refusal.number(), r.input, r.place)),
+            Engine::Rust(strategy) => self.by_rust(strategy, buffers),
+        }
+    }
+
+    /// Fails if the engines do not give one answer, list different classes, or leave a scratch that is not zeros.
+    pub fn confirm(&self) {
+        let [first, others @ ..] = ENGINES.map(|(name, engine)| {
+            let mut buffers = Buffers::new();
+            buffers.scratch.fill(1);
+            let answer = self.run(engine, &mut buffers);
+            let zeros = buffers.scratch.iter().all(|b| *b == 0);
+            assert!(zeros, "{name} leaves a scratch that is not zeros");
+            (name, answer, buffers.out)
+        });
+        for other in others {
+            let names = (first.0, other.0);
+            assert_eq!(first.1, other.1, "the answers of {names:?} differ");
+            if let Call::Classes(_) = self {
+                assert!(first.2 == other.2, "the classes of {names:?} differ");
+            }
+        }
+    }
+
+    fn by_library(&self, buffers: &mut Buffers) -> Result<Fixed, Refused> {
+        let Buffers { out, u, v, scratch } = buffers;
+        let monitor = Monitor {
+            before: 0,
+            since: 1,
+        };
+        let moved = |m: Monitor| [m.before, m.since, 0];
+        Ok(match self {
+            Call::Classes(rule) => {
+                let found = library::classes(rule, out, scratch)?;
+                [found.linked, found.classes, found.joins]
+            }
+            Call::Strong(rule) => truth(library::strong(rule, scratch)? == Strength::Strong),
+            Call::Complement(rule) => written(library::complement(rule, out, scratch)?.length, out),
+            Call::Reduce(rule) => written(library::reduce(rule, out, scratch)?.length, out),
+            Call::Event(rule) => {
+                moved(library::event(rule, monitor, 0, scratch).map_err(|n| n.refused)?)
+            }
+            Call::Mark(rule) => {
+                moved(library::mark(rule, monitor, scratch).map_err(|n| n.refused)?)
+            }
+            Call::Verdict(rule) => {
+                truth(library::verdict(rule, monitor, scratch)? == Verdict::Accepted)
+            }
+            Call::Member(rule, lasso) => {
+                let answer = library::member(rule, &lasso.0, &lasso.1, scratch)?;
+                truth(answer == Membership::Accepted)
+            }
+            Call::Included(rule, second) => {
+                let answer = library::included(rule, second, u, v, scratch)?;
+                truth(answer == Inclusion::Included)
+            }
+            Call::AutomatonRule(automaton) => written(
+                library::automaton_rule(automaton, out, scratch)?.length,
+                out,
+            ),
+        })
+    }
+
+    fn by_rust(&self, how: Strategy, buffers: &mut Buffers) -> Result<Fixed, Refusal> {
+        let Buffers { out, u, v, scratch } = buffers;
+        let monitor = (0, 1);
+        let moved = |(before, since): monitors::Values| [before, since, 0];
+        Ok(match self {
+            Call::Classes(rule) => markings::classes(how, rule, out, scratch)?,
+            Call::Strong(rule) => truth(markings::strong(how, rule, scratch)?),
+            Call::Complement(rule) => written(markings::complement(how, rule, out, scratch)?, out),
+            Call::Reduce(rule) => written(reductions::reduce(how, rule, out, scratch)?, out),
+            Call::Event(rule) => moved(monitors::event(how, rule, monitor, 0, scratch)?),
+            Call::Mark(rule) => moved(monitors::mark(how, rule, monitor, scratch)?),
+            Call::Verdict(rule) => truth(monitors::verdict(how, rule, monitor, scratch)?),
+            Call::Member(rule, (u, v)) => truth(lassos::member(how, rule, u, v, scratch)?),
+            Call::Included(rule, second) => {
+                truth(inclusion::included(how, rule, second, (u, v), scratch)?.is_none())
+            }
+            Call::AutomatonRule(automaton) => {
+                written(automata::automaton_rule(how, automaton, out, scratch)?, out)
+            }
+        })
+    }
+}

@@ -1,0 +1,80 @@
+//! Monitors: two values, each an element or 64 for none.
+
+use super::file::check;
+use super::markings::decide;
+use super::{lengths, on_memory, Needs, Refusal, Rule, Strategy, SCRATCH, SECOND, WORK};
+
+pub type Values = (usize, usize);
+
+/// Runs a call's work on a checked rule, if the monitor's values fit it.
+fn with_monitor<T>(
+    (strategy, needs): (Strategy, Needs),
+    bytes: &[u8],
+    (before, since): Values,
+    scratch: &mut [u8],
+    work: impl FnOnce(&Rule, &mut [u8]) -> Result<T, Refusal>,
+) -> Result<T, Refusal> {
+    lengths(&[(scratch.len(), SCRATCH)])?;
+    on_memory(strategy, needs, scratch, |memory| {
+        let rule = check(strategy, bytes, memory)?;
+        let fits = |value: usize| value < rule.n || value == 64;
+        if !fits(before) || !fits(since) {
+            return Err((3, 1, 0));
+        }
+        work(&rule, memory)
+    })
+}
+
+fn join(rule: &Rule, a: usize, b: usize) -> usize {
+    match (a, b) {
+        (64, b) => b,
+        (a, 64) => a,
+        (a, b) => rule.product(a, b),
+    }
+}
+
+pub fn event(
+    strategy: Strategy,
+    bytes: &[u8],
+    values: Values,
+    letter: u8,
+    scratch: &mut [u8],
+) -> Result<Values, Refusal> {
+    let how = (strategy, Needs::Marks);
+    with_monitor(how, bytes, values, scratch, |rule, _| {
+        let image = *rule.images.get(letter as usize).ok_or((10, 1, 0))? as usize;
+        Ok((values.0, join(rule, values.1, image)))
+    })
+}
+
+pub fn mark(
+    strategy: Strategy,
+    bytes: &[u8],
+    values: Values,
+    scratch: &mut [u8],
+) -> Result<Values, Refusal> {
+    let how = (strategy, Needs::Marks);
+    with_monitor(how, bytes, values, scratch, |rule, _| {
+        Ok((join(rule, values.0, values.1), 64))
+    })
+}
+
+pub fn verdict(
+    strategy: Strategy,
+    bytes: &[u8],
+    (before, since): Values,
+    scratch: &mut [u8],
+) -> Result<bool, Refusal> {
+    let how = (strategy, Needs::Search);
+    with_monitor(how, bytes, (before, since), scratch, |rule, memory| {
+        if before == 64 || since == 64 {
+            return Err((11, 1, 0));
+        }
+        if !decide(rule, memory) {
+            return Err((12, 1, 0));
+        }
+        let (e, _) = rule.power(since);
+        let closure = &memory[SECOND..WORK];
+        Ok(closure[rule.product(before, e) * 64 + e] != 0)
+    })
+}
