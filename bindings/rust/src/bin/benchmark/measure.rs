@@ -2,7 +2,7 @@
 
 use std::time::Instant;
 
-const REPEATS: usize = 21;
+const REPEATS: usize = 31;
 const SECONDS: f64 = 0.005;
 
 /// The times of one engine.

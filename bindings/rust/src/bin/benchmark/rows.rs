@@ -13,20 +13,20 @@ pub struct Row {
 type Made = fn(usize, usize) -> inputs::Rule;
 type OnRule = fn(Vec<u8>) -> Call;
 
-const KINDS: [(&str, Made); 3] = [
-    ("closed", inputs::closed),
-    ("weak", inputs::weak),
-    ("unclosed", inputs::rotating),
-];
+const CLOSED: (&str, Made) = ("closed", inputs::closed);
+const UNCLOSED: (&str, Made) = ("unclosed", inputs::rotating);
+const WEAK: (&str, Made) = ("weak", inputs::weak);
 
-const ON_RULES: [(&str, OnRule); 7] = [
-    ("event", Call::Event),
-    ("mark", Call::Mark),
-    ("verdict", Call::Verdict),
-    ("classes", Call::Classes),
-    ("strong", Call::Strong),
-    ("complement", Call::Complement),
-    ("reduce", Call::Reduce),
+/// Each call on the kinds of rules that differ to it: classes and moves of a monitor look at no marks behind the check, and what
+/// asks for a strong rule does on a weak one what `strong` does.
+const ON_RULES: [(&str, OnRule, &[(&str, Made)]); 7] = [
+    ("event", Call::Event, &[CLOSED, UNCLOSED]),
+    ("mark", Call::Mark, &[CLOSED]),
+    ("verdict", Call::Verdict, &[CLOSED, UNCLOSED]),
+    ("classes", Call::Classes, &[CLOSED, UNCLOSED]),
+    ("strong", Call::Strong, &[CLOSED, UNCLOSED, WEAK]),
+    ("complement", Call::Complement, &[CLOSED, UNCLOSED]),
+    ("reduce", Call::Reduce, &[CLOSED, UNCLOSED]),
 ];
 
 /// The rows of one number of letters.
@@ -38,19 +38,16 @@ fn rows_with(letters: usize) -> Vec<Row> {
             call: Box::new(move |n| Some(call(n))),
         });
     };
-    for (name, call) in ON_RULES {
-        for (kind, made) in KINDS {
+    for (name, call, kinds) in ON_RULES {
+        for (kind, made) in kinds {
             let on_rule = move |n: usize| call(made(n, letters).file());
             add(format!("{name}, {kind}"), Box::new(on_rule));
         }
     }
     for length in [16, 4_224] {
-        for (kind, made) in &KINDS[..2] {
-            let member = move |n: usize| {
-                Call::Member(made(n, letters).file(), inputs::lasso(length, letters))
-            };
-            add(format!("member of {length}, {kind}"), Box::new(member));
-        }
+        let lasso = move || inputs::lasso(length, letters);
+        let member = move |n: usize| Call::Member(inputs::closed(n, letters).file(), lasso());
+        add(format!("member of {length}, closed"), Box::new(member));
     }
     let markings: [(&str, Made, Made); 3] = [
         ("yes", inputs::weak, inputs::closed),
