@@ -2,8 +2,9 @@
 
 use std::time::Instant;
 
-const REPEATS: usize = 31;
-const SECONDS: f64 = 0.005;
+/// Many short repeats: on a busy machine some of them are not disturbed.
+const REPEATS: usize = 61;
+const SECONDS: f64 = 0.002;
 
 /// The times of one engine.
 pub struct Times {
