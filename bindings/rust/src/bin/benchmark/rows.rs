@@ -12,14 +12,15 @@ pub struct Row {
 /// A rule made for a number of elements and of letters, and a call on a rule.
 type Made = fn(usize, usize) -> inputs::Rule;
 type OnRule = fn(Vec<u8>) -> Call;
+type Kind = (&'static str, Made);
 
-const CLOSED: (&str, Made) = ("closed", inputs::closed);
-const UNCLOSED: (&str, Made) = ("unclosed", inputs::rotating);
-const WEAK: (&str, Made) = ("weak", inputs::weak);
+const CLOSED: Kind = ("closed", inputs::closed);
+const UNCLOSED: Kind = ("unclosed", inputs::rotating);
+const WEAK: Kind = ("weak", inputs::weak);
 
 /// Each call on the kinds of rules that differ to it: classes and moves of a monitor look at no marks behind the check, and what
 /// asks for a strong rule does on a weak one what `strong` does.
-const ON_RULES: [(&str, OnRule, &[(&str, Made)]); 7] = [
+const ON_RULES: [(&str, OnRule, &[Kind]); 7] = [
     ("event", Call::Event, &[CLOSED, UNCLOSED]),
     ("mark", Call::Mark, &[CLOSED]),
     ("verdict", Call::Verdict, &[CLOSED, UNCLOSED]),
