@@ -23,10 +23,11 @@ pub fn triples(rule: &Rule) -> Result<(), Refusal> {
     Ok(())
 }
 
-/// Whether the tests take fewer looks than the triples.
+/// Whether the tests look up fewer products than the triples: three for each element and entry behind the letters', four for each
+/// element and two letters, against three for each triple.
 pub fn worth_testing(rule: &Rule, reached: &Reached) -> bool {
     let (n, g) = (rule.n, reached.images);
-    g * g + n - g < n * n
+    3 * (n - g) + 4 * (g * g) < 3 * (n * n)
 }
 
 /// Whether every element s that was found as p·h has (x·p)·h = x·s for every x, and every two letters' images g and h have

@@ -27,7 +27,7 @@ pub fn included(
     scratch: &mut [u8],
 ) -> Result<Option<(usize, usize)>, Refusal> {
     lengths(&[(u.len(), 64), (v.len(), 4_224), (scratch.len(), SCRATCH)])?;
-    on_memory(strategy, Needs::Search, scratch, |memory| {
+    on_memory(strategy, Needs::TwoMarkings, scratch, |memory| {
         let rule = check(strategy, bytes, memory)?;
         check_second(strategy, &rule, second, memory)?;
         let mut new = Vec::new();

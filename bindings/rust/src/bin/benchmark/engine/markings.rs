@@ -79,7 +79,7 @@ pub fn decide(rule: &Rule, memory: &mut [u8]) -> bool {
 
 pub fn strong(strategy: Strategy, bytes: &[u8], scratch: &mut [u8]) -> Result<bool, Refusal> {
     lengths(&[(scratch.len(), SCRATCH)])?;
-    on_memory(strategy, Needs::Search, scratch, |memory| {
+    on_memory(strategy, Needs::TwoMarkings, scratch, |memory| {
         let rule = check(strategy, bytes, memory)?;
         Ok(decide(&rule, memory))
     })
@@ -94,7 +94,7 @@ pub fn from_strong(
     work: impl FnOnce(&Rule, &mut [u8], &mut [u8]) -> usize,
 ) -> Length {
     lengths(&[(out.len(), RULE_OUT), (scratch.len(), SCRATCH)])?;
-    on_memory(strategy, Needs::Search, scratch, |memory| {
+    on_memory(strategy, Needs::TwoMarkings, scratch, |memory| {
         let rule = check(strategy, bytes, memory)?;
         if !decide(&rule, memory) {
             return Err((12, 1, 0));

@@ -109,8 +109,8 @@ fn lengths(lent: &[(usize, usize)]) -> Result<(), Refusal> {
 enum Needs {
     /// One table of pairs.
     Marks,
-    /// Two tables of pairs, and more for a search.
-    Search,
+    /// Two tables of pairs.
+    TwoMarkings,
 }
 
 /// Runs a call's work on memory that begins with zeros. The lent scratch ends as zeros over its whole length, as every call promises.
@@ -122,11 +122,11 @@ fn on_memory<T>(
 ) -> Result<T, Refusal> {
     let answer = match (strategy, needs) {
         (Strategy::Plain, Needs::Marks) => work(&mut [0; PAIRS]),
-        (Strategy::Plain, Needs::Search) => work(&mut [0; WORK]),
+        (Strategy::Plain, Needs::TwoMarkings) => work(&mut [0; WORK]),
         (Strategy::Same, needs) => {
             let begin = match needs {
                 Needs::Marks => PAIRS,
-                Needs::Search => scratch.len(),
+                Needs::TwoMarkings => WORK,
             };
             scratch[..begin].fill(0);
             work(scratch)
@@ -136,7 +136,7 @@ fn on_memory<T>(
     answer
 }
 
-/// What is lent, or new memory of zeros where too little of it is.
+/// What is lent, or new memory where too little of it is.
 fn lent_or_new<'a>(lent: &'a mut [u8], new: &'a mut Vec<u8>, bytes: usize) -> &'a mut [u8] {
     if lent.len() >= bytes {
         return lent;

@@ -65,7 +65,7 @@ pub fn verdict(
     (before, since): Values,
     scratch: &mut [u8],
 ) -> Result<bool, Refusal> {
-    let how = (strategy, Needs::Search);
+    let how = (strategy, Needs::TwoMarkings);
     with_monitor(how, bytes, (before, since), scratch, |rule, memory| {
         if before == 64 || since == 64 {
             return Err((11, 1, 0));

@@ -122,6 +122,8 @@ pub fn search<'a>(
 ) -> Option<Escape<'a>> {
     let (tables, rest) = memory.split_at_mut(WORK);
     let lists = lent_or_new(rest, new, END);
+    // of the worklist nothing is read that was not written before
+    lists[FOUND..NEXT].fill(0);
     list_preimages(rule, lists);
     let found = (0..rule.n).find_map(|start| {
         search_from(rule, tables, lists, markings, start).map(|entry| (start, entry))
