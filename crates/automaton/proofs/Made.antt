@@ -12,18 +12,18 @@ use Rattle.buchi.specs.Matrices.{Matrix, SameEntries}
 use Rattle.buchi.specs.Rule.{MatricesOf, Recurs, MarkedBy, MoreMatrices}
 use Rattle.buchi.proofs.Products.{product, same-sym, same-trans}
 use Rattle.buchi.proofs.WordMatrices.{letter-matrix}
-use Rattle.buchi.proofs.MatrixLists.{Among, ClosedList, every-product}
+use Rattle.buchi.proofs.MatrixLists.{ClosedList}
 use Rattle.buchi.proofs.MatrixTables.{TableOf, table-lawful, table-matrices}
 use Rattle.buchi.proofs.Numberings.{more-matrices}
 use Rattle.matrices.specs.Bytes.{letterEntry}
 use Rattle.matrices.proofs.Letters.{stands-letter}
-use Rattle.matrixsearch.specs.Lists.{matrixAt, ListPlace, StandsHere, Kept, AllListed}
-use Rattle.matrixsearch.proofs.Growing.{among-same, here-kept, place-kept}
-use Rattle.matrixtable.specs.Laying.{laidRule, laidMarks, initialStates, ProductList, LetterList, ProductNumber, LetterNumber, RuleLaid}
+use Rattle.matrixsearch.specs.Lists.{matrixAt, ListPlace, StandsHere, Kept, stepEntry, StepNumber, AllListed}
+use Rattle.matrixsearch.proofs.Growing.{kept-sym, kept-less, here-kept}
+use Rattle.matrixsearch.proofs.Staying.{matrix-stays}
+use Rattle.matrixtable.specs.Laying.{laidRule, laidMarks, initialStates, StepList, ProductNumber, MarkPlace, RuleLaid}
 use Rattle.firstwords.specs.FirstWords.{ByFirstWords}
-use Rattle.matrixtable.proofs.Filling.{kept-sym}
 use Rattle.automaton.proofs.Order.{table-by-first-words}
-use Rattle.matrixtable.proofs.Staying.{matrix-stays, product-number-stays, letter-number-stays}
+use Rattle.matrixtable.proofs.Staying.{step-stays, product-number-stays}
 use Rattle.matrixtable.proofs.Marks.{recurs-same}
 
 -- ---- the list of an automaton's matrices
@@ -33,13 +33,6 @@ module _ {t : Automaton} {kinds : List ℕ} {n k count : ℕ} {entry listed : Li
   closed : ClosedList t count (matrixAt listed)
   closed = all .closed t here
 
-  pub product-list : ProductList n listed count
-  product-list = record {
-    list = all .list;
-    products = λ i j hi hj.
-        subst (λ (m : ℕ). Among m count (matrixAt listed) (product m (matrixAt listed i) (matrixAt listed j))) (here .states) (every-product closed i j hi hj);
-  }
-
   -- a letter's matrix is the one that stands in the bytes
   letter-same : (x : ℕ) → x < k → SameEntries n (letter-matrix t x) (letterEntry kinds listed x)
   letter-same x h =
@@ -47,37 +40,37 @@ module _ {t : Automaton} {kinds : List ℕ} {n k count : ℕ} {entry listed : Li
       subst (λ (m : ℕ). SameEntries m (letter-matrix t x) (letterEntry kinds listed x)) (here .states)
       (stands-letter (now .stands) x (subst (λ (m : ℕ). x < m) (sym (here .letters)) h))
 
-  pub letter-list : LetterList kinds n k listed count
-  letter-list = record {
-    place = place-kept kept place;
-    list = all .list;
-    letters = λ x h.
-        among-same (letter-same x h)
-        (subst (λ (m : ℕ). Among m count (matrixAt listed) (letter-matrix t x)) (here .states)
-        (closed .letters x (subst (λ (m : ℕ). x < m) (sym (here .letters)) h)));
-  }
+  -- with what was recorded of it
+  pub step-list : StepList kinds n listed count
+  step-list = record { letters = k; few-letters = place .few-letters; list = all .list; recorded = all .recorded }
+
+  pub mark-place : MarkPlace kinds n listed count
+  mark-place = record { few-states = place .few-states; kinds-long = place .kinds-long; room = all .list .room; few = all .list .few }
 
   -- ---- the rule
 
-  module _ {laid : List ℕ} (r : RuleLaid kinds n k count listed laid) where
+  module _ {laid : List ℕ} (r : RuleLaid kinds n count listed laid) where
     abbrev m : Morphism
     m = laidRule laid count k
 
     product-number : (i j : ℕ) → i < count → j < count → ProductNumber n count listed i j (m .product i j)
     product-number i j hi hj = product-number-stays (kept-sym (r .kept)) (all .list .few-states) (all .list .few) hi hj (r .products i j hi hj)
 
-    letter-number : (x : ℕ) → x < k → LetterNumber kinds n count listed x (m .image x)
-    letter-number x h = let few = place .few-letters in letter-number-stays (kept-sym (r .kept)) (all .list .few-states) (all .list .few) (omega arith) (r .letters x h)
+    image-number : (x : ℕ) → x < k → StepNumber kinds n listed count 0 x (m .image x)
+    image-number x h =
+        let few = place .few-letters in
+        rw (step-stays (r .kept) 0 x (omega arith) (omega arith)) (all .recorded .steps 0 x (omega arith) h)
 
     over-states : {M N : Matrix} → SameEntries n M N → SameEntries (t .states) M N
     over-states {M} {N} e = subst (λ (c : ℕ). SameEntries c M N) (sym (here .states)) e
 
     table : TableOf t (laidRule laid count k) (matrixAt listed)
+    unfolding stepEntry
     table = record {
       same-letters = sym (here .letters);
-      images = λ x h. letter-number x h .below;
+      images = λ x h. image-number x h .below;
       closed = λ i j hi hj. product-number i j hi hj .below;
-      letters = λ x h. over-states (same-trans (letter-same x h) (letter-number x h .same));
+      letters = λ x h. over-states (same-trans (letter-same x h) (image-number x h .same));
       products = λ i j hi hj.
           subst (λ (c : ℕ). SameEntries c (product c (matrixAt listed i) (matrixAt listed j)) (matrixAt listed (m .product i j))) (sym (here .states))
           (product-number i j hi hj .same);
@@ -131,7 +124,7 @@ module _ {t : Automaton} {kinds : List ℕ} {n k count : ℕ} {entry listed : Li
 
     -- the matrices are those of the list
     matrix-same : {i : ℕ} → i < count → SameEntries (t .states) (matrixAt listed i) (matrixAt laid i)
-    matrix-same h = let few = all .list .few in over-states (matrix-stays (r .kept) (all .list .few-states) (omega arith))
+    matrix-same h = let few = all .list .few in over-states (matrix-stays (kept-less (omega arith) (r .kept)) (all .list .few-states) (omega arith))
 
     pub laid-marking : MarkedBy t (laidRule laid count k) (matrixAt listed) (marked (laidMarks laid))
     unfolding marked level

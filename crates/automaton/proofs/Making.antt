@@ -12,11 +12,11 @@ use Rattle.matrixsearch.specs.declared.MatrixCount.{MatrixCount}
 use Rattle.matrixsearch.specs.declared.MatrixCount.the-variants.{Listed, TooMany}
 use Rattle.rulewriter.proofs.ReadBack.{written-rule}
 use Rattle.automaton.specs.Meaning.{automatonOf, richCheck}
-use Rattle.matrixtable.specs.Laying.{laidRule, laidMarks, ProductList, LetterList, RuleLaid, WritePlace, LaidWritten}
+use Rattle.matrixtable.specs.Laying.{laidRule, laidMarks, StepList, MarkPlace, RuleLaid, WritePlace, LaidWritten}
 use Rattle.automaton.specs.Promise.{ReadHere, MadePromise}
 use Rattle.automaton.specs.declared.Translated.the-variants.{Rule, Refused}
 use Rattle.automaton.proofs.Reading.{read-stands, read-place, read-letters}
-use Rattle.automaton.proofs.Made.{product-list, letter-list, laid-lawful, laid-matrices, laid-order, laid-marking, not-rich}
+use Rattle.automaton.proofs.Made.{step-list, mark-place, laid-lawful, laid-matrices, laid-order, laid-marking, not-rich}
 
 -- the bytes of the states
 abbrev kinds : List ℕ → List ℕ
@@ -39,11 +39,11 @@ module _ {bytes : List ℕ} {n k : ℕ} {out scratch listed : List ℕ} (r : Rea
     all : AllListed (kinds bytes) n k scratch listed count
     all = subst (ListAnswer (kinds bytes) n k scratch listed) e (a .says)
 
-    pub both-lists : ProductList n listed count × LetterList (kinds bytes) n k listed count
-    both-lists = (product-list (read-stands r) (read-place r) (a .kept) all, letter-list (read-stands r) (read-place r) (a .kept) all)
+    pub lay-place : StepList (kinds bytes) n listed count × MarkPlace (kinds bytes) n listed count
+    lay-place = (step-list (read-stands r) (read-place r) (a .kept) all, mark-place (read-stands r) (read-place r) (a .kept) all)
 
     -- and the rule was laid out
-    module _ {laid : List ℕ} (l : RuleLaid (kinds bytes) n k count listed laid) where
+    module _ {laid : List ℕ} (l : RuleLaid (kinds bytes) n count listed laid) where
       same-length : length laid ≡ length scratch
       same-length = l .kept .same-length ∙ a .kept .same-length
 

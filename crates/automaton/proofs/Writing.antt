@@ -6,12 +6,13 @@ use mathlib.Core.List.{List, _++_}
 use native.Mathlib.Omega.{arith}
 use native.Mathlib.Nat.{mul-le-mul}
 use lib.Dec.{ltb}
-use lib.ListN.{length, take, drop}
+use lib.ListN.{length, getD, take, drop}
 use Rattle.rulewriter.specs.File.{fileOf}
 use Rattle.rulewriter.specs.Writing.{tableMorphism, tableMarks, RulePlace, RuleWritten}
 use Rattle.rulewriter.proofs.Agree.{Agree}
 use Rattle.rulewriter.proofs.Same.{SameMarks, file-same}
 use Rattle.scratch.proofs.Parts.{part-length, part-byte}
+use Rattle.matrixsearch.specs.Lists.{stepPlace}
 use Rattle.matrixtable.specs.Laying.{laidRule, laidMarks, WritePlace, LaidWritten}
 use Rattle.matrixtable.proofs.Marks.{product-place}
 
@@ -26,25 +27,27 @@ module _ {count k : ℕ} {scratch out : List ℕ} (place : WritePlace count k sc
   square : count * count ≤ 4096
   square = mul-le-mul (place .few) (place .few)
 
-  pub rule-place : RulePlace (rest scratch 16384) (rest scratch 20480) (rest scratch 24576) count k out
+  pub rule-place : RulePlace (rest scratch 16384) (rest scratch 12288) (rest scratch 24576) count k out
   rule-place = record {
     some = place .some;
     small = place .few;
     letters-some = place .letters-some;
     letters-small = place .letters-few;
     table-long = omega (arith, square, place .laid-long, part-length scratch 16384 (from 16384 (omega arith)));
-    images-long = omega (arith, place .letters-few, place .laid-long, part-length scratch 20480 (from 20480 (omega arith)));
+    images-long = omega (arith, place .letters-few, place .laid-long, part-length scratch 12288 (from 12288 (omega arith)));
     marks-long = omega (arith, place .laid-long, part-length scratch 24576 (from 24576 (omega arith)));
     room = place .room;
   }
 
-  agree : Agree (laidRule scratch count k) (tableMorphism (rest scratch 16384) (rest scratch 20480) count k)
+  agree : Agree (laidRule scratch count k) (tableMorphism (rest scratch 16384) (rest scratch 12288) count k)
   agree = record {
     same-size = refl;
     same-letters = refl;
     same-product = λ a b ha hb.
         part-byte scratch 16384 (from 16384 (omega arith)) (a * count + b) (omega (arith, place .laid-long, product-place (place .few) ha hb));
-    same-image = λ a h. part-byte scratch 20480 (from 20480 (omega arith)) a (omega (arith, place .laid-long, place .letters-few));
+    same-image = λ a h.
+        let e : 12288 + a ≡ stepPlace 0 a = omega arith in
+        part-byte scratch 12288 (from 12288 (omega arith)) a (omega (arith, place .laid-long, place .letters-few)) ∙ ap (λ (i : ℕ). getD scratch i 0) e;
   }
 
   same-marks : SameMarks count (laidMarks scratch) (tableMarks (rest scratch 24576))
@@ -53,10 +56,10 @@ module _ {count k : ℕ} {scratch out : List ℕ} (place : WritePlace count k sc
     same = λ s e hs he. ap (ltb 0) (part-byte scratch 24576 (from 24576 (omega arith)) (s * 64 + e) (omega (arith, place .laid-long, place .few)));
   }
 
-  same-file : fileOf (tableMorphism (rest scratch 16384) (rest scratch 20480) count k) (tableMarks (rest scratch 24576)) ≡ fileOf (laidRule scratch count k) (laidMarks scratch)
+  same-file : fileOf (tableMorphism (rest scratch 16384) (rest scratch 12288) count k) (tableMarks (rest scratch 24576)) ≡ fileOf (laidRule scratch count k) (laidMarks scratch)
   same-file = file-same agree same-marks
 
-  pub laid-written : {exit : List ℕ} {r : ℕ} → RuleWritten (rest scratch 16384) (rest scratch 20480) (rest scratch 24576) count k out exit r
+  pub laid-written : {exit : List ℕ} {r : ℕ} → RuleWritten (rest scratch 16384) (rest scratch 12288) (rest scratch 24576) count k out exit r
       → LaidWritten scratch count k out exit r
   laid-written w = record {
     holds = w .holds ∙ ap (λ (f : List ℕ). f ++ drop (length f) out) same-file;

@@ -1,31 +1,29 @@
 // The rule of an automaton. Its elements are the matrices of all non-empty words, numbered in the order in which they are found.
 //
-// Scratch holds the bytes of the transitions up to byte 576 and the matrices from byte 8192 on. Behind them the rule is laid out:
-// from byte 16384 on the products, by rows as the file has them, from byte 20480 on the element of each letter, and from byte
-// 24576 on the marks, a byte for each pair (s, e) at s * 64 + e.
+// Scratch holds the bytes of the transitions up to byte 576, the matrices from byte 8192 on, and from byte 12288 on what is recorded
+// while they are found, first of all the element of each letter. Behind them the rule is laid out: from byte 16384 on the products, by
+// rows as the file has them, and from byte 24576 on the marks, a byte for each pair (s, e) at s * 64 + e.
 use answer::Refusal;
 use automatonfile::AutomatonRead;
 use automatonfile::read_automaton;
 use matrixlist::list_matrices;
 use matrixmarks::lay_marks;
 use matrixsearch::MatrixCount;
-use matrixtable::lay_letters;
 use matrixtable::lay_products;
 use rulewriter::write_rule;
 use sections::zero;
 ghost use Prim.Native.Nat.{_<_};
 ghost use lib.ListN.{length};
-ghost use Rattle.matrixtable.specs.Laying.{ProductList, LetterList, RuleLaid, WritePlace, LaidWritten};
+ghost use Rattle.matrixtable.specs.Laying.{StepList, MarkPlace, RuleLaid, WritePlace, LaidWritten};
 ghost use Rattle.automaton.specs.Promise.{ReadHere, MadePromise, RulePromise};
 
 // Lays out the rule whose elements are the listed matrices.
-fn lay_rule(kinds: &[u8], n: usize, k: usize, scratch: &mut [u8], count: usize)
-    requires { ⌜ ProductList n (now scratch) count ⌝ }
-    requires { ⌜ LetterList (now kinds) n k (now scratch) count ⌝ }
-    ensures { λ _. ⌜ RuleLaid (now (kinds .entry)) n k count (now (scratch .entry)) (now (scratch .exit)) ⌝ }
+fn lay_rule(kinds: &[u8], n: usize, scratch: &mut [u8], count: usize)
+    requires { ⌜ StepList (now kinds) n (now scratch) count ⌝ }
+    requires { ⌜ MarkPlace (now kinds) n (now scratch) count ⌝ }
+    ensures { λ _. ⌜ RuleLaid (now (kinds .entry)) n count (now (scratch .entry)) (now (scratch .exit)) ⌝ }
 {
-    lay_products(scratch, n, count);
-    lay_letters(kinds, n, k, scratch, count);
+    lay_products(scratch, count);
     lay_marks(kinds, n, scratch, count);
 }
 
@@ -35,7 +33,7 @@ fn write_laid(scratch: &[u8], count: usize, k: usize, out: &mut [u8]) -> usize
     ensures { λ r. ⌜ LaidWritten (now (scratch .entry)) count k (now (out .entry)) (now (out .exit)) r ⌝ }
 {
     let table = &scratch[16384..];
-    let images = &scratch[20480..];
+    let images = &scratch[12288..];
     let marks = &scratch[24576..];
     write_rule(table, images, marks, count, k, out)
 }
@@ -67,7 +65,7 @@ fn make_rule(automaton: &[u8], n: usize, k: usize, out: &mut [u8], scratch: &mut
             };
         }
     };
-    lay_rule(kinds, n, k, scratch, count);
+    lay_rule(kinds, n, scratch, count);
     let length = write_laid(scratch, count, k, out);
     zero(scratch);
     Translated::Rule(length)

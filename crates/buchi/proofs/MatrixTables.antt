@@ -10,7 +10,7 @@ use Rattle.theory.proofs.Values.{element-same, element-apart, value-some}
 use Rattle.buchi.specs.Automata.{Automaton}
 use Rattle.buchi.specs.Matrices.{Matrix, IsMatrix, SameEntries, OtherEntry}
 use Rattle.buchi.specs.Rule.{MatrixWord, MatricesOf}
-use Rattle.buchi.proofs.Products.{product, product-same, product-associative, same-refl, same-sym, same-trans, equal-numbers}
+use Rattle.buchi.proofs.Products.{product, product-along, same-sym, same-trans, equal-numbers}
 use Rattle.buchi.proofs.WordMatrices.{matrix-same, matrix-append, letter-matrix, letter-is-matrix}
 
 -- the table's elements are matrices, and its product is theirs
@@ -39,11 +39,9 @@ module _ {a : Automaton} {m : Morphism} {matrix : ℕ → Matrix} (table : Table
   associates r s t hr hs ht =
       let hrs = table .closed r s hr hs in
       let hst = table .closed s t hs ht in
-      let n = a .states in
       injective (table .closed (m .product r s) t hrs ht) (table .closed r (m .product s t) hr hst)
-      (same-trans (same-sym (same-trans (product-same {M = product n (matrix r) (matrix s)} {N = matrix t} (table .products r s hr hs) same-refl) (table .products (m .product r s) t hrs ht)))
-      (same-trans (record { same = λ p q hp hq. product-associative n (matrix r) (matrix s) (matrix t) p q })
-      (same-trans (product-same {M = matrix r} {N = product n (matrix s) (matrix t)} same-refl (table .products s t hs ht)) (table .products r (m .product s t) hr hst))))
+      (same-trans (same-sym (product-along (matrix r) (matrix s) (matrix t) (table .products r s hr hs) (table .products s t hs ht) (table .products (m .product r s) t hrs ht)))
+      (table .products r (m .product s t) hr hst))
 
   pub table-lawful : Lawful m
   table-lawful = record { closed = table .closed; associative = associates; images = table .images }

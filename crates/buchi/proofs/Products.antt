@@ -214,3 +214,11 @@ module _ (n : ℕ) (K M N : Matrix) (p q : ℕ) where
   product-associative =
       reach-same (λ g some h. product-intro n K (product n M N) p q (via-right (left-via some (product-elim n (product n K M) N p q some h))))
       (λ g some h. product-intro n (product n K M) N p q (via-left (right-via some (product-elim n K (product n M N) p q some h))))
+
+-- along a word: where T is the product of K and M, and Y that of M and N, the product of K and Y is that of T and N
+pub product-along : {n : ℕ} (K M N : Matrix) {T Y R : Matrix} → SameEntries n (product n K M) T → SameEntries n (product n M N) Y → SameEntries n (product n T N) R
+    → SameEntries n (product n K Y) R
+product-along {n} K M N t y r =
+    same-trans (product-same same-refl (same-sym y))
+    (same-trans (same-sym (record { same = λ p q hp hq. product-associative n K M N p q }))
+    (same-trans (product-same t same-refl) r))

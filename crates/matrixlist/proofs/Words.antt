@@ -83,8 +83,8 @@ module _ (matrix : ℕ → Matrix) (c : ℕ) (M : Matrix) (i : ℕ) where
 
 module _ {kinds : List ℕ} {n k count : ℕ} {entry : List ℕ} {m : List (List ℕ)} (w : WordList kinds n k entry count) (new : IsWord kinds n k entry (entryIn m)) where
   -- a matrix more
-  pub words-added : {exit : List ℕ} {total : ℕ} → AddedTo n entry count m exit total → WordList kinds n k exit total
-  words-added {exit} {total} a = record { list = a .grown .list; words = λ i h. word-kept (a .grown .kept) (which i h (le-or-lt count i)) }
+  pub words-added : {exit : List ℕ} {number total : ℕ} → AddedTo n entry count m exit number total → WordList kinds n k exit total
+  words-added {exit} {total = total} a = record { list = a .grown .list; words = λ i h. word-kept (a .grown .kept) (which i h (le-or-lt count i)) }
     where
       which : (i : ℕ) → i < total → (count ≤ i) ⊎ (i < count) → IsWord kinds n k entry (matrixAt exit i)
       which i h (inl l) = word-same (a .only i l h) new

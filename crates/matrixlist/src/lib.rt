@@ -1,26 +1,26 @@
 // All matrices of an automaton's non-empty words: a worklist from the letters' matrices, each matrix of the list multiplied with
-// those of the letters.
+// those of the letters. Where each letter leads, and how each matrix was found, is recorded on the way.
 //
 // The bytes of the transitions stand in scratch up to byte 576. The list begins at byte 8192 and takes 64 bytes a matrix, so that
-// 64 matrices end at byte 12288.
+// 64 matrices end at byte 12288. What is recorded stands behind it, as matrixsearch has it, and ends before byte 16384.
 use matrices::letter_matrix;
 use matrices::load_matrix;
 use matrixproducts::matrix_product;
 use matrixsearch::MatrixCount;
-use matrixsearch::add_matrix;
-ghost use Prim.Native.Nat.{_≤_, _<_};
+use matrixsearch::add_step;
+ghost use Prim.Native.Nat.{_+_, _≤_, _<_};
 ghost use Rattle.matrixsearch.specs.Lists.{ListPlace, MatricesAnswer};
-ghost use Rattle.matrixsearch.specs.Steps.{WordList, LettersListed, LettersAdded, ProductsAdded};
+ghost use Rattle.matrixsearch.specs.Steps.{StepsTaken, Followed};
 
 // Adds the matrix of every letter.
 fn add_letters(kinds: &[u8], n: usize, k: usize, scratch: &mut [u8]) -> MatrixCount
     requires { ⌜ ListPlace (now kinds) n k (now scratch) ⌝ }
-    ensures { λ r. ⌜ LettersAdded (now (kinds .entry)) n k (now (scratch .entry)) (now (scratch .exit)) r ⌝ }
+    ensures { λ r. ⌜ Followed (now (kinds .entry)) n k (now (scratch .entry)) 0 0 (now (scratch .exit)) r ⌝ }
 {
     let mut total = 0;
     for letter in 0..k {
         let m = letter_matrix(kinds, n, scratch, letter);
-        let next = match add_matrix(scratch, n, total, m) {
+        let next = match add_step(scratch, n, total, 0, letter, m) {
             MatrixCount::Listed(c) => c,
             MatrixCount::TooMany => {
                 return MatrixCount::TooMany;
@@ -41,16 +41,16 @@ fn add_products(
     from: usize,
 ) -> MatrixCount
     requires { ⌜ ListPlace (now kinds) n k (now scratch) ⌝ }
-    requires { ⌜ WordList (now kinds) n k (now scratch) count ⌝ }
+    requires { ⌜ StepsTaken (now kinds) n k (now scratch) (now scratch) count (from + 1) 0 ⌝ }
     requires { ⌜ from < count ⌝ }
-    ensures { λ r. ⌜ ProductsAdded (now (kinds .entry)) n k (now (scratch .entry)) count from (now (scratch .exit)) r ⌝ }
+    ensures { λ r. ⌜ Followed (now (kinds .entry)) n k (now (scratch .entry)) count (from + 1) (now (scratch .exit)) r ⌝ }
 {
     let left = load_matrix(scratch, 8192, from);
     let mut total = count;
     for letter in 0..k {
         let right = letter_matrix(kinds, n, scratch, letter);
         let m = matrix_product(n, left, right);
-        let next = match add_matrix(scratch, n, total, m) {
+        let next = match add_step(scratch, n, total, from + 1, letter, m) {
             MatrixCount::Listed(c) => c,
             MatrixCount::TooMany => {
                 return MatrixCount::TooMany;
@@ -64,7 +64,7 @@ fn add_products(
 // Goes through the list, from its first matrix to those that are added.
 fn close_list(kinds: &[u8], n: usize, k: usize, scratch: &mut [u8], begun: usize) -> MatrixCount
     requires { ⌜ ListPlace (now kinds) n k (now scratch) ⌝ }
-    requires { ⌜ LettersListed (now kinds) n k (now scratch) (now scratch) begun k ⌝ }
+    requires { ⌜ StepsTaken (now kinds) n k (now scratch) (now scratch) begun 1 0 ⌝ }
     requires { ⌜ 1 ≤ k ⌝ }
     ensures { λ r. ⌜ MatricesAnswer (now (kinds .entry)) n k (now (scratch .entry)) (now (scratch .exit)) r ⌝ }
 {

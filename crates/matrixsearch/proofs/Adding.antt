@@ -1,10 +1,11 @@
 -- One matrix added to the list, unless it is there or the list is full. Assumes nothing.
 use Prim.Native.Nat.{ℕ, _+_, _≤_, _<_}
-use mathlib.Core.Path.{_≡_, sym, _∙_}
+use mathlib.Core.Path.{_≡_, refl, sym, _∙_}
 use mathlib.Core.Logic.{_≢_}
 use mathlib.Core.List.{List}
 use native.Mathlib.Omega.{arith}
 use native.Mathlib.Decide.{ℕ-discrete}
+use lib.ListN.{getD}
 use Rattle.buchi.specs.Matrices.{SameEntries, OtherEntry}
 use Rattle.buchi.proofs.MatrixLists.{number-of}
 use Rattle.matrixproducts.specs.Arrays.{entryIn, StateEntries, MatrixShape}
@@ -12,19 +13,23 @@ use Rattle.matrices.specs.Bytes.{Stored}
 use Rattle.matrices.proofs.Storing.{stored-same, stored-entries, stored-other}
 use Rattle.matrixsearch.specs.Lists.{matrixAt, MatrixList, Kept}
 use Rattle.matrixsearch.specs.Steps.{Added}
-use Rattle.matrixsearch.specs.declared.MatrixCount.the-variants.{Listed, TooMany}
-use Rattle.matrixsearch.proofs.Finding.{answer-among, answer-other}
+use Rattle.matrixsearch.specs.declared.Addition.the-variants.{Placed, NoPlace}
+use Rattle.matrixsearch.proofs.Finding.{answer-same, answer-other}
 use Rattle.matrixsearch.proofs.Growing.{other-same, other-sym, kept-refl, grown-refl}
 
 module _ {n count at : ℕ} {scratch : List ℕ} {m : List (List ℕ)} (list : MatrixList n scratch count)
     (e : at ≡ number-of n count (matrixAt scratch) (entryIn m)) where
   -- it is there
-  pub add-there : at < count → Added n scratch count m scratch (Listed count)
-  add-there h = record { kept = kept-refl; says = record { grown = grown-refl list; among = answer-among (matrixAt scratch) (entryIn m) e h; only = λ j l b. absurd (omega arith) } }
+  pub add-there : at < count → Added n scratch count m scratch (Placed at count)
+  add-there h = record {
+    kept = kept-refl;
+    behind = λ i l. refl;
+    says = record { grown = grown-refl list; below = h; same = answer-same (matrixAt scratch) (entryIn m) e h; only = λ j l b. absurd (omega arith); one-more = omega arith };
+  }
 
   -- the list is full
-  pub add-full : count ≤ at → count ≡ 64 → Added n scratch count m scratch TooMany
-  add-full h d = record { kept = kept-refl; says = record { full = d; other = answer-other (matrixAt scratch) (entryIn m) e h } }
+  pub add-full : count ≤ at → count ≡ 64 → Added n scratch count m scratch NoPlace
+  add-full h d = record { kept = kept-refl; behind = λ i l. refl; says = record { full = d; other = answer-other (matrixAt scratch) (entryIn m) e h } }
 
   -- it gets the next place
   module _ {exit : List ℕ} (h : count ≤ at) (f : count ≢ 64) (shape : MatrixShape n m) (s : Stored scratch exit 8192 count m 6) where
@@ -63,11 +68,10 @@ module _ {n count at : ℕ} {scratch : List ℕ} {m : List (List ℕ)} (list : M
     kept : Kept scratch exit
     kept =
         let few = list .few in
-        record {
-          same-length = s .same-length;
-          before = λ j l. s .before j (omega arith);
-          behind = λ j l. s .behind j (omega arith);
-        }
+        record { same-length = s .same-length; same = λ j l. s .before j (omega arith) }
+
+    list-only : (i : ℕ) → 12288 ≤ i → getD exit i 0 ≡ getD scratch i 0
+    list-only i l = let few = list .few in s .behind i (omega arith)
 
     longer : MatrixList n exit (count + 1)
     longer =
@@ -83,12 +87,15 @@ module _ {n count at : ℕ} {scratch : List ℕ} {m : List (List ℕ)} (list : M
     only : (j : ℕ) → count ≤ j → j < count + 1 → SameEntries n (entryIn m) (matrixAt exit j)
     only j l b = let d : j ≡ count = omega arith in rw d new
 
-    pub add-new : Added n scratch count m exit (Listed (count + 1))
+    pub add-new : Added n scratch count m exit (Placed count (count + 1))
     add-new = record {
       kept = kept;
+      behind = list-only;
       says = record {
         grown = record { list = longer; more = omega arith; same = old; kept = kept };
-        among = record { at = count; below = omega arith; same = new };
+        below = omega arith;
+        same = new;
         only = only;
+        one-more = omega arith;
       };
     }

@@ -8,9 +8,9 @@ use borrow.Author.Count.{below-more}
 use lib.Dec.{T}
 use Rattle.finite.proofs.Tests.{true-T}
 use Rattle.finite.proofs.Search.{least-unique, least-none, least-first, least-holds}
-use Rattle.buchi.specs.Matrices.{Matrix, OtherEntry}
+use Rattle.buchi.specs.Matrices.{Matrix, SameEntries, OtherEntry}
 use Rattle.buchi.proofs.MatrixTests.{same-test, same-elim, other-elim}
-use Rattle.buchi.proofs.MatrixLists.{Among, number-of}
+use Rattle.buchi.proofs.MatrixLists.{number-of}
 use Rattle.matrixproducts.specs.Arrays.{entryIn}
 use Rattle.matrices.specs.Bytes.{MatrixPlace}
 use Rattle.matrixsearch.specs.Lists.{matrixAt, MatrixList}
@@ -48,13 +48,9 @@ module _ {n : ℕ} {scratch : List ℕ} {count : ℕ} {m : List (List ℕ)} wher
 -- ---- what its answer says
 
 module _ {n count at : ℕ} (matrix : ℕ → Matrix) (M : Matrix) (e : at ≡ number-of n count matrix M) where
-  pub answer-among : at < count → Among n count matrix M
+  pub answer-same : at < count → SameEntries n M (matrix at)
   unfolding number-of
-  answer-among h = record {
-    at = at;
-    below = h;
-    same = same-elim n M (matrix at) (subst (λ i. T (same-test n M (matrix i))) (sym e) (least-holds count (λ j. same-test n M (matrix j)) (subst (λ i. i < count) e h)));
-  }
+  answer-same h = same-elim n M (matrix at) (subst (λ i. T (same-test n M (matrix i))) (sym e) (least-holds count (λ j. same-test n M (matrix j)) (subst (λ i. i < count) e h)))
 
   pub answer-other : count ≤ at → (i : ℕ) → i < count → OtherEntry n M (matrix i)
   unfolding number-of

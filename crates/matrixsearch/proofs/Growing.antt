@@ -1,6 +1,5 @@
--- Lists of matrices that grow: what is in a list stays in it, a step after a step is a step, and the bytes of the transitions are
--- kept. Assumes nothing.
-use Prim.Native.Nat.{ℕ, _<_}
+-- Lists of matrices that grow: a step after a step is a step, and the bytes of the transitions are kept. Assumes nothing.
+use Prim.Native.Nat.{ℕ, _≤_, _<_}
 use mathlib.Core.Path.{refl, sym, _∙_}
 use mathlib.Core.List.{List}
 use native.Mathlib.Omega.{arith}
@@ -10,7 +9,7 @@ use Rattle.buchi.proofs.Products.{same-trans, same-sym, same-refl}
 use Rattle.buchi.proofs.MatrixLists.{Among}
 use Rattle.matrices.specs.Bytes.{letterEntry}
 use Rattle.matrices.proofs.Letters.{SameSteps, letter-kept, stands-kept}
-use Rattle.matrixsearch.specs.Lists.{matrixAt, ListPlace, StandsHere, MatrixList, Kept}
+use Rattle.matrixsearch.specs.Lists.{ListPlace, StandsHere, MatrixList, KeptBelow, Kept}
 use Rattle.matrixsearch.specs.Steps.{Grown}
 
 -- ---- entries
@@ -34,21 +33,20 @@ among-same e a = record { at = a .at; below = a .below; same = same-trans (same-
 
 -- ---- bytes
 
-pub kept-refl : {scratch : List ℕ} → Kept scratch scratch
-kept-refl = record { same-length = refl; before = λ j h. refl; behind = λ j h. refl }
+pub kept-refl : {limit : ℕ} {l : List ℕ} → KeptBelow limit l l
+kept-refl = record { same-length = refl; same = λ i h. refl }
 
-pub kept-trans : {a b c : List ℕ} → Kept a b → Kept b c → Kept a c
-kept-trans k l = record {
-  same-length = l .same-length ∙ k .same-length;
-  before = λ j h. l .before j h ∙ k .before j h;
-  behind = λ j h. l .behind j h ∙ k .behind j h;
-}
+pub kept-sym : {limit : ℕ} {a b : List ℕ} → KeptBelow limit a b → KeptBelow limit b a
+kept-sym k = record { same-length = sym (k .same-length); same = λ i h. sym (k .same i h) }
 
-pub kept-sym : {a b : List ℕ} → Kept a b → Kept b a
-kept-sym k = record { same-length = sym (k .same-length); before = λ j h. sym (k .before j h); behind = λ j h. sym (k .behind j h) }
+pub kept-trans : {limit : ℕ} {a b c : List ℕ} → KeptBelow limit a b → KeptBelow limit b c → KeptBelow limit a c
+kept-trans k l = record { same-length = l .same-length ∙ k .same-length; same = λ i h. l .same i h ∙ k .same i h }
+
+pub kept-less : {limit less : ℕ} {a b : List ℕ} → less ≤ limit → KeptBelow limit a b → KeptBelow less a b
+kept-less le k = record { same-length = k .same-length; same = λ i h. k .same i (omega arith) }
 
 pub kept-steps : {a b : List ℕ} → Kept a b → SameSteps a b
-kept-steps k = record { same-length = k .same-length; same = λ i h. k .before i (omega arith) }
+kept-steps k = record { same-length = k .same-length; same = λ i h. k .same i (omega arith) }
 
 pub here-kept : {t : Automaton} {kinds : List ℕ} {n k : ℕ} {a b : List ℕ} → Kept a b → StandsHere t kinds n k a → StandsHere t kinds n k b
 here-kept h s = record { stands = stands-kept (kept-steps h) (s .stands); states = s .states; letters = s .letters }
@@ -68,12 +66,6 @@ grown-trans g h =
     record { list = h .list; more = omega arith; same = λ x b. same-trans (g .same x b) (h .same x (omega arith)); kept = kept-trans (g .kept) (h .kept) }
 
 module _ {n count total : ℕ} {entry exit : List ℕ} (g : Grown n entry count exit total) where
-  pub among-grown : {M : Matrix} → Among n count (matrixAt entry) M → Among n total (matrixAt exit) M
-  among-grown a =
-      let h = a .below in
-      let l = g .more in
-      record { at = a .at; below = omega arith; same = same-trans (a .same) (g .same (a .at) (a .below)) }
-
   -- the letters' matrices are as they were
   pub letter-grown : (kinds : List ℕ) (x : ℕ) → x < 16 → SameEntries n (letterEntry kinds entry x) (letterEntry kinds exit x)
   letter-grown kinds x h = letter-kept (kept-steps (g .kept)) kinds n x (g .list .few-states) h

@@ -1,3 +1,5 @@
 pub mod Finding
 pub mod Growing
+pub mod Staying
 pub mod Adding
+pub mod Recording

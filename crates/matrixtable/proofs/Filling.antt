@@ -1,7 +1,7 @@
 -- Bytes that are filled one after the other, row after row: each holds what is asked of it, and the bytes before the first are as
 -- they were. Assumes nothing.
 use Prim.Native.Nat.{ℕ, _+_, _*_, _≤_, _<_}
-use mathlib.Core.Path.{_≡_, refl, sym, _∙_, subst}
+use mathlib.Core.Path.{_≡_, sym, _∙_, subst}
 use mathlib.Core.Logic.{_≢_}
 use mathlib.Core.List.{List}
 use native.Mathlib.Omega.{arith}
@@ -9,21 +9,8 @@ use native.Mathlib.Decide.{ℕ-discrete}
 use lib.Arith.{digits-lt}
 use lib.ListN.{length, getD, set, length-set}
 use lib.Seq.{getD-set-same, getD-set-other}
-use Rattle.matrixtable.specs.Laying.{KeptBelow, RowFilled, RowsFilled}
-
--- ---- bytes that stay
-
-pub kept-refl : {limit : ℕ} {l : List ℕ} → KeptBelow limit l l
-kept-refl = record { same-length = refl; same = λ i h. refl }
-
-pub kept-sym : {limit : ℕ} {a b : List ℕ} → KeptBelow limit a b → KeptBelow limit b a
-kept-sym k = record { same-length = sym (k .same-length); same = λ i h. sym (k .same i h) }
-
-pub kept-trans : {limit : ℕ} {a b c : List ℕ} → KeptBelow limit a b → KeptBelow limit b c → KeptBelow limit a c
-kept-trans k l = record { same-length = l .same-length ∙ k .same-length; same = λ i h. l .same i h ∙ k .same i h }
-
-pub kept-less : {limit less : ℕ} {a b : List ℕ} → less ≤ limit → KeptBelow limit a b → KeptBelow less a b
-kept-less le k = record { same-length = k .same-length; same = λ i h. k .same i (omega arith) }
+use Rattle.matrixsearch.proofs.Growing.{kept-refl, kept-trans, kept-less}
+use Rattle.matrixtable.specs.Laying.{RowFilled, RowsFilled}
 
 -- ---- a row
 
@@ -91,3 +78,8 @@ module _ {P : ℕ → ℕ → ℕ → Type 0} {base width columns : ℕ} where
   -- all rows
   pub rows-all : {entry now : List ℕ} {i rows : ℕ} → i ≤ rows → rows ≤ i → RowsFilled P base width i columns entry now → RowsFilled P base width rows columns entry now
   rows-all h l r = record { kept = r .kept; filled = λ x j g. r .filled x j (omega arith) }
+
+  -- bytes of which more is known
+  pub rows-known : {Q : ℕ → ℕ → ℕ → Type 0} {rows : ℕ} {entry now : List ℕ} → ((i j byte : ℕ) → P i j byte → Q i j byte)
+      → RowsFilled P base width rows columns entry now → RowsFilled Q base width rows columns entry now
+  rows-known f r = record { kept = r .kept; filled = λ i j hi hj. f i j _ (r .filled i j hi hj) }

@@ -15,10 +15,10 @@ use Rattle.buchi.specs.Automata.{Automaton}
 use Rattle.buchi.specs.Matrices.{Matrix, SameEntries}
 use Rattle.buchi.specs.Rule.{Recurs}
 use Rattle.buchi.proofs.MatrixTests.{recurs-test, recurs-intro, recurs-elim}
-use Rattle.matrixsearch.specs.Lists.{matrixAt}
-use Rattle.matrixtable.specs.Laying.{KeptBelow, laidRule, initialStates, PairPlace, MarkPlace, MarkByte}
-use Rattle.matrixtable.proofs.Filling.{kept-sym, kept-less}
-use Rattle.matrixtable.proofs.Staying.{matrix-stays}
+use Rattle.matrixsearch.specs.Lists.{matrixAt, KeptBelow}
+use Rattle.matrixsearch.proofs.Growing.{kept-sym, kept-less}
+use Rattle.matrixsearch.proofs.Staying.{matrix-stays}
+use Rattle.matrixtable.specs.Laying.{laidRule, initialStates, PairPlace, MarkPlace, MarkByte}
 use Rattle.matrixtable.proofs.Tests.{not-not}
 
 -- the products of count matrices take up no more than 4096 bytes
@@ -92,7 +92,7 @@ module _ {a b : List ℕ} {count : ℕ} (kept : KeptBelow 24576 a b) (few : coun
   recurs-stays : (kinds : List ℕ) {n s e : ℕ} → n ≤ 6 → s < count → e < count
       → Recurs (initialStates kinds n) (matrixAt a s) (matrixAt a e) → Recurs (initialStates kinds n) (matrixAt b s) (matrixAt b e)
   recurs-stays kinds small hs he r =
-      let k : KeptBelow 16384 a b = kept-less (omega arith) kept in
+      let k : KeptBelow 12288 a b = kept-less (omega arith) kept in
       recurs-same (matrix-stays k small (omega arith)) (matrix-stays k small (omega arith)) r
 
 pub mark-stays : {kinds a b : List ℕ} {n count s e byte : ℕ} → KeptBelow 24576 a b → n ≤ 6 → count ≤ 64 → s < count → e < count

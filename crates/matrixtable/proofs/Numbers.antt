@@ -1,48 +1,85 @@
--- The search of the list finds the product of two of its matrices, and the matrix of a letter. Assumes nothing.
-use Prim.Native.Nat.{ℕ, _≤_, _<_}
-use mathlib.Core.Path.{_≡_, sym, subst}
+-- The number of a product along the step by which its second factor was found: of a letter's own matrix it is where the letter leads
+-- from the first factor, and of a product p · g where g leads from the product with p. Assumes nothing.
+use Prim.Native.Nat.{ℕ, suc, _+_, _*_, _-_, _<_}
+use mathlib.Core.Path.{_≡_, subst}
+use mathlib.Core.Logic.{_≢_}
 use mathlib.Core.List.{List}
-use Rattle.buchi.specs.Matrices.{Matrix, SameEntries}
-use Rattle.buchi.proofs.Products.{product-same, same-trans}
-use Rattle.buchi.proofs.MatrixLists.{Among, number-of, number-below, number-same}
-use Rattle.matrixproducts.specs.Arrays.{entryIn, MatrixShape, IsProduct}
-use Rattle.matrices.specs.Bytes.{IsLetter, Loaded}
-use Rattle.matrices.proofs.Storing.{loaded-same, loaded-shape}
-use Rattle.matrixsearch.specs.Lists.{matrixAt}
-use Rattle.matrixsearch.proofs.Growing.{among-same}
-use Rattle.matrixlist.proofs.Letters.{letter-place}
-use Rattle.matrixtable.specs.Laying.{ProductList, LetterListed, LetterList, ProductNumber, LetterNumber}
+use native.Mathlib.Numerals.{add-one}
+use native.Mathlib.Omega.{arith}
+use lib.ListN.{getD}
+use Rattle.buchi.specs.Matrices.{SameEntries}
+use Rattle.buchi.proofs.Products.{product, product-same, product-along, same-refl, same-sym, same-trans}
+use Rattle.matrices.specs.Bytes.{letterEntry}
+use Rattle.matrixsearch.specs.Lists.{matrixAt, nextAt, parentAt, letterAt, stepEntry}
+use Rattle.matrixtable.specs.Laying.{StepPlace, StepList, RowLaid, TableNumber}
+use Rattle.matrixtable.proofs.Marks.{product-place}
 
--- where a matrix of the list has the entries of M, the number that was found is its number
-module _ {n count r : ℕ} (matrix : ℕ → Matrix) {M N : Matrix} (k : Among n count matrix M) (e : SameEntries n M N) (found : r ≡ number-of n count matrix N) where
-  found-below : r < count
-  found-below = rw found (number-below (among-same e k))
-
-  found-same : SameEntries n M (matrix r)
-  found-same = same-trans e (subst (λ (i : ℕ). SameEntries n N (matrix i)) (sym found) (number-same (among-same e k)))
-
--- a product of matrices that were read
-module _ {n count i j : ℕ} {scratch : List ℕ} {left right : List (List ℕ)} (l : ProductList n scratch count) (hi : i < count) (hj : j < count)
-    (a : Loaded scratch 8192 i left) (b : Loaded scratch 8192 j right) where
-  pub factors : (n ≤ 6) × ((MatrixShape n left) × (MatrixShape n right))
-  factors = (l .list .few-states, (loaded-shape (l .list .entries i hi) a, loaded-shape (l .list .entries j hj) b))
-
-  pub product-found : {m : List (List ℕ)} {r : ℕ} → IsProduct n left right m → r ≡ number-of n count (matrixAt scratch) (entryIn m) → ProductNumber n count scratch i j r
-  product-found p e =
-      let few = l .list .few-states in
-      let same = same-trans (product-same (loaded-same few a) (loaded-same few b)) (p .same) in
-      record {
-        below = found-below (matrixAt scratch) (l .products i j hi hj) same e;
-        same = found-same (matrixAt scratch) (l .products i j hi hj) same e;
-      }
-
--- the matrix of a letter
-pub letter-listed : {kinds : List ℕ} {n k count x : ℕ} {scratch : List ℕ} → LetterList kinds n k scratch count → x < k → LetterListed kinds n scratch count x
-letter-listed l h = record { place = letter-place (l .place) (l .list) h; list = l .list; among = l .letters _ h }
-
-pub letter-found : {kinds : List ℕ} {n count x r : ℕ} {scratch : List ℕ} {m : List (List ℕ)} → LetterListed kinds n scratch count x → IsLetter kinds n scratch x m
-    → r ≡ number-of n count (matrixAt scratch) (entryIn m) → LetterNumber kinds n count scratch x r
-letter-found {scratch = scratch} l p e = record {
-  below = found-below (matrixAt scratch) (l .among) (p .same) e;
-  same = found-same (matrixAt scratch) (l .among) (p .same) e;
+-- what was recorded of a list is there
+pub step-place : {kinds : List ℕ} {n count : ℕ} {scratch : List ℕ} → StepList kinds n scratch count → StepPlace scratch count
+step-place {count = count} l = record {
+  few = l .list .few;
+  room = l .list .room;
+  parents = λ j h. l .recorded .sources j h .parent-before;
+  letters = λ j h. omega (arith, l .recorded .sources j h .letter-lt, l .few-letters);
+  steps = λ i j hi hj. l .recorded .steps (i + 1) _ (omega arith) (l .recorded .sources j hj .letter-lt) .below;
 }
+
+-- ---- one step
+
+module _ {kinds : List ℕ} {n count : ℕ} {scratch : List ℕ} (l : StepList kinds n scratch count) where
+  -- where a letter leads from matrix i
+  step-same : (i x : ℕ) → i < count → x < l .letters → SameEntries n (product n (matrixAt scratch i) (letterEntry kinds scratch x)) (matrixAt scratch (nextAt scratch (i + 1) x))
+  unfolding stepEntry
+  step-same i x h b =
+      subst (λ p. SameEntries n (stepEntry kinds n scratch p x) (matrixAt scratch (nextAt scratch (i + 1) x))) (add-one i) (l .recorded .steps (i + 1) x (omega arith) b .same)
+
+  -- how matrix j was found
+  source-same : (j p : ℕ) → j < count → parentAt scratch j ≡ p → SameEntries n (stepEntry kinds n scratch p (letterAt scratch j)) (matrixAt scratch j)
+  source-same j p h e = subst (λ p. SameEntries n (stepEntry kinds n scratch p (letterAt scratch j)) (matrixAt scratch j)) e (l .recorded .sources j h .same)
+
+module _ {count i j : ℕ} {scratch : List ℕ} (place : StepPlace scratch count) (hi : i < count) (hj : j < count) where
+  pub letter-small : letterAt scratch j < 16
+  letter-small = place .letters j hj
+
+  -- a letter's own matrix
+  pub letter-product : parentAt scratch j ≡ 0 → TableNumber count scratch i j (nextAt scratch (i + 1) (letterAt scratch j))
+  unfolding stepEntry
+  letter-product e = record {
+    below = place .steps i j hi hj;
+    is-product = λ kinds n l. record {
+      below = place .steps i j hi hj;
+      same = same-trans (product-same same-refl (same-sym (source-same l j 0 hj e))) (step-same l i (letterAt scratch j) hi (l .recorded .sources j hj .letter-lt));
+    };
+  }
+
+  -- the matrix before the last letter
+  module _ (row : RowLaid count scratch i j) (some : parentAt scratch j ≢ 0) where
+    abbrev before : ℕ
+    before = getD scratch (16384 + i * count + (parentAt scratch j - 1)) 0
+
+    earlier : parentAt scratch j - 1 < j
+    earlier = omega (arith, place .parents j hj)
+
+    number : TableNumber count scratch i (parentAt scratch j - 1) before
+    number = row .numbers (parentAt scratch j - 1) earlier
+
+    pub before-place : i * count + (parentAt scratch j - 1) < 4096
+    before-place = let h = earlier in product-place (place .few) hi (omega arith)
+
+    pub before-below : getD scratch (16384 + i * count + (parentAt scratch j - 1)) 0 < count
+    before-below = number .below
+
+    pub longer-product : TableNumber count scratch i j (nextAt scratch (getD scratch (16384 + i * count + (parentAt scratch j - 1)) 0 + 1) (letterAt scratch j))
+    unfolding stepEntry
+    longer-product =
+        let p = parentAt scratch j - 1 in
+        let e : parentAt scratch j ≡ suc p = omega arith in
+        record {
+          below = place .steps before j before-below hj;
+          is-product = λ kinds n l. record {
+            below = place .steps before j before-below hj;
+            same =
+                product-along (matrixAt scratch i) (matrixAt scratch p) (letterEntry kinds scratch (letterAt scratch j)) (number .is-product kinds n l .same)
+                (source-same l j (suc p) hj e) (step-same l before (letterAt scratch j) before-below (l .recorded .sources j hj .letter-lt));
+          };
+        }

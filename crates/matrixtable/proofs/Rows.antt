@@ -1,61 +1,53 @@
--- Products, letters and marks laid out byte after byte and row after row. What a byte is to be is found by looking at scratch as it
--- is then, and holds of scratch as it was at first, for only later bytes have changed. Assumes nothing.
-use Prim.Native.Nat.{ℕ, _+_, _*_, _<_}
+-- Products and marks laid out byte after byte and row after row. What a byte is to be is found by looking at scratch as it is then, and
+-- holds of scratch as it was at first, for only later bytes have changed. Assumes nothing.
+use Prim.Native.Nat.{ℕ, _+_, _*_, _≤_, _<_}
 use mathlib.Core.List.{List}
 use native.Mathlib.Omega.{arith}
 use lib.ListN.{length, set}
-use Rattle.matrixtable.specs.Laying.{KeptBelow, RowFilled, RowsFilled, ProductList, LetterList, ProductNumber, LetterNumber, MarkPlace, MarkByte}
-use Rattle.matrixtable.proofs.Filling.{kept-sym, kept-less, row-more, rows-more}
-use Rattle.matrixtable.proofs.Staying.{products-stay, letters-stay, product-number-stays, letter-number-stays}
+use Rattle.matrixsearch.specs.Lists.{KeptBelow}
+use Rattle.matrixsearch.proofs.Growing.{kept-sym, kept-less}
+use Rattle.matrixtable.specs.Laying.{RowFilled, RowsFilled, StepPlace, StepList, RowLaid, ProductNumber, TableNumber, MarkPlace, MarkByte}
+use Rattle.matrixtable.proofs.Filling.{row-more, rows-more, rows-all, rows-known}
+use Rattle.matrixtable.proofs.Staying.{place-stays, number-stays}
 use Rattle.matrixtable.proofs.Marks.{product-place, mark-stays}
 
 -- ---- the products
 
-module _ {n count i : ℕ} {entry : List ℕ} (l : ProductList n entry count) (hi : i < count) where
+module _ {count i : ℕ} {entry : List ℕ} (l : StepPlace entry count) (hi : i < count) where
   pub row-small : i * count < 4096
-  row-small = let h : i * count + 0 < 4096 = product-place (l .list .few) hi (omega arith) in omega arith
+  row-small = let h : i * count + 0 < 4096 = product-place (l .few) hi (omega arith) in omega arith
 
-  module _ {j : ℕ} {now : List ℕ} (r : RowFilled (ProductNumber n count entry i) (16384 + i * count) j entry now) where
-    pub products-now : ProductList n now count
-    products-now = products-stay (kept-less (omega arith) (r .kept)) l
+  module _ {j : ℕ} {now : List ℕ} (r : RowFilled (TableNumber count entry i) (16384 + i * count) j entry now) where
+    kept : KeptBelow 16384 entry now
+    kept = kept-less (omega arith) (r .kept)
+
+    pub steps-now : StepPlace now count
+    steps-now = place-stays kept l
 
     module _ (hj : j < count) where
+      pub row-now : RowLaid count now i j
+      row-now = record { numbers = λ y h. number-stays kept (l .few) hi (omega arith) (r .filled y h) }
+
       pub product-room : 16384 + i * count + j < length now
       product-room =
-          let h : i * count + j < 4096 = product-place (l .list .few) hi hj in
-          omega (arith, products-now .list .room)
+          let h : i * count + j < 4096 = product-place (l .few) hi hj in
+          omega (arith, steps-now .room)
 
-      pub product-more : {byte : ℕ} → ProductNumber n count now i j byte
-          → RowFilled (ProductNumber n count entry i) (16384 + i * count) (j + 1) entry (set now (16384 + i * count + j) byte)
-      product-more p =
-          row-more product-room r
-          (product-number-stays (kept-sym (kept-less (omega arith) (r .kept))) (l .list .few-states) (l .list .few) hi hj p)
+      pub product-more : {byte : ℕ} → TableNumber count now i j byte
+          → RowFilled (TableNumber count entry i) (16384 + i * count) (j + 1) entry (set now (16384 + i * count + j) byte)
+      product-more p = row-more product-room r (number-stays (kept-sym kept) (l .few) hi hj p)
 
-module _ {n count i : ℕ} {entry now : List ℕ} (l : ProductList n entry count) (r : RowsFilled (ProductNumber n count entry) 16384 count i count entry now) where
-  pub products-rows-now : ProductList n now count
-  products-rows-now = products-stay (r .kept) l
+module _ {count i : ℕ} {entry now : List ℕ} (l : StepPlace entry count) (r : RowsFilled (TableNumber count entry) 16384 count i count entry now) where
+  pub steps-rows-now : StepPlace now count
+  steps-rows-now = place-stays (r .kept) l
 
-  pub products-more : {next : List ℕ} → i < count → RowFilled (ProductNumber n count now i) (16384 + i * count) count now next
-      → RowsFilled (ProductNumber n count entry) 16384 count (i + 1) count entry next
-  products-more hi s =
-      rows-more (omega arith) r s (λ j byte hj p. product-number-stays (kept-sym (r .kept)) (l .list .few-states) (l .list .few) hi hj p)
+  pub products-more : {next : List ℕ} → i < count → RowFilled (TableNumber count now i) (16384 + i * count) count now next
+      → RowsFilled (TableNumber count entry) 16384 count (i + 1) count entry next
+  products-more hi s = rows-more (omega arith) r s (λ j byte hj p. number-stays (kept-sym (r .kept)) (l .few) hi hj p)
 
--- ---- the letters
-
-module _ {kinds : List ℕ} {n k count x : ℕ} {entry now : List ℕ} (l : LetterList kinds n k entry count)
-    (r : RowFilled (LetterNumber kinds n count entry) 20480 x entry now) where
-  pub letters-now : LetterList kinds n k now count
-  letters-now = letters-stay (kept-less (omega arith) (r .kept)) l
-
-  module _ (h : x < k) where
-    pub letter-room : 20480 + x < length now
-    letter-room = omega (arith, letters-now .list .room, l .place .few-letters)
-
-    pub letter-more : {byte : ℕ} → LetterNumber kinds n count now x byte → RowFilled (LetterNumber kinds n count entry) 20480 (x + 1) entry (set now (20480 + x) byte)
-    letter-more p =
-        let few = l .place .few-letters in
-        row-more letter-room r
-        (letter-number-stays (kept-sym (kept-less (omega arith) (r .kept))) (l .list .few-states) (l .list .few) (omega arith) p)
+  -- all of them, where the bytes were recorded of a list
+  pub products-all : i ≤ count → count ≤ i → (kinds : List ℕ) (n : ℕ) → StepList kinds n entry count → RowsFilled (ProductNumber n count entry) 16384 count count count entry now
+  products-all h g kinds n steps = rows-known (λ i j byte t. t .is-product kinds n steps) (rows-all h g r)
 
 -- ---- the marks
 

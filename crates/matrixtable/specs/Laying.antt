@@ -11,17 +11,11 @@ use Rattle.buchi.specs.Automata.{Automaton}
 use Rattle.buchi.specs.Matrices.{SameEntries}
 use Rattle.buchi.specs.Rule.{Recurs}
 use Rattle.buchi.proofs.Products.{product}
-use Rattle.buchi.proofs.MatrixLists.{Among}
-use Rattle.matrices.specs.Bytes.{initialAt, finalAt, LetterPlace, letterEntry}
-use Rattle.matrixsearch.specs.Lists.{matrixAt, ListPlace, MatrixList}
+use Rattle.matrices.specs.Bytes.{initialAt, finalAt}
+use Rattle.matrixsearch.specs.Lists.{matrixAt, nextAt, parentAt, letterAt, MatrixList, KeptBelow, Recorded}
 use Rattle.rulewriter.specs.File.{fileOf}
 
 -- ---- bytes that stay, and bytes that are filled
-
--- the bytes before a place are as they were
-pub record KeptBelow (limit : ℕ) (entry now : List ℕ) : Type 0 where
-  pub same-length : length now ≡ length entry
-  pub same : (i : ℕ) → i < limit → getD now i 0 ≡ getD entry i 0
 
 -- byte base + j holds what P asks for j, for the first j, and the bytes before are as they were
 pub record RowFilled (P : ℕ → ℕ → Type 0) (base count : ℕ) (entry now : List ℕ) : Type 0 where
@@ -35,13 +29,13 @@ pub record RowsFilled (P : ℕ → ℕ → ℕ → Type 0) (base width rows colu
 
 -- ---- the rule that is laid out
 
--- products from byte 16384 on, images from byte 20480 on
+-- products from byte 16384 on; a letter's image is the matrix that it makes of the empty word
 abbrev pub laidRule : List ℕ → ℕ → ℕ → Morphism
 laidRule scratch count k = record {
   size = count;
   letters = k;
   product = λ a b. getD scratch (16384 + (a * count + b)) 0;
-  image = λ a. getD scratch (20480 + a) 0;
+  image = λ a. nextAt scratch 0 a;
 }
 
 -- marks from byte 24576 on
@@ -50,32 +44,35 @@ laidMarks scratch s e = getD scratch (24576 + (s * 64 + e)) 0
 
 -- ---- what each byte is to be
 
--- the list has the product of any two of its matrices
-pub record ProductList (n : ℕ) (scratch : List ℕ) (count : ℕ) : Type 0 where
-  pub list : MatrixList n scratch count
-  pub products : (i j : ℕ) → i < count → j < count → Among n count (matrixAt scratch) (product n (matrixAt scratch i) (matrixAt scratch j))
+-- the bytes along which the products are looked up are there: each matrix was found from an entry before it, and the letter by which it
+-- was leads from every matrix to one of the list
+pub record StepPlace (scratch : List ℕ) (count : ℕ) : Type 0 where
+  pub few : count ≤ 64
+  pub room : 65536 ≤ length scratch
+  pub parents : (j : ℕ) → j < count → parentAt scratch j ≤ j
+  pub letters : (j : ℕ) → j < count → letterAt scratch j < 16
+  pub steps : (i j : ℕ) → i < count → j < count → nextAt scratch (i + 1) (letterAt scratch j) < count
 
--- the bytes of a letter's matrix are there, and the list has that matrix
-pub record LetterListed (kinds : List ℕ) (n : ℕ) (scratch : List ℕ) (count x : ℕ) : Type 0 where
-  pub place : LetterPlace kinds n scratch x
+-- they were recorded of a list of matrices over n states, with some number of letters
+pub record StepList (kinds : List ℕ) (n : ℕ) (scratch : List ℕ) (count : ℕ) : Type 0 where
+  pub letters : ℕ
+  pub few-letters : letters ≤ 16
   pub list : MatrixList n scratch count
-  pub among : Among n count (matrixAt scratch) (letterEntry kinds scratch x)
-
--- the list has the matrix of each letter
-pub record LetterList (kinds : List ℕ) (n k : ℕ) (scratch : List ℕ) (count : ℕ) : Type 0 where
-  pub place : ListPlace kinds n k scratch
-  pub list : MatrixList n scratch count
-  pub letters : (x : ℕ) → x < k → Among n count (matrixAt scratch) (letterEntry kinds scratch x)
+  pub recorded : Recorded kinds n letters scratch count
 
 -- r is the number of the product of matrices i and j
 pub record ProductNumber (n count : ℕ) (scratch : List ℕ) (i j r : ℕ) : Type 0 where
   pub below : r < count
   pub same : SameEntries n (product n (matrixAt scratch i) (matrixAt scratch j)) (matrixAt scratch r)
 
--- r is the number of the letter's matrix
-pub record LetterNumber (kinds : List ℕ) (n count : ℕ) (scratch : List ℕ) (x r : ℕ) : Type 0 where
+-- r is a number of the list, that of the product of matrices i and j wherever the bytes were recorded of a list
+pub record TableNumber (count : ℕ) (scratch : List ℕ) (i j r : ℕ) : Type 0 where
   pub below : r < count
-  pub same : SameEntries n (letterEntry kinds scratch x) (matrixAt scratch r)
+  pub is-product : (kinds : List ℕ) (n : ℕ) → StepList kinds n scratch count → ProductNumber n count scratch i j r
+
+-- the products of matrix i with the first j matrices are laid out
+pub record RowLaid (count : ℕ) (scratch : List ℕ) (i j : ℕ) : Type 0 where
+  pub numbers : (y : ℕ) → y < j → TableNumber count scratch i y (getD scratch (16384 + i * count + y) 0)
 
 -- n states, which of them are initial, and nothing else: what the marking looks at
 abbrev pub initialStates : List ℕ → ℕ → Automaton
@@ -103,11 +100,10 @@ pub record MarkPlace (kinds : List ℕ) (n : ℕ) (scratch : List ℕ) (count : 
   pub room : 65536 ≤ length scratch
   pub few : count ≤ 64
 
--- the rule was laid out, and the matrices are as they were
-pub record RuleLaid (kinds : List ℕ) (n k count : ℕ) (entry exit : List ℕ) : Type 0 where
+-- the products and marks were laid out; the matrices and what was recorded of them, the images too, are as they were
+pub record RuleLaid (kinds : List ℕ) (n count : ℕ) (entry exit : List ℕ) : Type 0 where
   pub kept : KeptBelow 16384 entry exit
-  pub products : (i j : ℕ) → i < count → j < count → ProductNumber n count exit i j (laidRule exit count k .product i j)
-  pub letters : (x : ℕ) → x < k → LetterNumber kinds n count exit x (laidRule exit count k .image x)
+  pub products : (i j : ℕ) → i < count → j < count → ProductNumber n count exit i j (laidRule exit count 0 .product i j)
   pub marks : (s e : ℕ) → s < count → e < count → MarkByte kinds n count exit s e (laidMarks exit s e)
 
 -- ---- writing it

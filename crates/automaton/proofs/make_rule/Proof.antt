@@ -2,7 +2,7 @@
 -- Assumes nothing.
 use borrow.Author.Needs.{needs}
 use Rattle.automaton.proofs.Reading.{read-some, read-place, read-letters}
-use Rattle.automaton.proofs.Making.{made-refused, both-lists, write-place, rule-made}
+use Rattle.automaton.proofs.Making.{made-refused, lay-place, write-place, rule-made}
 use Rattle.automaton.proofs.make_rule.Statement.{statement}
 use Rattle.automaton.proofs.make_rule.Tie as tie
 
@@ -34,7 +34,7 @@ returns : tie.Need-returns
 returns c = made-refused (c .before .before .before .before .before .before .before .before .before .before .before .before .before .before .pre) (c .before .before .before .before .before .before .before .before .list-matrices .result) (c .before .before .before .before .before .before .before .before .list-matrices .ensures) (c .before .before .before .before .enum-told .given .1) (c .before .before .zero .ensures)
 
 lay-rule-requires : tie.Need-lay-rule-requires
-lay-rule-requires c κs = both-lists (c .before .before .before .before .before .before .before .before .before .before .before .before .pre) (c .before .before .before .before .before .before .list-matrices .result) (c .before .before .before .before .before .before .list-matrices .ensures) (c .before .before .c .given .1)
+lay-rule-requires c κs = lay-place (c .before .before .before .before .before .before .before .before .before .before .before .before .pre) (c .before .before .before .before .before .before .list-matrices .result) (c .before .before .before .before .before .before .list-matrices .ensures) (c .before .before .c .given .1)
 
 write-laid-requires : tie.Need-write-laid-requires
 write-laid-requires c κs = write-place (c .before .before .before .before .before .before .before .before .before .before .before .before .before .before .before .before .before .pre) (c .before .before .before .before .before .before .before .before .before .before .before .list-matrices .result) (c .before .before .before .before .before .before .before .before .before .before .before .list-matrices .ensures) (c .before .before .before .before .before .before .before .c .given .1) (c .before .before .before .before .lay-rule .ensures)

@@ -3,7 +3,7 @@ use Prim.Native.Nat.{_-_}
 use native.Mathlib.Omega.{arith}
 use borrow.Author.Needs.{needs}
 use Rattle.matrixsearch.proofs.Growing.{place-kept}
-use Rattle.matrixlist.proofs.Closing.{Closing, closing-start, closing-few, closing-next, closing-full, closing-done}
+use Rattle.matrixlist.proofs.Closing.{Closing, closing-start, closing-few, closing-now, closing-next, closing-full, closing-done}
 use Rattle.matrixlist.proofs.close_list.Statement.{statement}
 use Rattle.matrixlist.proofs.close_list.Tie as tie
 
@@ -14,10 +14,10 @@ abbrev μ-loop : tie.MeasureT-loop
 μ-loop kinds n k scratch₀ begun count₀ from₀ scratch count from = 64 - from
 
 loop-holds : tie.Need-loop-holds Inv-loop μ-loop
-loop-holds c = closing-start (c .before .before .pre .0) (c .before .before .pre .1 .0)
+loop-holds c = closing-start (c .before .before .pre .1 .0)
 
 add-products-requires : tie.Need-add-products-requires Inv-loop μ-loop
-add-products-requires c κs = (place-kept (c .before .before .loop .inv .listed .grown .kept) (c .before .before .before .before .before .pre .0), (c .before .before .loop .inv .listed .words, c .before .loop-test .taken))
+add-products-requires c κs = (place-kept (c .before .before .loop .inv .taken .kept) (c .before .before .before .before .before .pre .0), (closing-now (c .before .before .loop .inv), c .before .loop-test .taken))
 
 enum-known-c : tie.Need-enum-known-c Inv-loop μ-loop
 enum-known-c c = search needs
@@ -26,25 +26,25 @@ enum-told : tie.Need-enum-told Inv-loop μ-loop
 enum-told c = search needs
 
 same-length : tie.Need-same-length Inv-loop μ-loop
-same-length c = closing-full (c .before .before .before .before .before .before .before .before .before .before .pre .0) (c .before .before .before .before .before .before .before .loop .inv) (c .before .before .before .before .add-products .ensures) (c .enum-told .given .1) .kept .same-length
+same-length c = closing-full (c .before .before .before .before .before .before .before .loop .inv) (c .before .before .before .before .add-products .ensures) (c .enum-told .given .1) .kept .same-length
 
 returns : tie.Need-returns Inv-loop μ-loop
-returns c = closing-full (c .before .before .before .before .before .before .before .before .before .before .pre .0) (c .before .before .before .before .before .before .before .loop .inv) (c .before .before .before .before .add-products .ensures) (c .enum-told .given .1)
+returns c = closing-full (c .before .before .before .before .before .before .before .loop .inv) (c .before .before .before .before .add-products .ensures) (c .enum-told .given .1)
 
 add-from : tie.Need-add-from Inv-loop μ-loop
-add-from c = omega (arith, closing-few (c .before .before .before .before .before .before .before .before .before .before .before .pre .0) (c .before .before .before .before .before .before .before .before .loop .inv))
+add-from c = omega (arith, closing-few (c .before .before .before .before .before .before .before .before .loop .inv))
 
 loop-less : tie.Need-loop-less Inv-loop μ-loop
-loop-less c = omega (arith, closing-few (c .before .before .before .before .before .before .before .before .before .before .before .pre .0) (closing-next (c .before .before .before .before .before .before .before .before .before .before .before .pre .0) (c .before .before .before .before .before .before .before .before .loop .inv) (c .before .before .before .before .before .before .before .loop-test .taken) (c .before .before .before .before .before .add-products .ensures) (c .before .c .given .1)))
+loop-less c = omega (arith, closing-few (closing-next (c .before .before .before .before .before .before .before .before .loop .inv) (c .before .before .before .before .before .before .before .loop-test .taken) (c .before .before .before .before .before .add-products .ensures) (c .before .c .given .1)))
 
 loop-again : tie.Need-loop-again Inv-loop μ-loop
-loop-again c = closing-next (c .before .before .before .before .before .before .before .before .before .before .before .pre .0) (c .before .before .before .before .before .before .before .before .loop .inv) (c .before .before .before .before .before .before .before .loop-test .taken) (c .before .before .before .before .before .add-products .ensures) (c .before .c .given .1)
+loop-again c = closing-next (c .before .before .before .before .before .before .before .before .loop .inv) (c .before .before .before .before .before .before .before .loop-test .taken) (c .before .before .before .before .before .add-products .ensures) (c .before .c .given .1)
 
 same-length-2 : tie.Need-same-length-2 Inv-loop μ-loop
-same-length-2 c = c .before .loop .inv .listed .grown .kept .same-length
+same-length-2 c = c .before .loop .inv .taken .kept .same-length
 
 returns-2 : tie.Need-returns-2 Inv-loop μ-loop
-returns-2 c = closing-done (c .before .before .before .before .pre .0) (c .before .loop .inv) (c .before .before .before .before .pre .1 .1) (c .loop-test .left)
+returns-2 c = closing-done (c .before .loop .inv) (c .before .before .before .before .pre .1 .1) (c .loop-test .left)
 
 pub close-list-spec : {M : Type 1} → statement M
 close-list-spec =

@@ -1,23 +1,23 @@
--- `automaton::lay_products` meets its contract: the loop holds that the rows so far have their numbers. Assumes nothing.
+-- The loop holds that the rows so far have their numbers. Assumes nothing.
 use Prim.Native.Nat.{_-_, _≤_}
 use native.Mathlib.Omega.{arith}
-use Rattle.matrixtable.specs.Laying.{RowsFilled, ProductNumber}
-use Rattle.matrixtable.proofs.Filling.{rows-none, rows-all}
-use Rattle.matrixtable.proofs.Rows.{products-rows-now, products-more}
+use Rattle.matrixtable.specs.Laying.{RowsFilled, TableNumber}
+use Rattle.matrixtable.proofs.Filling.{rows-none}
+use Rattle.matrixtable.proofs.Rows.{steps-rows-now, products-more, products-all}
 use Rattle.matrixtable.proofs.lay_products.Statement.{statement}
 use Rattle.matrixtable.proofs.lay_products.Tie as tie
 
 abbrev Inv-loop : tie.InvT-loop
-Inv-loop scratch₀ n count i₀ scratch i = RowsFilled (ProductNumber n count scratch₀) 16384 count i count scratch₀ scratch × (i ≤ count)
+Inv-loop scratch₀ count i₀ scratch i = RowsFilled (TableNumber count scratch₀) 16384 count i count scratch₀ scratch × (i ≤ count)
 
 abbrev μ-loop : tie.MeasureT-loop
-μ-loop scratch₀ n count i₀ scratch i = count - i
+μ-loop scratch₀ count i₀ scratch i = count - i
 
 loop-holds : tie.Need-loop-holds Inv-loop μ-loop
 loop-holds c = (rows-none, omega arith)
 
 lay-products-of-requires : tie.Need-lay-products-of-requires Inv-loop μ-loop
-lay-products-of-requires c κs = (products-rows-now (c .before .before .before .before .pre) (c .before .before .loop .inv .0), c .before .loop-test .taken)
+lay-products-of-requires c κs = (steps-rows-now (c .before .before .before .before .pre) (c .before .before .loop .inv .0), c .before .loop-test .taken)
 
 add-i : tie.Need-add-i Inv-loop μ-loop
 add-i c = omega arith
@@ -32,7 +32,7 @@ same-length : tie.Need-same-length Inv-loop μ-loop
 same-length c = c .before .loop .inv .0 .kept .same-length
 
 returns : tie.Need-returns Inv-loop μ-loop
-returns c = rows-all (c .before .loop .inv .1) (c .loop-test .left) (c .before .loop .inv .0)
+returns c = products-all (c .before .before .before .pre) (c .before .loop .inv .0) (c .before .loop .inv .1) (c .loop-test .left)
 
 pub lay-products-spec : {M : Type 1} → statement M
 lay-products-spec =

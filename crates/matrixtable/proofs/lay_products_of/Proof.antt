@@ -1,17 +1,17 @@
--- `automaton::lay_products_of` meets its contract: the loop holds that the products so far have their numbers. Assumes nothing.
+-- The loop holds that the products so far have their numbers. Assumes nothing.
 use Prim.Native.Nat.{_+_, _*_, _-_, _≤_}
 use native.Mathlib.Omega.{arith}
-use Rattle.matrixtable.specs.Laying.{RowFilled, ProductNumber}
+use Rattle.matrixtable.specs.Laying.{RowFilled, TableNumber}
 use Rattle.matrixtable.proofs.Filling.{row-none, row-all}
-use Rattle.matrixtable.proofs.Rows.{row-small, products-now, product-room, product-more}
+use Rattle.matrixtable.proofs.Rows.{row-small, steps-now, row-now, product-room, product-more}
 use Rattle.matrixtable.proofs.lay_products_of.Statement.{statement}
 use Rattle.matrixtable.proofs.lay_products_of.Tie as tie
 
 abbrev Inv-loop : tie.InvT-loop
-Inv-loop scratch₀ n count i base j₀ scratch j = RowFilled (ProductNumber n count scratch₀ i) (16384 + i * count) j scratch₀ scratch × (j ≤ count)
+Inv-loop scratch₀ count i base j₀ scratch j = RowFilled (TableNumber count scratch₀ i) (16384 + i * count) j scratch₀ scratch × (j ≤ count)
 
 abbrev μ-loop : tie.MeasureT-loop
-μ-loop scratch₀ n count i base j₀ scratch j = count - j
+μ-loop scratch₀ count i base j₀ scratch j = count - j
 
 mul-base : tie.Need-mul-base Inv-loop μ-loop
 mul-base c = omega (arith, row-small (c .before .pre .0) (c .before .pre .1))
@@ -23,10 +23,10 @@ loop-holds : tie.Need-loop-holds Inv-loop μ-loop
 loop-holds c = (row-none, omega arith)
 
 product-number-requires : tie.Need-product-number-requires Inv-loop μ-loop
-product-number-requires c κs = (products-now (c .before .before .before .before .pre .0) (c .before .before .before .before .pre .1) (c .before .before .loop .inv .0), (omega arith, omega arith))
+product-number-requires c κs = (steps-now (c .before .before .before .before .pre .0) (c .before .before .before .before .pre .1) (c .before .before .loop .inv .0), ((omega arith, omega arith), row-now (c .before .before .before .before .pre .0) (c .before .before .before .before .pre .1) (c .before .before .loop .inv .0) (c .before .loop-test .taken)))
 
 add-scratch : tie.Need-add-scratch Inv-loop μ-loop
-add-scratch c = omega (arith, row-small (c .before .before .before .before .before .pre .0) (c .before .before .before .before .before .pre .1), c .before .before .before .before .before .pre .0 .list .few)
+add-scratch c = omega (arith, row-small (c .before .before .before .before .before .pre .0) (c .before .before .before .before .before .pre .1), c .before .before .before .before .before .pre .0 .few)
 
 slice-write-scratch : tie.Need-slice-write-scratch Inv-loop μ-loop
 slice-write-scratch c = product-room (c .before .before .before .before .before .pre .0) (c .before .before .before .before .before .pre .1) (c .before .before .before .loop .inv .0) (c .before .before .loop-test .taken)
