@@ -31,7 +31,8 @@ fn add_letters(kinds: &[u8], n: usize, k: usize, scratch: &mut [u8]) -> MatrixCo
     MatrixCount::Listed(total)
 }
 
-// Adds the product of one matrix of the list with the matrix of every letter.
+// Adds the product of one matrix of the list with the matrix of every letter, which is read from the list by its number: to work it out
+// for each product took a tenth of the call. So the states' kinds are here, and in `close_list`, for the contract alone.
 fn add_products(
     kinds: &[u8],
     n: usize,
@@ -48,7 +49,8 @@ fn add_products(
     let left = load_matrix(scratch, 8192, from);
     let mut total = count;
     for letter in 0..k {
-        let right = letter_matrix(kinds, n, scratch, letter);
+        let at = scratch[12288 + letter] as usize;
+        let right = load_matrix(scratch, 8192, at);
         let m = matrix_product(n, left, right);
         let next = match add_step(scratch, n, total, from + 1, letter, m) {
             MatrixCount::Listed(c) => c,
