@@ -2,7 +2,7 @@
 -- Assumes nothing.
 use Prim.Native.Nat.{ℕ, suc, _+_, _≤_, _<_}
 use mathlib.Core.Path.{_≡_, subst}
-use mathlib.Core.Logic.{_⊎_, inl, inr, ⊎-elim}
+use mathlib.Core.Logic.{_≢_, _⊎_, inl, inr, ⊎-elim}
 use mathlib.Core.List.{List}
 use native.Mathlib.Omega.{arith}
 use Rattle.finite.proofs.Numbers.{below-cases, le-or-lt}
@@ -47,6 +47,11 @@ next-entry {q} {p = p} b l (sooner-parent h) =
     ⊎-elim (λ e. sooner-letter e l) (λ d. sooner-parent d) (below-cases c)
 next-entry b l (sooner-letter e h) = absurd (omega arith)
 
+-- each step has a byte of its own
+other-place : {q y p x : ℕ} → Sooner q y p x → y < 16 → stepPlace q y ≢ stepPlace p x
+other-place (sooner-parent h) l = omega arith
+other-place (sooner-letter e h) l = omega arith
+
 module _ {kinds : List ℕ} {n k : ℕ} where
   -- every letter was followed from an entry: the next entry's turn
   pub entry-taken : {entry exit : List ℕ} {total p p′ : ℕ} → p′ ≤ suc p → StepsTaken kinds n k entry exit total p k → StepsTaken kinds n k entry exit total p′ 0
@@ -66,7 +71,7 @@ module _ {kinds : List ℕ} {n k count p : ℕ} {entry : List ℕ} (place : List
   module _ {now : List ℕ} {total x : ℕ} {m : List (List ℕ)} (f : Following kinds n k entry count p now total x) (h : x < k)
       (word : IsWord kinds n k now (entryIn m)) (made : SameEntries n (entryIn m) (stepEntry kinds n now p x)) where
     module _ {next : List ℕ} {total′ : ℕ} (a : StepTaken n now total m p x next total′) where
-      -- of this step
+      -- the number of this step's matrix
       number-new : StepNumber kinds n next total′ p x (nextAt next p x)
       number-new =
           let few = place .few-letters in
@@ -76,28 +81,18 @@ module _ {kinds : List ℕ} {n k count p : ℕ} {entry : List ℕ} (place : List
             same = same-trans (same-sym (same-trans made (step-grown (a .added .grown) kinds p x (omega arith) (omega arith)))) (a .added .same);
           }
 
-      -- of one before
-      number-old : (q y : ℕ) → Sooner q y p x → y < k → nextAt next q y ≡ nextAt now q y → StepNumber kinds n next total′ q y (nextAt next q y)
-      number-old q y s l e =
-          let few = place .few-letters in
-          let more = f .grown .more in
-          rw e (number-grown (a .added .grown) (omega (arith, sooner-le s)) (omega arith) (f .taken .steps q y s l))
-
-      -- its byte stands before the byte of this step
-      step-kept : {q y : ℕ} → Sooner q y p x → y < k → nextAt next q y ≡ nextAt now q y
-      step-kept {q} {y} (sooner-parent l) b =
+      -- and of the matrix of a step before it
+      number-old : (q y : ℕ) → Sooner q y p x → y < k → StepNumber kinds n next total′ q y (nextAt next q y)
+      number-old q y s l =
           let few = place .few-letters in
           let more = f .grown .more in
           let small = f .taken .words .list .few in
-          a .others (stepPlace q y) (omega arith) (omega arith) (omega arith) (omega arith)
-      step-kept {q} {y} (sooner-letter e l) b =
-          let few = place .few-letters in
-          let more = f .grown .more in
-          let small = f .taken .words .list .few in
-          a .others (stepPlace q y) (omega arith) (omega arith) (omega arith) (omega arith)
+          let le = sooner-le s in
+          let kept : nextAt next q y ≡ nextAt now q y = a .others (stepPlace q y) (omega arith) (other-place s (omega arith)) (omega arith) (omega arith) in
+          rw kept (number-grown (a .added .grown) (omega arith) (omega arith) (f .taken .steps q y s l))
 
       numbers : (q y : ℕ) → y < k → Sooner q y p x ⊎ ((q ≡ p) × (y ≡ x)) → StepNumber kinds n next total′ q y (nextAt next q y)
-      numbers q y l (inl s) = number-old q y s l (step-kept s l)
+      numbers q y l (inl s) = number-old q y s l
       numbers q y l (inr (e, d)) = rw (e, d) number-new
 
       -- a new matrix was found by this step, and those of the steps before it stand before it
@@ -114,7 +109,7 @@ module _ {kinds : List ℕ} {n k count p : ℕ} {entry : List ℕ} (place : List
             sooner = λ q y s l. step-among-grown (a .added .grown) kinds q y (omega (arith, sooner-le s)) (omega arith) (omega arith) (step-among (f .taken .steps q y s l));
           }
 
-      -- where each matrix was found: those before as they were
+      -- where each matrix was found
       sources : (j : ℕ) → j < total′ → (total ≤ j) ⊎ (j < total) → FoundFrom kinds n k next j (parentAt next j) (letterAt next j)
       sources j b (inr c) =
           let few = place .few-letters in

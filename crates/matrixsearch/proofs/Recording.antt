@@ -23,10 +23,7 @@ module _ {scratch : List ℕ} {p x number next : ℕ} (place : RecordPlace scrat
   two : List ℕ
   two = set one (parentPlace next) p
 
-  three : List ℕ
-  three = set two (letterPlace next) x
-
-  pub step-inside : stepPlace p x < length scratch
+  step-inside : stepPlace p x < length scratch
   step-inside = omega (arith, place .entry-small, place .letter-small, place .room)
 
   pub parent-inside : parentPlace next < length (set scratch (stepPlace p x) number)
@@ -36,7 +33,7 @@ module _ {scratch : List ℕ} {p x number next : ℕ} (place : RecordPlace scrat
   letter-inside = simp length-set (omega (arith, place .next-small, place .room))
 
   pub step-recorded : StepRecorded scratch (set (set (set scratch (stepPlace p x) number) (parentPlace next) p) (letterPlace next) x) p x number next
-  unfolding one two three
+  unfolding one two
   step-recorded =
       let h = place .entry-small in
       let l = place .letter-small in

@@ -38,7 +38,7 @@ slice-write-scratch-3 : tie.Need-slice-write-scratch-3
 slice-write-scratch-3 c = letter-inside (c .pre)
 
 same-length : tie.Need-same-length
-same-length c = step-recorded (c .pre) .same-length
+same-length c = search needs
 
 returns : tie.Need-returns
 returns c = step-recorded (c .pre)
