@@ -22,10 +22,13 @@
  *     (crates/exports/proofs/NothingLost; the functions below read a number as unpack in crates/packing/specs/Packing does).
  *
  * Words
- *   A rule file has n elements (n, then n * n products), k letters (k, then an element each) and marks (a two-byte count, low
- *   byte first, then pairs (s, e) of two bytes). A lasso is u, then v for ever. A rule accepts it if the same endless word is
- *   p, then w for ever, with (value of p, value of w) marked. A pair (s, e) is linked if e * e = e and s * e = s. A rule is
- *   strong if the values of u and v decide whether the lasso is accepted.
+ *   A rule file has n elements (n, 1 to 64, then n * n products, a * b at a * n + b), k letters (k, 1 to 16, then an element each)
+ *   and marks (a two-byte count, 0 to 4096, low byte first, then pairs (s, e) of two bytes). The value of a word is the product
+ *   of its letters' elements. A lasso is u, then v for ever, neither empty. A rule accepts it if the same endless word is p, then
+ *   w for ever, with (value of p, value of w) marked. A pair (s, e) is linked if e * e = e and s * e = s. Linked pairs (s, e) and
+ *   (t, f) are conjugate if some x and y have s * x = t, x * y = e and y * x = f. A rule is strong if the values of u and v
+ *   decide whether the lasso is accepted, and else weak.
+ *   docs/FORMATS.md of the repository has the files byte by byte with examples, and every check in its order.
  */
 #ifndef DUKNAVET_H
 #define DUKNAVET_H

@@ -2,7 +2,12 @@
 //!
 //! A rule is a finite associative product table (a morphism into a finite semigroup), an element for each letter, and marked
 //! pairs. It accepts a lasso, u then v for ever, if some writing of the same endless word as p then w for ever has
-//! (value of p, value of w) marked. A rule is strong if the values of u and v decide whether the lasso is accepted.
+//! (value of p, value of w) marked; the value of a word is the product of its letters' elements. A rule is strong if the values of
+//! u and v decide whether the lasso is accepted, and else weak. A pair (s, e) is linked if e·e = e and s·e = s; linked pairs (s, e)
+//! and (t, f) are conjugate if some x and y have s·x = t, x·y = e and y·x = f.
+//!
+//! The bytes of a rule file are n, 1 to 64, and n·n products, a·b at a·n + b; k, 1 to 16, and an element for each letter; a two-byte
+//! count of marks, low byte first, and a pair (s, e) for each. `docs/FORMATS.md` of the repository has the files and every refusal.
 //!
 //! Every call takes any bytes, of any length: what is wrong with them is answered as a [`Refused`]. Calls that get a rule are
 //! lent a scratch of [`SCRATCH`] bytes or more, and leave it as zeros. After a refusal the result buffers keep every byte; where
