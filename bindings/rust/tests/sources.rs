@@ -40,7 +40,7 @@ fn names(source: &str, name: &str) -> bool {
 
 #[test]
 fn programs_name_only_the_public_library() {
-    let allowed = ["rules", "exampletext"];
+    let allowed = ["rules", "example_text"];
     let mut programs = 0;
     for program in crates() {
         let Some(text) = source(&program, "main.rt") else {
@@ -83,10 +83,10 @@ fn no_public_call_asks_anything_of_its_caller() {
 
 #[test]
 fn only_programs_use_the_text_of_the_examples() {
-    let readers = ["exampleparts", "examplelists", "exampletext"];
+    let readers = ["example_parts", "example_lists", "example_text"];
     let mut users = 0;
     for name in crates() {
-        if source(&name, "main.rt").is_some_and(|text| names(&text, "exampletext")) {
+        if source(&name, "main.rt").is_some_and(|text| names(&text, "example_text")) {
             users += 1;
         }
         if readers.contains(&name.as_str()) {

@@ -24,15 +24,15 @@ use Rattle.theory.specs.Smallest.{SameLassos}
 use Rattle.theory.proofs.Computing.{computing}
 use Rattle.sections.specs.Sections.{Section}
 use Rattle.sections.proofs.Laws.{good-passes}
-use Rattle.format.specs.Format.{morphismOf, oneIf}
-use Rattle.format.proofs.Buffers.{buffer-long}
-use Rattle.format.specs.RuleChecks.{ruleSize, scratchSize}
-use Rattle.rulefile.specs.GoodRule.{GoodRule}
-use Rattle.rulefile.proofs.CheckedRule.{good-rule}
-use Rattle.automatonformat.specs.Format.{statesOf, kindAt, isInitial, isFinal, lettersAt, lettersOf, transitionsAt, transitionsOf, transitionAt, fromOf, letterOf, toOf, isTransition, hasTransition, automatonEnd, tripleBound, statesSection, lettersSection, transitionsSection}
-use Rattle.rulefile.specs.Answers.{scratchLeft}
-use Rattle.automatonformat.specs.AutomatonChecks.{automatonChecks, readChecks}
-use Rattle.automatonfile.proofs.RepeatedOrder.{Fresh, fresh-all}
+use Rattle.formats.specs.Format.{morphismOf, oneIf}
+use Rattle.formats.proofs.Buffers.{buffer-long}
+use Rattle.formats.specs.RuleChecks.{ruleSize, scratchSize}
+use Rattle.rule_check.specs.GoodRule.{GoodRule}
+use Rattle.rule_check.proofs.CheckedRule.{good-rule}
+use Rattle.automaton_format.specs.Format.{statesOf, kindAt, isInitial, isFinal, lettersAt, lettersOf, transitionsAt, transitionsOf, transitionAt, fromOf, letterOf, toOf, isTransition, hasTransition, automatonEnd, tripleBound, statesSection, lettersSection, transitionsSection}
+use Rattle.rule_check.specs.Answers.{scratchLeft}
+use Rattle.automaton_format.specs.AutomatonChecks.{automatonChecks, readChecks}
+use Rattle.automaton_file.proofs.RepeatedOrder.{Fresh, fresh-all}
 use Rattle.buchi.specs.Automata.{Automaton}
 use Rattle.buchi.specs.Rule.{MatricesOf, MarkedBy, AcceptsRuns, MoreMatrices}
 use Rattle.buchi.proofs.Computing.{testing}
@@ -40,17 +40,17 @@ use Rattle.buchi.proofs.AutomatonRule.{run-marks, run-marked, marked-linked, ru
 use Rattle.buchi.proofs.TableTest.{matrices-elim}
 use Rattle.buchi.proofs.Numberings.{more-matrices}
 use Rattle.buchi.proofs.ExampleRule.{M10-table, M10-matrix, M10-lawful, M10-reached}
-use Rattle.reach.specs.Reach.{wordStep}
-use Rattle.firstwords.specs.FirstWords.{ByFirstWords}
-use Rattle.firstwords.proofs.Ordered.{entry, found-by-first-words}
-use Rattle.rulewriter.specs.File.{fileOf}
-use Rattle.rulewriter.proofs.ReadBack.{written-rule}
-use Rattle.reduction.specs.Promise.{ruleOf}
-use Rattle.automaton.specs.declared.Translated.{Translated}
-use Rattle.automaton.specs.declared.Translated.the-variants.{Rule as Is-translated, Refused}
-use Rattle.automaton.specs.Meaning.{automatonOf}
-use Rattle.automaton.specs.Promise.{RuleOf, ruleVerdict, RuleAnswer, translateChecks, RulePromise}
-use Rattle.automaton.proofs.OneAnswer.{rule-one-verdict}
+use Rattle.rule_reach.specs.Reach.{wordStep}
+use Rattle.rule_first_words.specs.FirstWords.{ByFirstWords}
+use Rattle.rule_first_words.proofs.Ordered.{entry, found-by-first-words}
+use Rattle.rule_writer.specs.File.{fileOf}
+use Rattle.rule_writer.proofs.ReadBack.{written-rule}
+use Rattle.reduce_call.specs.Promise.{ruleOf}
+use Rattle.automaton_call.specs.declared.Translated.{Translated}
+use Rattle.automaton_call.specs.declared.Translated.the-variants.{Rule as Is-translated, Refused}
+use Rattle.automaton_call.specs.Meaning.{automatonOf}
+use Rattle.automaton_call.specs.Promise.{RuleOf, ruleVerdict, RuleAnswer, translateChecks, RulePromise}
+use Rattle.automaton_call.proofs.OneAnswer.{rule-one-verdict}
 use Rattle.examples.specs.Files.{automaton}
 use Rattle.examples.specs.Examples.{FileStrong, RuleReducesTo, ReducesTo, Translation, TranslatedTo, AutomatonReducesTo}
 use Rattle.examples.proofs.Passing.{section-test, section-elim, checks-to}

@@ -15,15 +15,15 @@ use Rattle.theory.specs.Pairs.{LinkedOnly}
 use Rattle.theory.specs.Smallest.{Reduction, LinkedAccepted}
 use Rattle.theory.proofs.EveryLasso.{AcceptsEvery, one, one-lawful}
 use Rattle.theory.proofs.SmallReductions.{one-marks, every-reduction}
-use Rattle.reach.specs.Reach.{wordStep}
-use Rattle.firstwords.specs.FirstWords.{ByFirstWords}
-use Rattle.firstwords.proofs.Ordered.{entry, found-by-first-words}
-use Rattle.rulewriter.specs.File.{fileOf}
-use Rattle.rulewriter.specs.ReadBack.{WrittenRule}
-use Rattle.rulewriter.proofs.Agree.{Agree}
-use Rattle.rulewriter.proofs.Same.{SameMarks, file-same}
-use Rattle.rulewriter.proofs.ReadBack.{written-rule}
-use Rattle.reduction.proofs.SameReductions.{reductions-size}
+use Rattle.rule_reach.specs.Reach.{wordStep}
+use Rattle.rule_first_words.specs.FirstWords.{ByFirstWords}
+use Rattle.rule_first_words.proofs.Ordered.{entry, found-by-first-words}
+use Rattle.rule_writer.specs.File.{fileOf}
+use Rattle.rule_writer.specs.ReadBack.{WrittenRule}
+use Rattle.rule_writer.proofs.Agree.{Agree}
+use Rattle.rule_writer.proofs.Same.{SameMarks, file-same}
+use Rattle.rule_writer.proofs.ReadBack.{written-rule}
+use Rattle.reduce_call.proofs.SameReductions.{reductions-size}
 use Rattle.examples.proofs.Reductions.{same-self}
 
 -- every pair is marked

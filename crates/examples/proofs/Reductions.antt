@@ -12,10 +12,10 @@ use Rattle.minimality.proofs.Listed.{passing}
 use Rattle.minimality.proofs.Blocks.{tabFrom, leastOf, sameTest, productsTest, keptTest, firstBlocks, nextBlocks}
 use Rattle.minimality.proofs.Settle.{unchanged, settleFrom, settle}
 use Rattle.minimality.proofs.ReduceModel.{heads, headsOf, finalBlocks, reduced-size, reduce-model-right}
-use Rattle.rulefile.specs.GoodRule.{GoodRule}
-use Rattle.reduction.specs.Promise.{ruleOf}
-use Rattle.reduction.proofs.SameReductions.{reductions-size}
-use Rattle.format.specs.Format.{morphismOf, pairsOf}
+use Rattle.rule_check.specs.GoodRule.{GoodRule}
+use Rattle.reduce_call.specs.Promise.{ruleOf}
+use Rattle.reduce_call.proofs.SameReductions.{reductions-size}
+use Rattle.formats.specs.Format.{morphismOf, pairsOf}
 use Rattle.examples.specs.Files.{W, Z₀}
 use Rattle.examples.specs.Examples.{FileStrong, RuleReducesTo, ReducesTo}
 use Rattle.examples.proofs.Reading.{reading}

@@ -9,10 +9,10 @@ use Rattle.answer.proofs.Order.{first-passes, first-fails}
 use Rattle.theory.specs.Rules.{Lawful}
 use Rattle.theory.proofs.ShortWords.{reached-intro, unreached-first}
 use Rattle.theory.proofs.TableTests.{lawful-elim}
-use Rattle.table.specs.TableChecks.{Associates, TripleBefore, by-a, by-b, by-c, NotAssociativeAt, UnreachedAt}
-use Rattle.table.proofs.Facts.{all-associate-none}
-use Rattle.format.specs.Format.{morphismOf}
-use Rattle.format.specs.RuleChecks.{ruleChecks}
+use Rattle.rule_table.specs.TableChecks.{Associates, TripleBefore, by-a, by-b, by-c, NotAssociativeAt, UnreachedAt}
+use Rattle.rule_table.proofs.Facts.{all-associate-none}
+use Rattle.formats.specs.Format.{morphismOf}
+use Rattle.formats.specs.RuleChecks.{ruleChecks}
 use Rattle.examples.specs.Files.{not-associative, unreached}
 use Rattle.examples.proofs.Passing.{after-layout}
 use Rattle.examples.proofs.Reading.{reading}

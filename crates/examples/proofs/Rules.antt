@@ -11,10 +11,10 @@ use Rattle.theory.proofs.Included.{strong-test-elim, strong-test-intro}
 use Rattle.theory.proofs.Closure.{linked-test, linked-intro}
 use Rattle.theory.proofs.TableTests.{counts-by, all-pairs-elim, conjugate-elim}
 use Rattle.theory.proofs.Computing.{lasso-elim, accepts-by, refuses-by}
-use Rattle.format.specs.Format.{morphismOf, pairsOf}
-use Rattle.format.specs.RuleChecks.{ruleChecks}
-use Rattle.rulefile.specs.GoodRule.{GoodRule}
-use Rattle.rulefile.proofs.CheckedRule.{good-rule}
+use Rattle.formats.specs.Format.{morphismOf, pairsOf}
+use Rattle.formats.specs.RuleChecks.{ruleChecks}
+use Rattle.rule_check.specs.GoodRule.{GoodRule}
+use Rattle.rule_check.proofs.CheckedRule.{good-rule}
 use Rattle.theory.specs.Pairs.{ClassCounts}
 use Rattle.examples.specs.Files.{W, W-all, Z, Z₀}
 use Rattle.examples.specs.Examples.{FileStrong, AcceptsLasso, RefusesLasso, ValuePair, ConjugateToMark, NotClosed, MarksLinked}

@@ -12,15 +12,15 @@ use Rattle.theory.specs.Rules.{Rule, Lawful}
 use Rattle.theory.specs.Smallest.{Reduction}
 use Rattle.theory.proofs.EveryLasso.{AcceptsEvery, every-test, every-elim, one, one-rule}
 use Rattle.theory.proofs.SmallReductions.{every-reduction}
-use Rattle.format.specs.Format.{morphismOf, pairsOf}
-use Rattle.format.proofs.Buffers.{buffer-long}
-use Rattle.format.specs.RuleChecks.{ruleSize, scratchSize}
-use Rattle.rulefile.specs.Answers.{checkedChecks, afterCall, scratchLeft}
-use Rattle.rulewriter.specs.File.{tabulate, elementsBytes, lettersBytes, isMarked, markNumbers, pairBytes, marksBytes, fileOf}
-use Rattle.reduction.specs.declared.Reduced.{Reduced}
-use Rattle.reduction.specs.declared.Reduced.the-variants.{Rule as Is-rule, Refused}
-use Rattle.reduction.specs.Promise.{ruleOf, reduceChecks, reducedVerdict, ReducedTo, ReducedAnswer, ReducePromise}
-use Rattle.strength.proofs.OneAnswer.{strong-rule-single}
+use Rattle.formats.specs.Format.{morphismOf, pairsOf}
+use Rattle.formats.proofs.Buffers.{buffer-long}
+use Rattle.formats.specs.RuleChecks.{ruleSize, scratchSize}
+use Rattle.rule_check.specs.Answers.{checkedChecks, afterCall, scratchLeft}
+use Rattle.rule_writer.specs.File.{tabulate, elementsBytes, lettersBytes, isMarked, markNumbers, pairBytes, marksBytes, fileOf}
+use Rattle.reduce_call.specs.declared.Reduced.{Reduced}
+use Rattle.reduce_call.specs.declared.Reduced.the-variants.{Rule as Is-rule, Refused}
+use Rattle.reduce_call.specs.Promise.{ruleOf, reduceChecks, reducedVerdict, ReducedTo, ReducedAnswer, ReducePromise}
+use Rattle.mark_strong.proofs.OneAnswer.{strong-rule-single}
 use Rattle.examples.specs.Files.{W-all, one-element}
 use Rattle.examples.specs.Examples.{StandsIn, HandsBack, ReducesToBytes}
 use Rattle.examples.proofs.Reading.{reading}

@@ -8,11 +8,11 @@ use Rattle.answer.proofs.Limits.{Limited, limited-nil, limited-cons, limited-ap
 use Rattle.sections.specs.Sections.{sectionChecks}
 use Rattle.sections.proofs.Laws.{passed-good}
 use Rattle.sections.proofs.Limits.{section-limited}
-use Rattle.format.specs.RuleChecks.{TrailingAt}
-use Rattle.automatonformat.specs.Format.{lettersAt, transitionsAt, transitionsOf, transitionAt, automatonEnd, statesSection, lettersSection}
-use Rattle.automatonformat.specs.AutomatonChecks.{RepeatedAt, repeatedChecks, layoutChecks, contentChecks, automatonChecks, readChecks}
-use Rattle.automatonfile.proofs.Passed.{good-sections}
-use Rattle.automaton.specs.Meaning.{RichAt, richCheck}
+use Rattle.formats.specs.RuleChecks.{TrailingAt}
+use Rattle.automaton_format.specs.Format.{lettersAt, transitionsAt, transitionsOf, transitionAt, automatonEnd, statesSection, lettersSection}
+use Rattle.automaton_format.specs.AutomatonChecks.{RepeatedAt, repeatedChecks, layoutChecks, contentChecks, automatonChecks, readChecks}
+use Rattle.automaton_file.proofs.Passed.{good-sections}
+use Rattle.automaton_call.specs.Meaning.{RichAt, richCheck}
 use Rattle.exports.proofs.Limits.{Near, near, at-zero, buffer-limited}
 
 module _ (bytes : List ℕ) where

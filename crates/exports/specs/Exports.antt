@@ -2,25 +2,25 @@
 use Prim.Native.Nat.{ℕ}
 use mathlib.Core.Path.{_≡_}
 use mathlib.Core.List.{List}
-use Rattle.automaton.specs.declared.Translated.{Translated}
-use Rattle.automaton.specs.Promise.{RulePromise}
-use Rattle.classes.specs.declared.Listed.{Listed}
-use Rattle.classes.specs.Promise.{ListPromise}
-use Rattle.complement.specs.declared.Complemented.{Complemented}
-use Rattle.complement.specs.Promise.{ComplementPromise}
-use Rattle.comparison.specs.declared.Inclusion.{Inclusion}
-use Rattle.inclusion.specs.Promise.{InclusionPromise}
-use Rattle.lasso.specs.declared.Membership.{Membership}
-use Rattle.lasso.specs.Promise.{MemberPromise}
-use Rattle.monitorstate.specs.declared.Monitor.{Monitor}
-use Rattle.monitor.specs.declared.Moved.{Moved}
-use Rattle.monitor.specs.Promises.{EventPromise, MarkPromise}
-use Rattle.reduction.specs.declared.Reduced.{Reduced}
-use Rattle.reduction.specs.Promise.{ReducePromise}
-use Rattle.strength.specs.declared.Strength.{Strength}
-use Rattle.strength.specs.Promise.{StrongPromise}
-use Rattle.judging.specs.declared.Judged.{Judged}
-use Rattle.verdict.specs.Promise.{VerdictPromise}
+use Rattle.automaton_call.specs.declared.Translated.{Translated}
+use Rattle.automaton_call.specs.Promise.{RulePromise}
+use Rattle.mark_classes.specs.declared.Listed.{Listed}
+use Rattle.mark_classes.specs.Promise.{ListPromise}
+use Rattle.mark_complement.specs.declared.Complemented.{Complemented}
+use Rattle.mark_complement.specs.Promise.{ComplementPromise}
+use Rattle.mark_comparison.specs.declared.Inclusion.{Inclusion}
+use Rattle.mark_inclusion.specs.Promise.{InclusionPromise}
+use Rattle.lasso_member.specs.declared.Membership.{Membership}
+use Rattle.lasso_member.specs.Promise.{MemberPromise}
+use Rattle.monitor_state.specs.declared.Monitor.{Monitor}
+use Rattle.monitor_moves.specs.declared.Moved.{Moved}
+use Rattle.monitor_moves.specs.Promises.{EventPromise, MarkPromise}
+use Rattle.reduce_call.specs.declared.Reduced.{Reduced}
+use Rattle.reduce_call.specs.Promise.{ReducePromise}
+use Rattle.mark_strong.specs.declared.Strength.{Strength}
+use Rattle.mark_strong.specs.Promise.{StrongPromise}
+use Rattle.monitor_judging.specs.declared.Judged.{Judged}
+use Rattle.monitor_verdict.specs.Promise.{VerdictPromise}
 use Rattle.packing.specs.Packing.{packListed, packStrength, packMembership, packComplemented, packReduced, packTranslated, packInclusion, packMoved, packJudged}
 
 pub record ExportedClasses (bytes out-entry out-exit entry exit : List ℕ) (r : ℕ) : Type 0 where

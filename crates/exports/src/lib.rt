@@ -1,7 +1,7 @@
 // The library's calls for C and Rust: one function a call, slices as pointer and length, and one number back, packed as
 // packing/specs/Packing says. A caller in another language owes what Rust's references owe: each pointer is good for its length, and a
 // buffer that is written overlaps no other.
-use monitorstate::Monitor;
+use monitor_state::Monitor;
 use packing::pack_complemented;
 use packing::pack_fields;
 use packing::pack_inclusion;
@@ -13,7 +13,7 @@ use packing::pack_reduced;
 use packing::pack_strength;
 use packing::pack_translated;
 ghost use mathlib.Core.Path.{_≡_};
-ghost use Rattle.monitorstate.specs.Monitor.{freshMonitor};
+ghost use Rattle.monitor_state.specs.Monitor.{freshMonitor};
 ghost use Rattle.packing.specs.Packing.{packMonitor};
 ghost use Rattle.exports.specs.Exports.{ExportedClasses, ExportedStrength, ExportedMember, ExportedComplement, ExportedInclusion, ExportedEvent, ExportedMark, ExportedReduction, ExportedAutomaton, ExportedVerdict};
 

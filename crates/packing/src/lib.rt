@@ -1,15 +1,15 @@
 // Answers packed into one number of 64 bits, as specs/Packing says.
 use answer::Refusal;
 use answer::number;
-use automaton::Translated;
-use classes::Listed;
-use comparison::Inclusion;
-use complement::Complemented;
-use judging::Judged;
-use lasso::Membership;
-use monitor::Moved;
-use reduction::Reduced;
-use strength::Strength;
+use automaton_call::Translated;
+use lasso_member::Membership;
+use mark_classes::Listed;
+use mark_comparison::Inclusion;
+use mark_complement::Complemented;
+use mark_strong::Strength;
+use monitor_judging::Judged;
+use monitor_moves::Moved;
+use reduce_call::Reduced;
 ghost use mathlib.Core.Path.{_≡_};
 ghost use Rattle.answer.specs.Refusals.{numberOf};
 ghost use Rattle.packing.specs.Packing.{packRefusal, packFields, packListed, packStrength, packMembership, packComplemented, packInclusion, packMoved, packReduced, packTranslated, packJudged};

@@ -10,10 +10,10 @@ use Rattle.theory.specs.Words.{Lasso}
 use Rattle.theory.specs.Rules.{Rule, Lawful}
 use Rattle.theory.specs.Smallest.{SameLassos, Reduction}
 use Rattle.theory.proofs.TableTests.{counts-same}
-use Rattle.format.specs.Format.{morphismOf}
-use Rattle.format.proofs.Buffers.{buffer-single}
-use Rattle.rulefile.proofs.OneVerdict.{checked-single}
-use Rattle.reduction.specs.Promise.{ruleOf}
+use Rattle.formats.specs.Format.{morphismOf}
+use Rattle.formats.proofs.Buffers.{buffer-single}
+use Rattle.rule_check.proofs.OneVerdict.{checked-single}
+use Rattle.reduce_call.specs.Promise.{ruleOf}
 use Rattle.summary.specs.declared.Summary.{Summary}
 use Rattle.summary.specs.declared.Summary.the-variants.{Counts, Refused}
 use Rattle.summary.specs.Promise.{summaryChecks, summaryVerdict, StrongReduced, ReducesTo, SummaryCounts, SummaryAnswer, workAfter, SummaryPromise}

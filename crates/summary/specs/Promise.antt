@@ -8,12 +8,12 @@ use Rattle.answer.specs.Checks.{Check, Verdict, passed, refused, FirstFailure}
 use Rattle.theory.specs.Rules.{Rule, Lawful}
 use Rattle.theory.specs.Acceptance.{Strong}
 use Rattle.theory.specs.Smallest.{Reduction}
-use Rattle.format.specs.Format.{morphismOf, pairsOf}
-use Rattle.format.specs.RuleChecks.{ruleSize, bufferCheck}
-use Rattle.inspection.specs.Inspection.{RuleCounts}
-use Rattle.rulefile.specs.Answers.{checkedChecks, scratchLeft}
+use Rattle.formats.specs.Format.{morphismOf, pairsOf}
+use Rattle.formats.specs.RuleChecks.{ruleSize, bufferCheck}
+use Rattle.rule_inspect.specs.Inspection.{RuleCounts}
+use Rattle.rule_check.specs.Answers.{checkedChecks, scratchLeft}
 use Rattle.theory.specs.Pairs.{ClassCounts}
-use Rattle.reduction.specs.Promise.{ruleOf}
+use Rattle.reduce_call.specs.Promise.{ruleOf}
 use Rattle.summary.specs.declared.Summary.{Summary}
 use Rattle.summary.specs.declared.Summary.the-variants.{Counts, Refused}
 

@@ -5,8 +5,8 @@ use mathlib.Core.Bool.{Bool}
 use mathlib.Core.List.{List}
 use lib.ListN.{length, replicate}
 use Rattle.answer.specs.Checks.{passed, FirstFailure}
-use Rattle.rulefile.specs.Answers.{checkedChecks}
-use Rattle.format.specs.RuleChecks.{ruleSize}
+use Rattle.rule_check.specs.Answers.{checkedChecks}
+use Rattle.formats.specs.RuleChecks.{ruleSize}
 use Rattle.summary.specs.declared.Summary.{Summary}
 use Rattle.summary.specs.Promise.{summaryVerdict, ReducesTo, SummaryAnswer, workAfter}
 

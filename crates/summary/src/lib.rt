@@ -1,14 +1,14 @@
 // A rule summed up in numbers: how large it is, its linked pairs and classes, whether it is strong, and how large its reduction
 // is. Three calls in a row, on a rule that the first of them has checked; the lent work buffer holds what the others write.
 use answer::Refusal;
-use classes::Listed;
-use classes::list_classes;
-use inspection::Inspected;
-use inspection::inspect;
-use reduction::Reduced;
-use reduction::reduce;
+use mark_classes::Listed;
+use mark_classes::list_classes;
+use reduce_call::Reduced;
+use reduce_call::reduce;
+use rule_inspect::Inspected;
+use rule_inspect::inspect;
 use sections::zero;
-ghost use Rattle.inspection.specs.Inspection.{RuleCounts};
+ghost use Rattle.rule_inspect.specs.Inspection.{RuleCounts};
 ghost use Rattle.summary.specs.Promise.{SummaryPromise};
 ghost use Rattle.summary.specs.Steps.{CheckedPlace, SizeFound, Measured};
 

@@ -1,0 +1,33 @@
+-- The rule is laid out in two steps, the marks behind the products: what the first says holds at the end. Assumes nothing.
+use Prim.Native.Nat.{ℕ, _+_, _*_, _<_}
+use mathlib.Core.Path.{sym, subst}
+use mathlib.Core.List.{List}
+use native.Mathlib.Omega.{arith}
+use Rattle.automaton_matrix_search.specs.Lists.{KeptBelow}
+use Rattle.automaton_matrix_search.proofs.Growing.{kept-trans, kept-less}
+use Rattle.automaton_table.specs.Laying.{RowsFilled, StepList, ProductNumber, MarkPlace, MarkByte, laidRule, RuleLaid}
+use Rattle.automaton_table.proofs.Staying.{product-number-stays}
+use Rattle.automaton_table.proofs.Marks.{product-place, mark-stays}
+use Rattle.automaton_table.proofs.Rows.{marks-place}
+
+module _ {kinds : List ℕ} {n count : ℕ} {entry mid : List ℕ} (l : StepList kinds n entry count)
+    (a : (kinds : List ℕ) (n : ℕ) → StepList kinds n entry count → RowsFilled (ProductNumber n count entry) 16384 count count count entry mid) where
+  pub marks-next : MarkPlace kinds n entry count → MarkPlace kinds n mid count
+  marks-next p = marks-place p (a kinds n l .kept)
+
+  module _ {exit : List ℕ} (c : RowsFilled (MarkByte kinds n count mid) 24576 64 count count mid exit) where
+    all : KeptBelow 16384 entry exit
+    all = kept-trans (a kinds n l .kept) (kept-less (omega arith) (c .kept))
+
+    product-laid : (i j : ℕ) → i < count → j < count → ProductNumber n count exit i j (laidRule exit count 0 .product i j)
+    product-laid i j hi hj =
+        let h : i * count + j < 4096 = product-place (l .list .few) hi hj in
+        subst (ProductNumber n count exit i j) (sym (c .kept .same (16384 + (i * count + j)) (omega arith)))
+        (product-number-stays all (l .list .few-states) (l .list .few) hi hj (a kinds n l .filled i j hi hj))
+
+    pub rule-laid : RuleLaid kinds n count entry exit
+    rule-laid = record {
+      kept = all;
+      products = product-laid;
+      marks = λ s e hs he. mark-stays (c .kept) (l .list .few-states) (l .list .few) hs he (c .filled s e hs he);
+    }

@@ -1,0 +1,86 @@
+-- What each way through the making of a rule promises, once the automaton was read. Assumes nothing.
+use Prim.Native.Nat.{ℕ, _-_}
+use mathlib.Core.Path.{_≡_, refl, ap, _∙_, subst}
+use mathlib.Core.List.{List}
+use native.Mathlib.Omega.{arith}
+use lib.ListN.{length, take, drop, replicate}
+use Rattle.answer.specs.declared.Refusal.the-variants.{TooManyMatrices}
+use Rattle.answer.proofs.Order.{first-passes, first-fails, none-left}
+use Rattle.buchi.proofs.AutomatonRule.{elements-reached, marked-linked, rule-accepts-runs, rule-strong, rule-marks-accepted}
+use Rattle.automaton_matrix_search.specs.Lists.{matrixAt, AllListed, TooRich, ListAnswer, MatricesAnswer}
+use Rattle.automaton_matrix_search.specs.declared.MatrixCount.{MatrixCount}
+use Rattle.automaton_matrix_search.specs.declared.MatrixCount.the-variants.{Listed, TooMany}
+use Rattle.rule_writer.proofs.ReadBack.{written-rule}
+use Rattle.automaton_call.specs.Meaning.{automatonOf, richCheck}
+use Rattle.automaton_table.specs.Laying.{laidRule, laidMarks, StepList, MarkPlace, RuleLaid, WritePlace, LaidWritten}
+use Rattle.automaton_call.specs.Promise.{ReadHere, MadePromise}
+use Rattle.automaton_call.specs.declared.Translated.the-variants.{Rule, Refused}
+use Rattle.automaton_call.proofs.Reading.{read-stands, read-place, read-letters}
+use Rattle.automaton_call.proofs.Made.{step-list, mark-place, laid-lawful, laid-matrices, laid-order, laid-marking, not-rich}
+
+-- the bytes of the states
+abbrev kinds : List ℕ → List ℕ
+kinds bytes = take (length bytes - 1) (drop 1 bytes)
+
+module _ {bytes : List ℕ} {n k : ℕ} {out scratch listed : List ℕ} (r : ReadHere bytes n k out scratch) where
+  -- more than 64 matrices
+  pub made-refused : {end : List ℕ} (answer : MatrixCount) → MatricesAnswer (kinds bytes) n k scratch listed answer → answer ≡ TooMany → end ≡ replicate (length listed) 0
+      → MadePromise bytes out out scratch end (Refused TooManyMatrices 1 0)
+  made-refused answer a e z =
+      let rich : TooRich (kinds bytes) n k scratch = subst (ListAnswer (kinds bytes) n k scratch listed) e (a .says) in
+      record {
+        verdict = first-fails (richCheck bytes) (record { more = rich .more (automatonOf bytes) (read-stands r); is-place = refl });
+        answered = refl;
+        scratch = z ∙ ap (λ (c : ℕ). replicate c 0) (a .kept .same-length);
+      }
+
+  -- the matrices were listed
+  module _ {count : ℕ} (answer : MatrixCount) (a : MatricesAnswer (kinds bytes) n k scratch listed answer) (e : answer ≡ Listed count) where
+    all : AllListed (kinds bytes) n k scratch listed count
+    all = subst (ListAnswer (kinds bytes) n k scratch listed) e (a .says)
+
+    pub lay-place : StepList (kinds bytes) n listed count × MarkPlace (kinds bytes) n listed count
+    lay-place = (step-list (read-stands r) (read-place r) (a .kept) all, mark-place (read-stands r) (read-place r) (a .kept) all)
+
+    -- and the rule was laid out
+    module _ {laid : List ℕ} (l : RuleLaid (kinds bytes) n count listed laid) where
+      same-length : length laid ≡ length scratch
+      same-length = l .kept .same-length ∙ a .kept .same-length
+
+      pub write-place : WritePlace count k laid out
+      write-place = record {
+        some = all .some;
+        few = all .list .few;
+        letters-some = read-letters r;
+        letters-few = read-place r .few-letters;
+        laid-long = omega (arith, same-length, r .room);
+        room = r .out-room;
+      }
+
+      -- and written
+      pub rule-made : {exit end : List ℕ} {size : ℕ} → LaidWritten laid count k out exit size → end ≡ replicate (length laid) 0
+          → MadePromise bytes out exit scratch end (Rule size)
+      rule-made w z =
+          let law = laid-lawful (read-stands r) (read-place r) (a .kept) all l in
+          let elements = laid-matrices (read-stands r) (read-place r) (a .kept) all l in
+          let marking = laid-marking (read-stands r) (read-place r) (a .kept) all l in
+          record {
+            verdict = first-passes (record { nowhere = λ place f. not-rich (read-stands r) (read-place r) (a .kept) all l (f .more) }) none-left;
+            answered = record {
+              morphism = laidRule laid count k;
+              matrix = matrixAt listed;
+              marks = laidMarks laid;
+              lawful = law;
+              elements = elements;
+              numbered = laid-order (read-stands r) (read-place r) (a .kept) all l;
+              marking = marking;
+              accepts = rule-accepts-runs law elements marking;
+              strong = rule-strong law elements marking;
+              all-marked = rule-marks-accepted law elements marking;
+              written =
+                  written-rule (laidRule laid count k) (laidMarks laid)
+                  (record { some = all .some; small = all .list .few; letters-some = read-letters r; letters-small = read-place r .few-letters })
+                  law (marked-linked law elements marking) (elements-reached law elements) (w .counts) (w .holds);
+            };
+            scratch = z ∙ ap (λ (c : ℕ). replicate c 0) same-length;
+          }

@@ -1,0 +1,21 @@
+-- `automaton_call::lay_rule` meets its contract: the products stay through the marks. Assumes nothing.
+use borrow.Author.Needs.{needs}
+use Rattle.automaton_table.proofs.Numbers.{step-place}
+use Rattle.automaton_call.proofs.Laid.{marks-next, rule-laid}
+use Rattle.automaton_call.proofs.lay_rule.Statement.{statement}
+use Rattle.automaton_call.proofs.lay_rule.Tie as tie
+
+lay-products-requires : tie.Need-lay-products-requires
+lay-products-requires c κs = step-place (c .before .before .before .pre .0)
+
+lay-marks-requires : tie.Need-lay-marks-requires
+lay-marks-requires c κs = marks-next (c .before .before .before .before .before .before .before .pre .0) (c .before .before .before .lay-products .ensures) (c .before .before .before .before .before .before .before .pre .1)
+
+same-length : tie.Need-same-length
+same-length c = search needs
+
+returns : tie.Need-returns
+returns c = rule-laid (c .before .before .before .before .before .before .before .before .before .before .pre .0) (c .before .before .before .before .before .before .lay-products .ensures) (c .before .before .lay-marks .ensures)
+
+pub lay-rule-spec : {M : Type 1} → statement M
+lay-rule-spec = tie.close (tie.spec lay-products-requires lay-marks-requires same-length returns)

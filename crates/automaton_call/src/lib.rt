@@ -1,0 +1,101 @@
+// The rule of an automaton. Its elements are the matrices of all non-empty words, numbered in the order in which they are found.
+//
+// Scratch holds the bytes of the transitions up to byte 576, the matrices from byte 8192 on, and from byte 12288 on what is recorded
+// while they are found, first of all the element of each letter. Behind them the rule is laid out: from byte 16384 on the products, by
+// rows as the file has them, and from byte 24576 on the marks, a byte for each pair (s, e) at s * 64 + e.
+use answer::Refusal;
+use automaton_file::AutomatonRead;
+use automaton_file::read_automaton;
+use automaton_marks::lay_marks;
+use automaton_matrix_list::list_matrices;
+use automaton_matrix_search::MatrixCount;
+use automaton_table::lay_products;
+use rule_writer::write_rule;
+use sections::zero;
+ghost use Prim.Native.Nat.{_<_};
+ghost use lib.ListN.{length};
+ghost use Rattle.automaton_table.specs.Laying.{StepList, MarkPlace, RuleLaid, WritePlace, LaidWritten};
+ghost use Rattle.automaton_call.specs.Promise.{ReadHere, MadePromise, RulePromise};
+
+// Lays out the rule whose elements are the listed matrices.
+fn lay_rule(kinds: &[u8], n: usize, scratch: &mut [u8], count: usize)
+    requires { ⌜ StepList (now kinds) n (now scratch) count ⌝ }
+    requires { ⌜ MarkPlace (now kinds) n (now scratch) count ⌝ }
+    ensures { λ _. ⌜ RuleLaid (now (kinds .entry)) n count (now (scratch .entry)) (now (scratch .exit)) ⌝ }
+{
+    lay_products(scratch, count);
+    lay_marks(kinds, n, scratch, count);
+}
+
+// Writes the rule that was laid out, and answers how many bytes its file has.
+fn write_laid(scratch: &[u8], count: usize, k: usize, out: &mut [u8]) -> usize
+    requires { ⌜ WritePlace count k (now scratch) (now out) ⌝ }
+    ensures { λ r. ⌜ LaidWritten (now (scratch .entry)) count k (now (out .entry)) (now (out .exit)) r ⌝ }
+{
+    let table = &scratch[16384..];
+    let images = &scratch[12288..];
+    let marks = &scratch[24576..];
+    write_rule(table, images, marks, count, k, out)
+}
+
+// The number of bytes that were written.
+pub enum Translated {
+    Rule(usize),
+    Refused {
+        refusal: Refusal,
+        input: usize,
+        place: usize,
+    },
+}
+
+// The rule of an automaton whose transitions stand in scratch, unless it has too many matrices.
+fn make_rule(automaton: &[u8], n: usize, k: usize, out: &mut [u8], scratch: &mut [u8]) -> Translated
+    requires { ⌜ ReadHere (now automaton) n k (now out) (now scratch) ⌝ }
+    ensures { λ r. ⌜ MadePromise (now (automaton .entry)) (now (out .entry)) (now (out .exit)) (now (scratch .entry)) (now (scratch .exit)) r ⌝ }
+{
+    let kinds = &automaton[1..];
+    let count = match list_matrices(kinds, n, k, scratch) {
+        MatrixCount::Listed(c) => c,
+        MatrixCount::TooMany => {
+            zero(scratch);
+            return Translated::Refused {
+                refusal: Refusal::TooManyMatrices,
+                input: 1,
+                place: 0,
+            };
+        }
+    };
+    lay_rule(kinds, n, scratch, count);
+    let length = write_laid(scratch, count, k, out);
+    zero(scratch);
+    Translated::Rule(length)
+}
+
+// Checks an automaton and writes its rule, or refuses it. Scratch ends as zeros, but where a buffer is too short.
+pub fn automaton_rule(automaton: &[u8], out: &mut [u8], scratch: &mut [u8]) -> Translated
+    ensures { λ r. ⌜ RulePromise (now (automaton .entry)) (now (out .entry)) (now (out .exit)) (now (scratch .entry)) (now (scratch .exit)) r ⌝ }
+{
+    if out.len() < 12308 {
+        return Translated::Refused {
+            refusal: Refusal::BufferTooShort,
+            input: 1,
+            place: 0,
+        };
+    }
+    match read_automaton(automaton, 1, scratch) {
+        AutomatonRead::Automaton {
+            states,
+            letters,
+            transitions,
+        } => make_rule(automaton, states, letters, out, scratch),
+        AutomatonRead::Refused {
+            refusal,
+            input,
+            place,
+        } => Translated::Refused {
+            refusal,
+            input,
+            place,
+        },
+    }
+}

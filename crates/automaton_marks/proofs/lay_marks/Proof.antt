@@ -1,0 +1,49 @@
+-- `automaton_marks::lay_marks` meets its contract: the loop holds that the rows so far have their bytes. Assumes nothing.
+use Prim.Native.Nat.{_-_, _≤_}
+use native.Mathlib.Omega.{arith}
+use Rattle.automaton_table.specs.Laying.{RowsFilled, MarkByte}
+use Rattle.automaton_table.proofs.Filling.{rows-none, rows-all}
+use Rattle.automaton_table.proofs.Rows.{marks-place, marks-more}
+use Rattle.automaton_marks.proofs.lay_marks.Statement.{statement}
+use Rattle.automaton_marks.proofs.lay_marks.Tie as tie
+
+abbrev Inv-loop : tie.InvT-loop
+Inv-loop kinds n scratch₀ count s₀ scratch s = RowsFilled (MarkByte kinds n count scratch₀) 24576 64 s count scratch₀ scratch × (s ≤ count)
+
+abbrev μ-loop : tie.MeasureT-loop
+μ-loop kinds n scratch₀ count s₀ scratch s = count - s
+
+loop-holds : tie.Need-loop-holds Inv-loop μ-loop
+loop-holds c = (rows-none, omega arith)
+
+lay-marks-of-requires : tie.Need-lay-marks-of-requires Inv-loop μ-loop
+lay-marks-of-requires c κs = (marks-place (c .before .before .before .before .before .pre) (c .before .before .loop .inv .0 .kept), c .before .loop-test .taken)
+
+add-s : tie.Need-add-s Inv-loop μ-loop
+add-s c = omega arith
+
+loop-less : tie.Need-loop-less Inv-loop μ-loop
+loop-less c = omega arith
+
+loop-again : tie.Need-loop-again Inv-loop μ-loop
+loop-again c = (marks-more (c .before .before .before .before .before .before .before .before .pre) (c .before .before .before .before .loop-test .taken) (c .before .before .before .before .before .loop .inv .0) (c .before .before .lay-marks-of .ensures), omega arith)
+
+same-length : tie.Need-same-length Inv-loop μ-loop
+same-length c = c .before .loop .inv .0 .kept .same-length
+
+returns : tie.Need-returns Inv-loop μ-loop
+returns c = rows-all (c .before .loop .inv .1) (c .loop-test .left) (c .before .loop .inv .0)
+
+pub lay-marks-spec : {M : Type 1} → statement M
+lay-marks-spec =
+    tie.close
+    (tie.spec
+    Inv-loop
+    μ-loop
+    loop-holds
+    lay-marks-of-requires
+    add-s
+    loop-less
+    loop-again
+    same-length
+    returns)

@@ -1,0 +1,65 @@
+-- `automaton_marks::lay_marks_of` meets its contract: the loop holds that the pairs so far have their bytes. Assumes nothing.
+use Prim.Native.Nat.{_+_, _*_, _-_, _≤_}
+use native.Mathlib.Omega.{arith}
+use Rattle.automaton_table.specs.Laying.{RowFilled, MarkByte}
+use Rattle.automaton_table.proofs.Filling.{row-none, row-all}
+use Rattle.automaton_table.proofs.Rows.{marks-place, mark-room, mark-more}
+use Rattle.automaton_marks.proofs.lay_marks_of.Statement.{statement}
+use Rattle.automaton_marks.proofs.lay_marks_of.Tie as tie
+
+abbrev Inv-loop : tie.InvT-loop
+Inv-loop kinds n scratch₀ count s base e₀ scratch e = RowFilled (MarkByte kinds n count scratch₀ s) (24576 + s * 64) e scratch₀ scratch × (e ≤ count)
+
+abbrev μ-loop : tie.MeasureT-loop
+μ-loop kinds n scratch₀ count s base e₀ scratch e = count - e
+
+mul-base : tie.Need-mul-base Inv-loop μ-loop
+mul-base c = omega (arith, c .before .before .pre .0 .few)
+
+add-base : tie.Need-add-base Inv-loop μ-loop
+add-base c = omega (arith, c .before .before .pre .0 .few)
+
+loop-holds : tie.Need-loop-holds Inv-loop μ-loop
+loop-holds c = (row-none, omega arith)
+
+mark-byte-requires : tie.Need-mark-byte-requires Inv-loop μ-loop
+mark-byte-requires c κs = (marks-place (c .before .before .before .before .before .pre .0) (c .before .before .loop .inv .0 .kept), (omega arith, omega arith))
+
+add-scratch : tie.Need-add-scratch Inv-loop μ-loop
+add-scratch c = omega (arith, c .before .before .before .before .before .before .pre .0 .few)
+
+slice-write-scratch : tie.Need-slice-write-scratch Inv-loop μ-loop
+slice-write-scratch c = mark-room (c .before .before .before .before .before .before .pre .0) (c .before .before .before .before .before .before .pre .1) (c .before .before .before .loop .inv .0) (c .before .before .loop-test .taken)
+
+add-e : tie.Need-add-e Inv-loop μ-loop
+add-e c = omega arith
+
+loop-less : tie.Need-loop-less Inv-loop μ-loop
+loop-less c = omega arith
+
+loop-again : tie.Need-loop-again Inv-loop μ-loop
+loop-again c = (mark-more (c .before .before .before .before .before .before .pre .0) (c .before .before .before .before .before .before .pre .1) (c .before .before .before .loop .inv .0) (c .before .before .loop-test .taken) (c .mark-byte .ensures), omega arith)
+
+same-length : tie.Need-same-length Inv-loop μ-loop
+same-length c = c .before .loop .inv .0 .kept .same-length
+
+returns : tie.Need-returns Inv-loop μ-loop
+returns c = row-all (c .before .loop .inv .1) (c .loop-test .left) (c .before .loop .inv .0)
+
+pub lay-marks-of-spec : {M : Type 1} → statement M
+lay-marks-of-spec =
+    tie.close
+    (tie.spec
+    Inv-loop
+    μ-loop
+    mul-base
+    add-base
+    loop-holds
+    mark-byte-requires
+    add-scratch
+    slice-write-scratch
+    add-e
+    loop-less
+    loop-again
+    same-length
+    returns)

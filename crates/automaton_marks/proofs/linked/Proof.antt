@@ -1,0 +1,65 @@
+-- `automaton_marks::linked` meets its contract: the two products are read, and each way through the tests is one of its cases.
+-- Assumes nothing.
+use native.Mathlib.Omega.{arith}
+use mir.Facts.{fits-8-64}
+use borrow.Author.Needs.{needs}
+use Rattle.automaton_table.proofs.Marks.{product-place}
+use Rattle.automaton_marks.proofs.linked.Statement.{statement}
+use Rattle.automaton_marks.proofs.linked.Tie as tie
+
+mul-if1 : tie.Need-mul-if1
+mul-if1 c = omega (arith, product-place (c .pre .0 .0) (c .pre .1 .1) (c .pre .1 .1))
+
+add-if1 : tie.Need-add-if1
+add-if1 c = omega (arith, product-place (c .pre .0 .0) (c .pre .1 .1) (c .pre .1 .1))
+
+add-if1-2 : tie.Need-add-if1-2
+add-if1-2 c = omega (arith, product-place (c .pre .0 .0) (c .pre .1 .1) (c .pre .1 .1))
+
+shared-slice-read-if1 : tie.Need-shared-slice-read-if1
+shared-slice-read-if1 c = omega (arith, product-place (c .before .pre .0 .0) (c .before .pre .1 .1) (c .before .pre .1 .1))
+
+cast-if1 : tie.Need-cast-if1
+cast-if1 c = fits-8-64 (c .shared-slice-known .given _)
+
+returns : tie.Need-returns
+returns c = search needs
+
+mul-if2 : tie.Need-mul-if2
+mul-if2 c = omega (arith, product-place (c .before .before .pre .0 .0) (c .before .before .pre .1 .0) (c .before .before .pre .1 .1))
+
+add-if2 : tie.Need-add-if2
+add-if2 c = omega (arith, product-place (c .before .before .pre .0 .0) (c .before .before .pre .1 .0) (c .before .before .pre .1 .1))
+
+add-if2-2 : tie.Need-add-if2-2
+add-if2-2 c = omega (arith, product-place (c .before .before .pre .0 .0) (c .before .before .pre .1 .0) (c .before .before .pre .1 .1))
+
+shared-slice-read-if2 : tie.Need-shared-slice-read-if2
+shared-slice-read-if2 c = omega (arith, product-place (c .before .before .before .pre .0 .0) (c .before .before .before .pre .1 .0) (c .before .before .before .pre .1 .1))
+
+cast-if2 : tie.Need-cast-if2
+cast-if2 c = fits-8-64 (c .shared-slice-known2 .given _)
+
+returns-2 : tie.Need-returns-2
+returns-2 c = search needs
+
+returns-3 : tie.Need-returns-3
+returns-3 c = search needs
+
+pub linked-spec : {M : Type 1} → statement M
+linked-spec =
+    tie.close
+    (tie.spec
+    mul-if1
+    add-if1
+    add-if1-2
+    shared-slice-read-if1
+    cast-if1
+    returns
+    mul-if2
+    add-if2
+    add-if2-2
+    shared-slice-read-if2
+    cast-if2
+    returns-2
+    returns-3)

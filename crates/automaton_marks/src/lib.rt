@@ -1,0 +1,122 @@
+// The marks of the pairs of an automaton's matrices, as document 01 has them: a linked pair (R, E) for which some initial p and some
+// q have entry (p, q) of R not 0 and entry (q, q) of E equal to 2. They are laid out behind the table, as automaton_table/specs/Laying says.
+ghost use mathlib.Core.Path.{_≡_};
+ghost use Prim.Native.Nat.{_+_, _*_, _≤_, _<_};
+ghost use lib.ListN.{length};
+ghost use Rattle.rule_marks.specs.Faults.{LinkedAnswer};
+ghost use Rattle.buchi.proofs.MatrixTests.{returns-at, returns-from, recurs-test};
+ghost use Rattle.automaton_matrices.specs.Bytes.{initialAt};
+ghost use Rattle.automaton_matrix_search.specs.Lists.{matrixAt};
+ghost use Rattle.automaton_table.specs.Laying.{RowFilled, RowsFilled, laidRule, initialStates, PairPlace, MarkPlace, MarkByte};
+
+// Whether the pair (s, e) is linked by the products that were laid out.
+pub fn linked(scratch: &[u8], count: usize, s: usize, e: usize) -> bool
+    requires { ⌜ (count ≤ 64) × (65536 ≤ length (now scratch)) ⌝ }
+    requires { ⌜ (s < count) × (e < count) ⌝ }
+    ensures { λ r. ⌜ LinkedAnswer (laidRule (now (scratch .entry)) count 0) s e r ⌝ }
+{
+    if scratch[16384 + (e * count + e)] as usize != e {
+        return false;
+    }
+    if scratch[16384 + (s * count + e)] as usize != s {
+        return false;
+    }
+    true
+}
+
+// Whether a state is initial.
+pub fn initial(kinds: &[u8], p: usize) -> bool
+    requires { ⌜ p < length (now kinds) ⌝ }
+    ensures { λ r. ⌜ r ≡ initialAt (now (kinds .entry)) p ⌝ }
+{
+    if kinds[p] == 1 {
+        return true;
+    }
+    if kinds[p] == 3 {
+        return true;
+    }
+    false
+}
+
+// Whether entry (p, q) of matrix s is not 0 and entry (q, q) of matrix e is 2.
+pub fn returns_at(scratch: &[u8], s: usize, e: usize, p: usize, q: usize) -> bool
+    requires { ⌜ (s < 64) × (e < 64) × (65536 ≤ length (now scratch)) ⌝ }
+    requires { ⌜ (p < 6) × (q < 6) ⌝ }
+    ensures { λ r. ⌜ r ≡ returns-at (matrixAt (now (scratch .entry)) s) (matrixAt (now (scratch .entry)) e) p q ⌝ }
+{
+    if scratch[8192 + (s * 64 + (p * 6 + q))] == 0 {
+        return false;
+    }
+    if scratch[8192 + (e * 64 + (q * 6 + q))] == 2 {
+        return true;
+    }
+    false
+}
+
+// Whether p is initial, and this holds for some q.
+pub fn returns_from(kinds: &[u8], n: usize, scratch: &[u8], s: usize, e: usize, p: usize) -> bool
+    requires { ⌜ PairPlace (now kinds) n (now scratch) s e ⌝ }
+    requires { ⌜ p < n ⌝ }
+    ensures { λ r. ⌜ r ≡ returns-from (initialStates (now (kinds .entry)) n) (matrixAt (now (scratch .entry)) s) (matrixAt (now (scratch .entry)) e) p ⌝ }
+{
+    if !initial(kinds, p) {
+        return false;
+    }
+    for q in 0..n {
+        if returns_at(scratch, s, e, p, q) {
+            return true;
+        }
+    }
+    false
+}
+
+// Whether this holds for some p.
+pub fn recurs(kinds: &[u8], n: usize, scratch: &[u8], s: usize, e: usize) -> bool
+    requires { ⌜ PairPlace (now kinds) n (now scratch) s e ⌝ }
+    ensures { λ r. ⌜ r ≡ recurs-test (initialStates (now (kinds .entry)) n) (matrixAt (now (scratch .entry)) s) (matrixAt (now (scratch .entry)) e) ⌝ }
+{
+    for p in 0..n {
+        if returns_from(kinds, n, scratch, s, e, p) {
+            return true;
+        }
+    }
+    false
+}
+
+// The byte of (s, e): 1 where the pair is to be marked, else 0.
+pub fn mark_byte(kinds: &[u8], n: usize, scratch: &[u8], count: usize, s: usize, e: usize) -> u8
+    requires { ⌜ MarkPlace (now kinds) n (now scratch) count ⌝ }
+    requires { ⌜ (s < count) × (e < count) ⌝ }
+    ensures { λ r. ⌜ MarkByte (now (kinds .entry)) n count (now (scratch .entry)) s e r ⌝ }
+{
+    if !linked(scratch, count, s, e) {
+        return 0;
+    }
+    if !recurs(kinds, n, scratch, s, e) {
+        return 0;
+    }
+    1
+}
+
+// The marks of the pairs that begin with s.
+pub fn lay_marks_of(kinds: &[u8], n: usize, scratch: &mut [u8], count: usize, s: usize)
+    requires { ⌜ MarkPlace (now kinds) n (now scratch) count ⌝ }
+    requires { ⌜ s < count ⌝ }
+    ensures { λ _. ⌜ RowFilled (MarkByte (now (kinds .entry)) n count (now (scratch .entry)) s) (24576 + s * 64) count (now (scratch .entry)) (now (scratch .exit)) ⌝ }
+{
+    let base = 24576 + s * 64;
+    for e in 0..count {
+        let byte = mark_byte(kinds, n, scratch, count, s, e);
+        scratch[base + e] = byte;
+    }
+}
+
+// All marks.
+pub fn lay_marks(kinds: &[u8], n: usize, scratch: &mut [u8], count: usize)
+    requires { ⌜ MarkPlace (now kinds) n (now scratch) count ⌝ }
+    ensures { λ _. ⌜ RowsFilled (MarkByte (now (kinds .entry)) n count (now (scratch .entry))) 24576 64 count count (now (scratch .entry)) (now (scratch .exit)) ⌝ }
+{
+    for s in 0..count {
+        lay_marks_of(kinds, n, scratch, count, s);
+    }
+}

@@ -1,0 +1,43 @@
+-- `automaton_sections::states_section` meets its contract: the count decides, and after a good count the kinds. Assumes nothing.
+use mathlib.Core.Path.{refl}
+use native.Mathlib.Omega.{arith}
+use borrow.Author.Needs.{needs}
+use Rattle.sections.specs.Sections.{one-byte}
+use Rattle.sections.specs.Answers.{CountGood}
+use Rattle.rule_layout.proofs.Sectioned.{count-read, count-refused, by-count, by-entries}
+use Rattle.automaton_format.specs.Format.{statesSection}
+use Rattle.automaton_sections.proofs.states_section.Statement.{statement}
+use Rattle.automaton_sections.proofs.states_section.Tie as tie
+
+byte-count-requires : tie.Need-byte-count-requires
+byte-count-requires c κs = search needs
+
+enum-known-m : tie.Need-enum-known-m
+enum-known-m c = search needs
+
+-- the count that was read
+good : (c : tie.After-known-told) → CountGood one-byte 1 6 (c .before .before .before .before .before .args .bytes .now) (c .before .m .given .0 .0)
+good c = count-read one-byte 1 6 0 (c .before .before .before .before .before .args .bytes .now) (c .before .before .before .byte-count .result) (c .before .before .before .byte-count .ensures) (c .before .m .given .1)
+
+entries-requires : tie.Need-entries-requires
+entries-requires c κs = omega (arith, good c .within)
+
+enum-known-refusal : tie.Need-enum-known-refusal
+enum-known-refusal c = search needs
+
+returns : tie.Need-returns
+returns c = by-entries statesSection 0 (c .before .before .before .before .before .before .args .bytes .now) (good (c .before)) refl (c .entries .result) (c .entries .ensures)
+
+returns-2 : tie.Need-returns-2
+returns-2 c = by-count statesSection 0 (c .before .before .before .before .before .args .bytes .now) (count-refused one-byte 1 6 0 (c .before .before .before .before .before .args .bytes .now) (c .before .before .before .byte-count .result) (c .before .before .before .byte-count .ensures) (c .before .refusal .given .1))
+
+pub states-section-spec : {M : Type 1} → statement M
+states-section-spec =
+    tie.close
+    (tie.spec
+    byte-count-requires
+    enum-known-m
+    entries-requires
+    enum-known-refusal
+    returns
+    returns-2)

@@ -1,0 +1,68 @@
+-- `automaton_sections::triples` meets its contract: what the search found is the first byte out of its range, and where it found nothing all
+-- of them are good. Assumes nothing.
+use Prim.Native.Nat.{_*_}
+use mathlib.Core.Path.{refl}
+use native.Mathlib.Omega.{arith}
+use borrow.Author.Needs.{needs}
+use Rattle.automaton_format.specs.Format.{transitionWidth}
+use Rattle.automaton_sections.specs.Sections.{FirstBeyond}
+use Rattle.automaton_sections.proofs.TripleBytes.{beyond-at, beyond-none, triples-cut, triples-out}
+use Rattle.automaton_sections.proofs.triples.Statement.{statement}
+use Rattle.automaton_sections.proofs.triples.Tie as tie
+
+mul-if1 : tie.Need-mul-if1
+mul-if1 c = search needs
+
+add-if1 : tie.Need-add-if1
+add-if1 c = search needs
+
+add-end : tie.Need-add-end
+add-end c = search needs
+
+returns : tie.Need-returns
+returns c = λ input. triples-cut _ _ _ _ _ input (c .if1 .taken)
+
+first-beyond-requires : tie.Need-first-beyond-requires
+first-beyond-requires c κs = search needs
+
+enum-known-i : tie.Need-enum-known-i
+enum-known-i c = search needs
+
+-- the byte that was found
+out : (c : tie.After-known-told) → FirstBeyond (c .before .before .before .before .before .before .args .rest .now) (c .before .before .before .before .before .before .args .m) (c .before .before .before .before .before .before .args .k) (transitionWidth * c .before .before .before .before .before .before .args .count) (c .before .i .given .0 .0)
+out c = beyond-at _ _ _ (c .before .before .before .before .before .before .args .count) (c .before .before .before .first-beyond .result) (c .before .before .before .first-beyond .ensures) (c .before .i .given .1)
+
+add-t17 : tie.Need-add-t17
+add-t17 c = omega (arith, out c .inside)
+
+add-t18 : tie.Need-add-t18
+add-t18 c = omega (arith, out c .inside)
+
+enum-told : tie.Need-enum-told
+enum-told c = search needs
+
+returns-2 : tie.Need-returns-2
+returns-2 c = λ input. triples-out _ _ _ _ _ input (c .before .before .before .before .if1 .left) (out c)
+
+returns-3 : tie.Need-returns-3
+returns-3 c = record {
+  present = c .before .before .before .if1 .left;
+  triples = beyond-none _ _ _ (c .before .before .before .before .before .args .count) (c .before .before .first-beyond .result) (c .before .before .first-beyond .ensures) (c .enum-told .given .1);
+  is-count = refl;
+}
+
+pub triples-spec : {M : Type 1} → statement M
+triples-spec =
+    tie.close
+    (tie.spec
+    mul-if1
+    add-if1
+    add-end
+    returns
+    first-beyond-requires
+    enum-known-i
+    add-t17
+    add-t18
+    enum-told
+    returns-2
+    returns-3)

@@ -1,0 +1,104 @@
+-- The byte of a pair: the ways through its tests, and what it says while bytes behind the products change. Assumes nothing.
+use Prim.Native.Nat.{ℕ, _+_, _*_, _≤_, _<_}
+use mathlib.Core.Path.{_≡_, sym, ap, _∙_, subst}
+use mathlib.Core.Bool.{Bool, true, false, not}
+use mathlib.Core.List.{List}
+use native.Mathlib.Omega.{arith}
+use native.Mathlib.Nat.{mul-le-mul-left, mul-le-mul-right}
+use lib.Arith.{digits-lt}
+use lib.Dec.{T}
+use Rattle.finite.proofs.Tests.{true-T}
+use Rattle.theory.specs.Pairs.{Linked}
+use Rattle.rule_marks.specs.Faults.{LinkedAnswer}
+use Rattle.rule_marks.proofs.MarkOrder.{said-linked, said-unlinked}
+use Rattle.buchi.specs.Automata.{Automaton}
+use Rattle.buchi.specs.Matrices.{Matrix, SameEntries}
+use Rattle.buchi.specs.Rule.{Recurs}
+use Rattle.buchi.proofs.MatrixTests.{recurs-test, recurs-intro, recurs-elim}
+use Rattle.automaton_matrix_search.specs.Lists.{matrixAt, KeptBelow}
+use Rattle.automaton_matrix_search.proofs.Growing.{kept-sym, kept-less}
+use Rattle.automaton_matrix_search.proofs.Staying.{matrix-stays}
+use Rattle.automaton_table.specs.Laying.{laidRule, initialStates, PairPlace, MarkPlace, MarkByte}
+use Rattle.automaton_table.proofs.Tests.{not-not}
+
+-- the products of count matrices take up no more than 4096 bytes
+pub product-place : {count i j : ℕ} → count ≤ 64 → i < count → j < count → i * count + j < 4096
+product-place {count} {i} {j} few hi hj =
+    let d : i * count + j < count * count = digits-lt hi hj in
+    let s : count * count ≤ 4096 = square count few in
+    omega arith
+  where
+    square : (c : ℕ) → c ≤ 64 → c * c ≤ 4096
+    square c h = omega (arith, mul-le-mul-right c h, mul-le-mul-left 64 h)
+
+-- the bytes of both matrices of a pair are there
+pub pair-place : {kinds : List ℕ} {n count s e : ℕ} {scratch : List ℕ} → MarkPlace kinds n scratch count → s < count → e < count → PairPlace kinds n scratch s e
+pair-place p hs he =
+    let few = p .few in
+    record { few-states = p .few-states; kinds-long = p .kinds-long; room = p .room; start-small = omega arith; cycle-small = omega arith }
+
+-- ---- the ways through the tests
+
+module _ (kinds : List ℕ) (n count : ℕ) (scratch : List ℕ) (s e : ℕ) (linked : Bool) (l : LinkedAnswer (laidRule scratch count 0) s e linked) where
+  pub mark-unlinked : not linked ≡ true → MarkByte kinds n count scratch s e 0
+  mark-unlinked g = record {
+    linked = λ h. absurd (omega arith);
+    recurs = λ h. absurd (omega arith);
+    marked = λ k r. absurd (said-unlinked _ s e linked l g k);
+  }
+
+  module _ {recurs : Bool} (t : recurs ≡ recurs-test (initialStates kinds n) (matrixAt scratch s) (matrixAt scratch e)) (g : not linked ≡ false) where
+    test-is : {c : Bool} → not recurs ≡ c → recurs-test (initialStates kinds n) (matrixAt scratch s) (matrixAt scratch e) ≡ not c
+    test-is h = sym t ∙ sym (not-not recurs) ∙ ap not h
+
+    pub mark-other : not recurs ≡ true → MarkByte kinds n count scratch s e 0
+    mark-other h = record {
+      linked = λ z. absurd (omega arith);
+      recurs = λ z. absurd (omega arith);
+      marked = λ k r. absurd (subst T (test-is h) (recurs-intro (initialStates kinds n) _ _ r));
+    }
+
+    pub mark-new : not recurs ≡ false → MarkByte kinds n count scratch s e 1
+    mark-new h = record {
+      linked = λ z. said-linked _ s e linked l g;
+      recurs = λ z. recurs-elim (initialStates kinds n) _ _ (true-T (test-is h));
+      marked = λ k r. omega arith;
+    }
+
+-- ---- bytes behind the products change
+
+pub recurs-same : {t : Automaton} {R R′ E E′ : Matrix} → SameEntries (t .states) R R′ → SameEntries (t .states) E E′ → Recurs t R E → Recurs t R′ E′
+recurs-same d f r = record {
+  p = r .p;
+  q = r .q;
+  p-inside = r .p-inside;
+  q-inside = r .q-inside;
+  p-initial = r .p-initial;
+  reached = λ z. r .reached (d .same (r .p) (r .q) (r .p-inside) (r .q-inside) ∙ z);
+  returns = sym (f .same (r .q) (r .q) (r .q-inside) (r .q-inside)) ∙ r .returns;
+}
+
+module _ {a b : List ℕ} {count : ℕ} (kept : KeptBelow 24576 a b) (few : count ≤ 64) where
+  product-byte : {i j : ℕ} → i < count → j < count → laidRule b count 0 .product i j ≡ laidRule a count 0 .product i j
+  product-byte {i} {j} hi hj = let h : i * count + j < 4096 = product-place few hi hj in kept .same (16384 + (i * count + j)) (omega arith)
+
+  pub linked-stays : {s e : ℕ} → Linked (laidRule a count 0) s e → Linked (laidRule b count 0) s e
+  linked-stays l = record {
+    inside = l .inside;
+    idempotent = record { inside = l .idempotent .inside; square = product-byte (l .idempotent .inside) (l .idempotent .inside) ∙ l .idempotent .square };
+    stays = product-byte (l .inside) (l .idempotent .inside) ∙ l .stays;
+  }
+
+  recurs-stays : (kinds : List ℕ) {n s e : ℕ} → n ≤ 6 → s < count → e < count
+      → Recurs (initialStates kinds n) (matrixAt a s) (matrixAt a e) → Recurs (initialStates kinds n) (matrixAt b s) (matrixAt b e)
+  recurs-stays kinds small hs he r =
+      let k : KeptBelow 12288 a b = kept-less (omega arith) kept in
+      recurs-same (matrix-stays k small (omega arith)) (matrix-stays k small (omega arith)) r
+
+pub mark-stays : {kinds a b : List ℕ} {n count s e byte : ℕ} → KeptBelow 24576 a b → n ≤ 6 → count ≤ 64 → s < count → e < count
+    → MarkByte kinds n count a s e byte → MarkByte kinds n count b s e byte
+mark-stays {kinds} kept small few hs he m = record {
+  linked = λ h. linked-stays kept few (m .linked h);
+  recurs = λ h. recurs-stays kept few kinds small hs he (m .recurs h);
+  marked = λ l r. m .marked (linked-stays (kept-sym kept) few l) (recurs-stays (kept-sym kept) few kinds small hs he r);
+}

@@ -1,0 +1,123 @@
+-- The rule while it is laid out in scratch behind the list of matrices: what each byte is to be, and which bytes stay.
+-- Assumes nothing.
+use Prim.Native.Nat.{ℕ, _+_, _*_, _≤_, _<_}
+use mathlib.Core.Path.{_≡_}
+use mathlib.Core.Bool.{false}
+use mathlib.Core.List.{List, _++_}
+use lib.ListN.{length, getD, drop}
+use Rattle.theory.specs.Rules.{Morphism, Marking}
+use Rattle.theory.specs.Pairs.{Linked}
+use Rattle.buchi.specs.Automata.{Automaton}
+use Rattle.buchi.specs.Matrices.{SameEntries}
+use Rattle.buchi.specs.Rule.{Recurs}
+use Rattle.buchi.proofs.Products.{product}
+use Rattle.automaton_matrices.specs.Bytes.{initialAt, finalAt}
+use Rattle.automaton_matrix_search.specs.Lists.{matrixAt, nextAt, parentAt, letterAt, MatrixList, KeptBelow, Recorded}
+use Rattle.rule_writer.specs.File.{fileOf}
+
+-- ---- bytes that stay, and bytes that are filled
+
+-- byte base + j holds what P asks for j, for the first j, and the bytes before are as they were
+pub record RowFilled (P : ℕ → ℕ → Type 0) (base count : ℕ) (entry now : List ℕ) : Type 0 where
+  pub kept : KeptBelow base entry now
+  pub filled : (j : ℕ) → j < count → P j (getD now (base + j) 0)
+
+-- byte base + (i·width + j) holds what P asks for i and j, in the first rows and columns, and the bytes before are as they were
+pub record RowsFilled (P : ℕ → ℕ → ℕ → Type 0) (base width rows columns : ℕ) (entry now : List ℕ) : Type 0 where
+  pub kept : KeptBelow base entry now
+  pub filled : (i j : ℕ) → i < rows → j < columns → P i j (getD now (base + (i * width + j)) 0)
+
+-- ---- the rule that is laid out
+
+-- products from byte 16384 on; a letter's image is the matrix that it makes of the empty word
+abbrev pub laidRule : List ℕ → ℕ → ℕ → Morphism
+laidRule scratch count k = record {
+  size = count;
+  letters = k;
+  product = λ a b. getD scratch (16384 + (a * count + b)) 0;
+  image = λ a. nextAt scratch 0 a;
+}
+
+-- marks from byte 24576 on
+abbrev pub laidMarks : List ℕ → Marking
+laidMarks scratch s e = getD scratch (24576 + (s * 64 + e)) 0
+
+-- ---- what each byte is to be
+
+-- the bytes along which the products are looked up are there: each matrix was found from an entry before it, and the letter by which it
+-- was leads from every matrix to one of the list
+pub record StepPlace (scratch : List ℕ) (count : ℕ) : Type 0 where
+  pub few : count ≤ 64
+  pub room : 65536 ≤ length scratch
+  pub parents : (j : ℕ) → j < count → parentAt scratch j ≤ j
+  pub letters : (j : ℕ) → j < count → letterAt scratch j < 16
+  pub steps : (i j : ℕ) → i < count → j < count → nextAt scratch (i + 1) (letterAt scratch j) < count
+
+-- they were recorded of a list of matrices over n states, with some number of letters
+pub record StepList (kinds : List ℕ) (n : ℕ) (scratch : List ℕ) (count : ℕ) : Type 0 where
+  pub letters : ℕ
+  pub few-letters : letters ≤ 16
+  pub list : MatrixList n scratch count
+  pub recorded : Recorded kinds n letters scratch count
+
+-- r is the number of the product of matrices i and j
+pub record ProductNumber (n count : ℕ) (scratch : List ℕ) (i j r : ℕ) : Type 0 where
+  pub below : r < count
+  pub same : SameEntries n (product n (matrixAt scratch i) (matrixAt scratch j)) (matrixAt scratch r)
+
+-- r is a number of the list, that of the product of matrices i and j wherever the bytes were recorded of a list
+pub record TableNumber (count : ℕ) (scratch : List ℕ) (i j r : ℕ) : Type 0 where
+  pub below : r < count
+  pub is-product : (kinds : List ℕ) (n : ℕ) → StepList kinds n scratch count → ProductNumber n count scratch i j r
+
+-- the products of matrix i with the first j matrices are laid out
+pub record RowLaid (count : ℕ) (scratch : List ℕ) (i j : ℕ) : Type 0 where
+  pub numbers : (y : ℕ) → y < j → TableNumber count scratch i y (getD scratch (16384 + i * count + y) 0)
+
+-- n states, which of them are initial, and nothing else: what the marking looks at
+abbrev pub initialStates : List ℕ → ℕ → Automaton
+initialStates kinds n = record { states = n; letters = 0; initial = initialAt kinds; final = finalAt kinds; step = λ p x q. false }
+
+-- the byte of the pair (s, e) is not 0 exactly if the pair is linked and "for some initial p and some q entry (p, q) of R is not
+-- 0 and entry (q, q) of E is 2"
+pub record MarkByte (kinds : List ℕ) (n count : ℕ) (scratch : List ℕ) (s e byte : ℕ) : Type 0 where
+  pub linked : 0 < byte → Linked (laidRule scratch count 0) s e
+  pub recurs : 0 < byte → Recurs (initialStates kinds n) (matrixAt scratch s) (matrixAt scratch e)
+  pub marked : Linked (laidRule scratch count 0) s e → Recurs (initialStates kinds n) (matrixAt scratch s) (matrixAt scratch e) → 0 < byte
+
+-- the bytes of two matrices and of the states' kinds are there
+pub record PairPlace (kinds : List ℕ) (n : ℕ) (scratch : List ℕ) (s e : ℕ) : Type 0 where
+  pub few-states : n ≤ 6
+  pub kinds-long : n ≤ length kinds
+  pub room : 65536 ≤ length scratch
+  pub start-small : s < 64
+  pub cycle-small : e < 64
+
+-- and so are those of count matrices
+pub record MarkPlace (kinds : List ℕ) (n : ℕ) (scratch : List ℕ) (count : ℕ) : Type 0 where
+  pub few-states : n ≤ 6
+  pub kinds-long : n ≤ length kinds
+  pub room : 65536 ≤ length scratch
+  pub few : count ≤ 64
+
+-- the products and marks were laid out; the matrices and what was recorded of them, the images too, are as they were
+pub record RuleLaid (kinds : List ℕ) (n count : ℕ) (entry exit : List ℕ) : Type 0 where
+  pub kept : KeptBelow 16384 entry exit
+  pub products : (i j : ℕ) → i < count → j < count → ProductNumber n count exit i j (laidRule exit count 0 .product i j)
+  pub marks : (s e : ℕ) → s < count → e < count → MarkByte kinds n count exit s e (laidMarks exit s e)
+
+-- ---- writing it
+
+-- a rule within the limits of the format, and room for the longest file
+pub record WritePlace (count k : ℕ) (scratch out : List ℕ) : Type 0 where
+  pub some : 1 ≤ count
+  pub few : count ≤ 64
+  pub letters-some : 1 ≤ k
+  pub letters-few : k ≤ 16
+  pub laid-long : 65536 ≤ length scratch
+  pub room : 12308 ≤ length out
+
+-- the rule that is laid out was written to the front of the buffer, r bytes long
+pub record LaidWritten (scratch : List ℕ) (count k : ℕ) (entry exit : List ℕ) (r : ℕ) : Type 0 where
+  pub holds : exit ≡ fileOf (laidRule scratch count k) (laidMarks scratch) ++ drop (length (fileOf (laidRule scratch count k) (laidMarks scratch))) entry
+  pub counts : r ≡ length (fileOf (laidRule scratch count k) (laidMarks scratch))

@@ -1,0 +1,93 @@
+-- `example_lists::put` meets its contract: each way through the tests is one case of the definition. Assumes nothing.
+use Rattle.example_lists.proofs.Listing.{put-empty, put-named, put-byte, put-repeated}
+use borrow.Author.Needs.{needs}
+use Rattle.example_lists.proofs.put.Statement.{statement}
+use Rattle.example_lists.proofs.put.Tie as tie
+
+returns : tie.Need-returns
+returns c = put-empty _ (c .if1 .taken) (c .before .before .before .pre)
+
+byte-at-requires : tie.Need-byte-at-requires
+byte-at-requires c κs = search needs
+
+entries-requires : tie.Need-entries-requires
+entries-requires c κs = search needs
+
+same-length : tie.Need-same-length
+same-length c = search needs
+
+returns-2 : tie.Need-returns-2
+returns-2 c =
+    let named = c .before .before .before .before in
+    put-named _ (named .before .before .if1 .left) (named .before .byte-at .ensures) (named .if2 .taken) (c .before .before .entries .ensures)
+
+part-requires : tie.Need-part-requires
+part-requires c κs = search needs
+
+decimal-requires : tie.Need-decimal-requires
+decimal-requires c κs = search needs
+
+store-requires : tie.Need-store-requires
+store-requires c κs = search needs
+
+same-length-2 : tie.Need-same-length-2
+same-length-2 c = search needs
+
+returns-3 : tie.Need-returns-3
+returns-3 c =
+    let last = c .before .before .before .before .before in
+    let first = last .before .before in
+    put-byte _
+    (first .before .before .if1 .left)
+    (first .before .byte-at .ensures)
+    (first .if2 .left)
+    (last .before .part .ensures)
+    (last .if3 .taken)
+    (c .before .before .before .decimal .ensures)
+    (c .before .before .store .ensures)
+
+decimal-requires-2 : tie.Need-decimal-requires-2
+decimal-requires-2 c κs = search needs
+
+repeats-requires : tie.Need-repeats-requires
+repeats-requires c κs = search needs
+
+entries-requires-2 : tie.Need-entries-requires-2
+entries-requires-2 c κs = search needs
+
+same-length-3 : tie.Need-same-length-3
+same-length-3 c = search needs
+
+returns-4 : tie.Need-returns-4
+returns-4 c =
+    let last = c .before .before .before .before .before .before in
+    let first = last .before .before in
+    put-repeated _
+    (first .before .before .if1 .left)
+    (first .before .byte-at .ensures)
+    (first .if2 .left)
+    (last .before .part .ensures)
+    (last .if3 .left)
+    (c .before .before .before .before .before .decimal2 .ensures)
+    (c .before .before .before .before .repeats .ensures)
+    (c .before .before .entries2 .ensures)
+
+pub put-spec : {M : Type 1} → statement M
+put-spec =
+    tie.close
+    (tie.spec
+    returns
+    byte-at-requires
+    entries-requires
+    same-length
+    returns-2
+    part-requires
+    decimal-requires
+    store-requires
+    same-length-2
+    returns-3
+    decimal-requires-2
+    repeats-requires
+    entries-requires-2
+    same-length-3
+    returns-4)

@@ -1,0 +1,34 @@
+-- What the answer of `accepts` says of acceptance: for a set of linked pairs that the marks in the lent bytes hold, `true` is
+-- acceptance and `false` is not. Assumes nothing.
+use Prim.Native.Nat.{ℕ}
+use mathlib.Core.Path.{_≡_, sym, _∙_, subst}
+use mathlib.Core.Bool.{Bool, true, false}
+use mathlib.Core.List.{List}
+use lib.Dec.{T}
+use Rattle.finite.proofs.Tests.{true-T}
+use Rattle.theory.specs.Rules.{Lawful, Pairs}
+use Rattle.theory.specs.Pairs.{LinkedOnly}
+use Rattle.theory.specs.Acceptance.{Accepts}
+use Rattle.theory.proofs.Membership.{accepts-test, accepts-test-intro, accepts-test-elim}
+use Rattle.rule_table.specs.Table.{Table, morphismAt}
+use Rattle.lasso_cuts.specs.WordValues.{CallWord}
+use Rattle.lasso_turns.specs.Cuts.{markedIn}
+pub use Rattle.lasso_turns.proofs.Agreement.{Agrees}
+use Rattle.lasso_turns.proofs.Agreement.{accepts-test-agrees}
+
+module _ {bytes : List ℕ} {n k : ℕ} {P : Pairs} {u v : List ℕ} (table : Table bytes n k) (law : Lawful (morphismAt bytes n k))
+    (linked : LinkedOnly (morphismAt bytes n k) P) (word-u : CallWord k u) (word-v : CallWord k v) where
+  module _ (scratch : List ℕ) (agrees : Agrees n P (markedIn scratch)) {b : Bool}
+      (answer : b ≡ accepts-test (morphismAt bytes n k) (markedIn scratch) u v) where
+    -- the answer is the test of membership with P
+    answer-is : b ≡ accepts-test (morphismAt bytes n k) P u v
+    answer-is = answer ∙ sym (accepts-test-agrees law agrees (word-u .over) (word-v .over))
+
+    -- `true` means that the lasso is accepted
+    pub accepted : b ≡ true → Accepts (morphismAt bytes n k) P u v
+    accepted e = accepts-test-elim law linked (word-u .over) (word-v .over) (word-v .some) (true-T (sym answer-is ∙ e))
+
+    -- `false` means that it is not
+    pub not-accepted : b ≡ false → Accepts (morphismAt bytes n k) P u v → ⊥
+    not-accepted e a =
+        subst T (sym answer-is ∙ e) (accepts-test-intro law linked (word-u .over) (word-v .over) (word-v .some) a)

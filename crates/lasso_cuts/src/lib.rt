@@ -1,0 +1,82 @@
+// Whether a rule accepts a lasso: the value of each beginning and each end of the cycle in one pass each, and then, for each
+// place of one turn, the powers of the turn's value. The marks stand in the first 4,096 bytes of scratch, a byte for each
+// pair; the values go behind them.
+use lasso_turns::some_cut;
+use rule_table::image;
+use rule_table::product;
+ghost use mathlib.Core.Path.{_≡_};
+ghost use Prim.Native.Nat.{_+_, _≤_, _<_};
+ghost use lib.ListN.{length};
+ghost use Rattle.theory.specs.Rules.{Lawful, element, value};
+ghost use Rattle.theory.proofs.Membership.{accepts-test};
+ghost use Rattle.rule_table.specs.Table.{Table, morphismAt};
+ghost use Rattle.lasso_cuts.specs.WordValues.{CallWord};
+ghost use Rattle.lasso_turns.specs.Cuts.{markedIn, Beginnings, Ends, KeptAround};
+
+// The value of a word.
+pub fn word_value(rule: &[u8], n: usize, k: usize, w: &[u8]) -> usize
+    requires { ⌜ Table (now rule) n k ⌝ }
+    requires { ⌜ Lawful (morphismAt (now rule) n k) ⌝ }
+    requires { ⌜ CallWord k (now w) ⌝ }
+    ensures { λ r. ⌜ value (morphismAt (now (rule .entry)) n k) (now (w .entry)) ≡ element r ⌝ }
+{
+    let mut s = image(rule, n, w[0] as usize);
+    for j in 1..w.len() {
+        let h = image(rule, n, w[j] as usize);
+        s = product(rule, n, s, h);
+    }
+    s
+}
+
+// The values of the beginnings of a word.
+fn beginnings(rule: &[u8], n: usize, k: usize, w: &[u8], scratch: &mut [u8], base: usize)
+    requires { ⌜ Table (now rule) n k ⌝ }
+    requires { ⌜ Lawful (morphismAt (now rule) n k) ⌝ }
+    requires { ⌜ CallWord k (now w) ⌝ }
+    requires { ⌜ base + length (now w) ≤ length (now scratch) ⌝ }
+    ensures values { λ r. ⌜ Beginnings (morphismAt (now (rule .entry)) n k) (now (w .entry)) (now (scratch .exit)) base ⌝ }
+    ensures others { λ r. ⌜ KeptAround (now (scratch .entry)) (now (scratch .exit)) base (length (now (w .entry))) ⌝ }
+{
+    let mut s = image(rule, n, w[0] as usize);
+    scratch[base] = (s % 256) as u8;
+    for j in 1..w.len() {
+        let h = image(rule, n, w[j] as usize);
+        s = product(rule, n, s, h);
+        scratch[base + j] = (s % 256) as u8;
+    }
+}
+
+// The values of the ends of a word.
+fn ends(rule: &[u8], n: usize, k: usize, w: &[u8], scratch: &mut [u8], base: usize)
+    requires { ⌜ Table (now rule) n k ⌝ }
+    requires { ⌜ Lawful (morphismAt (now rule) n k) ⌝ }
+    requires { ⌜ CallWord k (now w) ⌝ }
+    requires { ⌜ base + length (now w) ≤ length (now scratch) ⌝ }
+    ensures values { λ r. ⌜ Ends (morphismAt (now (rule .entry)) n k) (now (w .entry)) (now (scratch .exit)) base ⌝ }
+    ensures others { λ r. ⌜ KeptAround (now (scratch .entry)) (now (scratch .exit)) base (length (now (w .entry))) ⌝ }
+{
+    let mut i = w.len() - 1;
+    let mut s = image(rule, n, w[i] as usize);
+    scratch[base + i] = (s % 256) as u8;
+    while 0 < i {
+        i -= 1;
+        let h = image(rule, n, w[i] as usize);
+        s = product(rule, n, h, s);
+        scratch[base + i] = (s % 256) as u8;
+    }
+}
+
+// Whether the lasso is accepted under the marks that stand in scratch. The bytes of scratch behind the marks are used.
+pub fn accepts(rule: &[u8], n: usize, k: usize, u: &[u8], v: &[u8], scratch: &mut [u8]) -> bool
+    requires { ⌜ Table (now rule) n k ⌝ }
+    requires { ⌜ Lawful (morphismAt (now rule) n k) ⌝ }
+    requires { ⌜ CallWord k (now u) ⌝ }
+    requires { ⌜ CallWord k (now v) ⌝ }
+    requires { ⌜ 65536 ≤ length (now scratch) ⌝ }
+    ensures { λ b. ⌜ b ≡ accepts-test (morphismAt (now (rule .entry)) n k) (markedIn (now (scratch .entry))) (now (u .entry)) (now (v .entry)) ⌝ }
+{
+    let s = word_value(rule, n, k, u);
+    beginnings(rule, n, k, v, scratch, 4096);
+    ends(rule, n, k, v, scratch, 8320);
+    some_cut(rule, n, k, scratch, s, v.len())
+}

@@ -1,0 +1,118 @@
+-- What each way through the call for membership promises. Assumes nothing.
+use Prim.Native.Nat.{ℕ, suc, _≤_, _<_}
+use mathlib.Core.Path.{_≡_, refl, sym, ap, _∙_, subst}
+use mathlib.Core.Bool.{Bool, true, false}
+use mathlib.Core.List.{List, _++_}
+use native.Mathlib.Omega.{arith}
+use lib.ListN.{length, replicate}
+use lib.Dec.{leb}
+use Rattle.answer.specs.declared.Refusal.{Refusal}
+use Rattle.answer.specs.Checks.{passed, refused, FirstFailure}
+use Rattle.answer.proofs.Order.{refused-before, passed-before}
+use Rattle.theory.specs.Rules.{Morphism, Lawful, marked, level}
+use Rattle.theory.specs.Acceptance.{Accepts}
+use Rattle.theory.specs.Pairs.{LinkedOnly}
+use Rattle.theory.proofs.Words.{over-from}
+use Rattle.theory.proofs.Membership.{accepts-test}
+use Rattle.rule_table.specs.Table.{Table, morphismAt}
+use Rattle.formats.specs.Format.{elementsOf, lettersOf, morphismOf, pairsOf, markingOf}
+use Rattle.formats.specs.RuleChecks.{scratchSize}
+use Rattle.rule_layout.specs.declared.Shape.{Shape}
+use Rattle.rule_check.specs.declared.Checked.the-variants.{Rule, Refused as Checked-refused}
+use Rattle.rule_check.specs.Answers.{CheckPromise, afterCall}
+use Rattle.rule_check.specs.GoodRule.{GoodRule}
+use Rattle.rule_check.proofs.Calls.{scratch-long, called-good, zeros-left, checked-length, shape-morphism, shape-table}
+use Rattle.lasso_words.specs.declared.LassoFault.{LassoFault}
+use Rattle.lasso_words.specs.declared.LassoFault.the-variants.{Nothing, Refused as Lasso-refused}
+use Rattle.lasso_words.specs.WordChecks.{lassoChecks}
+use Rattle.lasso_words.specs.Answers.{GoodWord, GoodLasso, LassoAnswer}
+use Rattle.lasso_cuts.specs.WordValues.{CallWord}
+use Rattle.lasso_turns.specs.Cuts.{markedIn}
+use Rattle.lasso_cuts.proofs.Accepted.{Agrees, accepted, not-accepted}
+use Rattle.lasso_member.specs.declared.Membership.the-variants.{Accepted, NotAccepted, Refused}
+use Rattle.lasso_member.specs.Promise.{MemberPromise}
+
+-- the words' answer, known by its case
+module _ (k : ℕ) (u v : List ℕ) (answer : LassoFault) (known : LassoAnswer k u v answer) where
+  pub words-good : answer ≡ Nothing → GoodLasso k u v
+  words-good e = subst (LassoAnswer k u v) e known
+
+  pub words-refused : {r : Refusal} {i place : ℕ} → answer ≡ Lasso-refused r i place → FirstFailure (lassoChecks k u v) (refused r i place)
+  words-refused e = subst (LassoAnswer k u v) e known
+
+call-word : {k : ℕ} {w : List ℕ} → GoodWord k w → CallWord k w
+call-word {k} {w} g = record { over = over-from k w (g .letters); some = g .some; short = g .short }
+
+module _ (bytes u v entry : List ℕ) where
+  -- the rule is refused
+  pub rule-refused : {exit : List ℕ} {r : Refusal} {i place : ℕ} → CheckPromise 1 bytes entry exit (Checked-refused r i place) → MemberPromise bytes u v entry exit (Refused r i place)
+  rule-refused p = record { verdict = refused-before _ _ (p .verdict); answered = tt; scratch = p .scratch }
+
+  module _ {shape : Shape} {mid : List ℕ} (p : CheckPromise 1 bytes entry mid (Rule shape)) where
+    good : GoodRule bytes
+    good = called-good 1 bytes entry (p .verdict)
+
+    pub table : Table bytes (shape .elements) (shape .letters)
+    table = shape-table (p .scratch .shape-is) (good .table)
+
+    pub lawful : Lawful (morphismAt bytes (shape .elements) (shape .letters))
+    lawful = subst Lawful (sym (shape-morphism (p .scratch .shape-is))) (good .lawful)
+
+    linked : LinkedOnly (morphismAt bytes (shape .elements) (shape .letters)) (pairsOf bytes)
+    linked = subst (λ (m : Morphism). LinkedOnly m (pairsOf bytes)) (sym (shape-morphism (p .scratch .shape-is))) (good .linked)
+
+    pub long : scratchSize ≤ length mid
+    long = omega (arith, scratch-long 1 bytes entry (p .verdict), checked-length (p .scratch))
+
+    -- the table of marks in scratch marks the file's pairs
+    agrees : Agrees (shape .elements) (pairsOf bytes) (markedIn mid)
+    unfolding marked level markedIn
+    agrees = record {
+      same = λ s e hs he. ap (leb 1)
+          (sym (p .scratch .mark s e (omega (arith, p .scratch .shape-is .elements)) (omega (arith, p .scratch .shape-is .elements))));
+    }
+
+    -- zeros after the marks or after their use
+    left : (was exit : List ℕ) → length was ≡ length mid → exit ≡ replicate (length was) 0 → exit ≡ afterCall entry
+    left was exit e z = zeros-left 1 bytes entry (p .verdict) was exit (e ∙ checked-length (p .scratch)) z
+
+    -- a word is refused
+    pub word-refused : (exit : List ℕ) {r : Refusal} {i place : ℕ} → FirstFailure (lassoChecks (shape .letters) u v) (refused r i place) → exit ≡ replicate (length mid) 0
+        → MemberPromise bytes u v entry exit (Refused r i place)
+    word-refused exit {r} {i} {place} f z = record {
+      verdict = passed-before _ _ (p .verdict) (subst (λ (k : ℕ). FirstFailure (lassoChecks k u v) (refused r i place)) (p .scratch .shape-is .letters) f);
+      answered = tt;
+      scratch = left mid exit refl z;
+    }
+
+    module _ (g : GoodLasso (shape .letters) u v) where
+      pub start-word : CallWord (shape .letters) u
+      start-word = call-word (g .start)
+
+      pub cycle-word : CallWord (shape .letters) v
+      cycle-word = call-word (g .cycle)
+
+      words-passed : FirstFailure (lassoChecks (lettersOf bytes) u v) passed
+      words-passed = subst (λ (k : ℕ). FirstFailure (lassoChecks k u v) passed) (p .scratch .shape-is .letters) (g .verdict)
+
+      module _ {b : Bool} (answer : b ≡ accepts-test (morphismAt bytes (shape .elements) (shape .letters)) (markedIn mid) u v)
+          (was exit : List ℕ) (kept : length was ≡ length mid) (z : exit ≡ replicate (length was) 0) where
+        -- the lasso is accepted
+        pub says-yes : b ≡ true → MemberPromise bytes u v entry exit Accepted
+        says-yes e = record {
+          verdict = passed-before _ _ (p .verdict) words-passed;
+          answered =
+              subst (λ (m : Morphism). Accepts m (pairsOf bytes) u v) (shape-morphism (p .scratch .shape-is))
+              (accepted table lawful linked start-word cycle-word mid agrees answer e);
+          scratch = left was exit kept z;
+        }
+
+        -- or it is not
+        pub says-no : b ≡ false → MemberPromise bytes u v entry exit NotAccepted
+        says-no e = record {
+          verdict = passed-before _ _ (p .verdict) words-passed;
+          answered = λ a.
+              not-accepted table lawful linked start-word cycle-word mid agrees answer e
+              (subst (λ (m : Morphism). Accepts m (pairsOf bytes) u v) (sym (shape-morphism (p .scratch .shape-is))) a);
+          scratch = left was exit kept z;
+        }

@@ -1,0 +1,89 @@
+-- `lasso_member::member` meets its contract: the rule's checks decide, then the words', and else the cuts of one turn. Assumes nothing.
+use mathlib.Core.Path.{_≡_}
+use Rattle.rule_check.proofs.Calls.{checked-rule, checked-refused}
+use Rattle.lasso_member.proofs.Ways.{words-good, words-refused, rule-refused, table, lawful, long, word-refused, start-word, cycle-word, says-yes, says-no}
+use borrow.Author.Needs.{needs}
+use Rattle.lasso_member.proofs.member.Statement.{statement}
+use Rattle.lasso_member.proofs.member.Tie as tie
+
+check-requires : tie.Need-check-requires
+check-requires c κs = search needs
+
+enum-known-shape : tie.Need-enum-known-shape
+enum-known-shape c = search needs
+
+enum-known-refusal : tie.Need-enum-known-refusal
+enum-known-refusal c = search needs
+
+same-length : tie.Need-same-length
+same-length c = search needs
+
+returns : tie.Need-returns
+returns c = rule-refused _ _ _ _ (checked-refused 1 _ _ _ (c .before .before .before .before .before .check .result) (c .before .before .before .before .before .check .ensures) (c .before .refusal .given .1))
+
+lasso-fault-requires : tie.Need-lasso-fault-requires
+lasso-fault-requires c κs = search needs
+
+enum-told : tie.Need-enum-told
+enum-told c = search needs
+
+enum-known-refusal-2 : tie.Need-enum-known-refusal-2
+enum-known-refusal-2 c = search needs
+
+zero-requires : tie.Need-zero-requires
+zero-requires c κs = search needs
+
+same-length-2 : tie.Need-same-length-2
+same-length-2 c = search needs
+
+returns-2 : tie.Need-returns-2
+returns-2 c =
+    word-refused _ _ _ _ (checked-rule 1 _ _ _ (c .before .before .before .before .before .before .before .before .before .before .before .before .before .check .result) (c .before .before .before .before .before .before .before .before .before .before .before .before .before .check .ensures) (c .before .before .before .before .before .before .before .before .before .shape .given .1)) _ (words-refused _ _ _ (c .before .before .before .before .before .before .before .lasso-fault .result) (c .before .before .before .before .before .before .before .lasso-fault .ensures) (c .before .before .before .before .before .refusal2 .given .1)) (c .before .before .zero .ensures)
+
+accepts-requires : tie.Need-accepts-requires
+accepts-requires c κs =
+    let a = c .before .before .before .before .before .before .before .before .before .before .before .before .before .before .before .args in
+    let p = (checked-rule 1 _ _ _ (c .before .before .before .before .before .before .before .before .before .check .result) (c .before .before .before .before .before .before .before .before .before .check .ensures) (c .before .before .before .before .before .shape .given .1)) in
+    let g = (words-good _ _ _ (c .before .before .before .lasso-fault .result) (c .before .before .before .lasso-fault .ensures) (c .before .enum-told .given .1)) in
+    (table _ (a .u .now) (a .v .now) _ p, (lawful _ (a .u .now) (a .v .now) _ p, (start-word _ _ _ _ p g, (cycle-word _ _ _ _ p g, long _ (a .u .now) (a .v .now) _ p))))
+
+zero-requires-2 : tie.Need-zero-requires-2
+zero-requires-2 c κs = search needs
+
+same-length-3 : tie.Need-same-length-3
+same-length-3 c = search needs
+
+returns-3 : tie.Need-returns-3
+returns-3 c =
+    says-yes _ _ _ _ (checked-rule 1 _ _ _ (c .before .before .before .before .before .before .before .before .before .before .before .before .before .before .before .before .before .check .result) (c .before .before .before .before .before .before .before .before .before .before .before .before .before .before .before .before .before .check .ensures) (c .before .before .before .before .before .before .before .before .before .before .before .before .before .shape .given .1))
+    (words-good _ _ _ (c .before .before .before .before .before .before .before .before .before .before .before .lasso-fault .result) (c .before .before .before .before .before .before .before .before .before .before .before .lasso-fault .ensures) (c .before .before .before .before .before .before .before .before .before .enum-told .given .1)) (c .before .before .before .before .before .before .before .accepts .ensures) (c .before .before .before .before .before .before .before .accepts .last .1 .1 .1 .1 .1 .0) _ (c .before .before .before .before .before .before .before .accepts .kept .1 .1 .1 .1 .1 .0) (c .before .before .before .zero2 .ensures) (c .if1 .taken)
+
+same-length-4 : tie.Need-same-length-4
+same-length-4 c = search needs
+
+returns-4 : tie.Need-returns-4
+returns-4 c =
+    says-no _ _ _ _ (checked-rule 1 _ _ _ (c .before .before .before .before .before .before .before .before .before .before .before .before .before .before .before .before .before .check .result) (c .before .before .before .before .before .before .before .before .before .before .before .before .before .before .before .before .before .check .ensures) (c .before .before .before .before .before .before .before .before .before .before .before .before .before .shape .given .1))
+    (words-good _ _ _ (c .before .before .before .before .before .before .before .before .before .before .before .lasso-fault .result) (c .before .before .before .before .before .before .before .before .before .before .before .lasso-fault .ensures) (c .before .before .before .before .before .before .before .before .before .enum-told .given .1)) (c .before .before .before .before .before .before .before .accepts .ensures) (c .before .before .before .before .before .before .before .accepts .last .1 .1 .1 .1 .1 .0) _ (c .before .before .before .before .before .before .before .accepts .kept .1 .1 .1 .1 .1 .0) (c .before .before .before .zero2 .ensures) (c .if1 .left)
+
+pub member-spec : {M : Type 1} → statement M
+member-spec =
+    tie.close
+    (tie.spec
+    check-requires
+    enum-known-shape
+    enum-known-refusal
+    same-length
+    returns
+    lasso-fault-requires
+    enum-told
+    enum-known-refusal-2
+    zero-requires
+    same-length-2
+    returns-2
+    accepts-requires
+    zero-requires-2
+    same-length-3
+    returns-3
+    same-length-4
+    returns-4)

@@ -1,0 +1,97 @@
+-- What each way through the checks of two words shows. Assumes nothing.
+use Prim.Native.Nat.{ℕ, _≤_, _<_}
+use mathlib.Core.Path.{_≡_, refl, subst}
+use mathlib.Core.Logic.{_⊎_, ⊎-elim}
+use mathlib.Core.List.{List}
+use native.Mathlib.Omega.{arith}
+use native.Mathlib.Nat.{zero-add}
+use lib.ListN.{length, getD}
+use Rattle.answer.specs.declared.Refusal.the-variants.{UnknownLetter, WordLength}
+use Rattle.answer.specs.Checks.{Check, refused, FirstFailure}
+use Rattle.answer.proofs.Order.{first-passes, first-fails, none-left, Single, AllSingle, single-nil, single-at, single-cons}
+use Rattle.sections.specs.declared.Found.{Found}
+use Rattle.sections.specs.declared.Found.the-variants.{At, Nothing}
+use Rattle.sections.specs.Answers.{FoundOut, FirstOut}
+use Rattle.lasso_words.specs.WordChecks.{shortestWord, longestWord, LengthOutAt, ForeignAt, lassoChecks}
+use Rattle.lasso_words.specs.Answers.{GoodLasso}
+
+-- a length in the range
+pub record GoodLength (w : List ℕ) : Type 0 where
+  pub some : shortestWord ≤ length w
+  pub short : length w ≤ longestWord
+
+length-passes : {w : List ℕ} → GoodLength w → (place : ℕ) → LengthOutAt w place → ⊥
+length-passes g place o = ⊎-elim (λ l. omega (arith, g .some)) (λ l. omega (arith, g .short)) (o .outside)
+
+-- the search for a letter that is not below k, from the first letter on
+module _ (k : ℕ) (w : List ℕ) (answer : Found) (known : FoundOut w 0 (length w) k answer) where
+  pub foreign-at : {i : ℕ} → answer ≡ At i → ForeignAt k w i
+  foreign-at {i} e = go (subst (FoundOut w 0 (length w) k) e known)
+    where
+      go : FirstOut w 0 (length w) k i → ForeignAt k w i
+      go o = record {
+        inside = o .below;
+        foreign = subst (λ (x : ℕ). k ≤ getD w x 0) (zero-add i) (o .outside);
+        first = λ j h. subst (λ (x : ℕ). getD w x 0 < k) (zero-add j) (o .first j h);
+      }
+
+  pub letters-below : answer ≡ Nothing → (i : ℕ) → i < length w → getD w i 0 < k
+  letters-below e i h = subst (λ (x : ℕ). getD w x 0 < k) (zero-add i) (subst (FoundOut w 0 (length w) k) e known .below i h)
+
+letters-pass : {k : ℕ} {w : List ℕ} → ((i : ℕ) → i < length w → getD w i 0 < k) → (place : ℕ) → ForeignAt k w place → ⊥
+letters-pass f place o = omega (arith, f place (o .inside), o .foreign)
+
+module _ (k : ℕ) (u v : List ℕ) where
+  abbrev start-length : Check
+  start-length = record { refusal = WordLength; input = 1; Fails = LengthOutAt u }
+
+  abbrev cycle-length : Check
+  cycle-length = record { refusal = WordLength; input = 2; Fails = LengthOutAt v }
+
+  -- a bad start
+  pub start-out : (length u < shortestWord) ⊎ (longestWord < length u) → FirstFailure (lassoChecks k u v) (refused WordLength 1 0)
+  start-out o = first-fails start-length (record { outside = o; is-place = refl })
+
+  -- a bad cycle
+  pub cycle-out : GoodLength u → (length v < shortestWord) ⊎ (longestWord < length v) → FirstFailure (lassoChecks k u v) (refused WordLength 2 0)
+  cycle-out gu o = first-passes (record { nowhere = length-passes gu }) (first-fails cycle-length (record { outside = o; is-place = refl }))
+
+  module _ (gu : GoodLength u) (gv : GoodLength v) where
+    -- a foreign letter in the start
+    pub start-foreign : {i : ℕ} → ForeignAt k u i → FirstFailure (lassoChecks k u v) (refused UnknownLetter 1 i)
+    start-foreign f =
+        first-passes (record { nowhere = length-passes gu }) (first-passes (record { nowhere = length-passes gv })
+        (first-fails (record { refusal = UnknownLetter; input = 1; Fails = ForeignAt k u }) f))
+
+    module _ (lu : (i : ℕ) → i < length u → getD u i 0 < k) where
+      -- a foreign letter in the cycle
+      pub cycle-foreign : {i : ℕ} → ForeignAt k v i → FirstFailure (lassoChecks k u v) (refused UnknownLetter 2 i)
+      cycle-foreign f =
+          first-passes (record { nowhere = length-passes gu }) (first-passes (record { nowhere = length-passes gv })
+          (first-passes (record { nowhere = letters-pass lu }) (first-fails (record { refusal = UnknownLetter; input = 2; Fails = ForeignAt k v }) f)))
+
+      -- two good words
+      pub good-lasso : ((i : ℕ) → i < length v → getD v i 0 < k) → GoodLasso k u v
+      good-lasso lv = record {
+        start = record { some = gu .some; short = gu .short; letters = lu };
+        cycle = record { some = gv .some; short = gv .short; letters = lv };
+        verdict =
+            first-passes (record { nowhere = length-passes gu }) (first-passes (record { nowhere = length-passes gv })
+            (first-passes (record { nowhere = letters-pass lu }) (first-passes (record { nowhere = letters-pass lv }) none-left)));
+      }
+
+length-single : (input : ℕ) (w : List ℕ) → Single (record { refusal = WordLength; input = input; Fails = LengthOutAt w })
+length-single input w = single-at (λ place a. a .is-place)
+
+foreign-single : (input k : ℕ) (w : List ℕ) → Single (record { refusal = UnknownLetter; input = input; Fails = ForeignAt k w })
+foreign-single input k w = record {
+  one-place = λ p q a b.
+      (let f : p < q → ⊥ = λ h. omega (arith, b .first p h, a .foreign) in
+      let g : q < p → ⊥ = λ h. omega (arith, a .first q h, b .foreign) in
+      omega arith);
+}
+
+-- each check fails at one place at most
+pub lasso-single : (k : ℕ) (u v : List ℕ) → AllSingle (lassoChecks k u v)
+lasso-single k u v =
+    single-cons (length-single 1 u) (single-cons (length-single 2 v) (single-cons (foreign-single 1 k u) (single-cons (foreign-single 2 k v) single-nil)))

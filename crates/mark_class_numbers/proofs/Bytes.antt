@@ -1,0 +1,72 @@
+-- Where the two bytes of a pair's number stand, that a number of two bytes is read back as it was stored, and bytes that are
+-- kept. Assumes nothing.
+use Prim.Native.Nat.{ℕ, _+_, _*_, _/_, _%_, _≤_, _<_}
+use mathlib.Core.Path.{_≡_, refl, sym, ap, _∙_}
+use mathlib.Core.Logic.{_≢_}
+use mathlib.Core.List.{List}
+use native.Mathlib.Omega.{arith}
+use native.Mathlib.Nat.{mul-le-mul}
+use lib.ListN.{length, getD, set, length-set}
+use lib.Seq.{getD-set-same, getD-set-other}
+use lib.Arith.{digits-lt, digits-div, digits-mod}
+use Rattle.sections.specs.Sections.{twoBytes}
+use Rattle.mark_class_numbers.specs.Cells.{Stored, Kept}
+
+-- a table of n elements has at most 4,096 pairs
+pub pairs-small : {n : ℕ} → n ≤ 64 → n * n ≤ 4096
+pairs-small h = mul-le-mul h h
+
+-- where the number of (s, e) stands: each step of the way there is small, and both bytes are inside
+pub record CellPlace (n s e : ℕ) (bytes : List ℕ) : Type 0 where
+  pub below : s * n + e < n * n
+  pub small : n * n ≤ 4096
+  pub inside : 2 * (s * n + e) + 1 < length bytes
+
+pub cell-place : {n s e : ℕ} {bytes : List ℕ} → n ≤ 64 → s < n → e < n → 2 * (n * n) ≤ length bytes → CellPlace n s e bytes
+cell-place h hs he long =
+    let b = digits-lt hs he in
+    record { below = b; small = pairs-small h; inside = omega arith }
+
+-- a pair's number tells the pair
+pub pair-same : {n a b c d : ℕ} → b < n → d < n → a * n + b ≡ c * n + d → (a ≡ c) × (b ≡ d)
+pair-same {n} {a} {b} {c} {d} hb hd p = (
+  sym (digits-div a hb) ∙ ap (λ (i : ℕ). i / n) p ∙ digits-div c hd,
+  sym (digits-mod a hb) ∙ ap (λ (i : ℕ). i % n) p ∙ digits-mod c hd,
+)
+
+-- the two bytes of a number, low byte first
+pub stored-two : (l : List ℕ) (at number : ℕ) → at + 1 < length l → number < 65536
+    → Stored l (set (set l at (number % 256)) (at + 1) (number / 256 % 256)) at number
+unfolding twoBytes
+stored-two l at number h small =
+    let a = number % 256 in
+    let b = number / 256 % 256 in
+    let low : getD (set (set l at a) (at + 1) b) at 0 ≡ a =
+    getD-set-other (set l at a) (at + 1) at b 0 (λ e. omega arith) ∙ getD-set-same l at a 0 (omega arith) in
+    let high : getD (set (set l at a) (at + 1) b) (at + 1) 0 ≡ b = getD-set-same (set l at a) (at + 1) b 0 (simp length-set (omega arith)) in
+    record {
+      same-length = simp length-set;
+      is-number = omega arith;
+      low = omega arith;
+      high = omega arith;
+      others = λ i f g. getD-set-other (set l at a) (at + 1) i b 0 g ∙ getD-set-other l at i a 0 f;
+    }
+
+-- two bytes that are as they were hold the number that they held
+pub two-kept : (now next : List ℕ) (i : ℕ) → getD next (2 * i) 0 ≡ getD now (2 * i) 0 → getD next (2 * i + 1) 0 ≡ getD now (2 * i + 1) 0
+    → twoBytes next (2 * i) ≡ twoBytes now (2 * i)
+unfolding twoBytes
+two-kept now next i p q = omega arith
+
+-- a store leaves the numbers of other pairs
+pub stored-other : {entry exit : List ℕ} {place number : ℕ} → Stored entry exit (2 * place) number → (i : ℕ) → (i ≡ place → ⊥)
+    → twoBytes exit (2 * i) ≡ twoBytes entry (2 * i)
+stored-other {entry} {exit} {place} s i f =
+    let g : i ≢ place = f in
+    two-kept entry exit i (s .others (2 * i) (λ e. omega arith) (λ e. omega arith)) (s .others (2 * i + 1) (λ e. omega arith) (λ e. omega arith))
+
+pub kept-none : (n : ℕ) (l : List ℕ) → Kept n l l
+kept-none n l = record { same-length = refl; kept = λ i h. refl }
+
+pub kept-both : {n : ℕ} {a b c : List ℕ} → Kept n a b → Kept n b c → Kept n a c
+kept-both p q = record { same-length = q .same-length ∙ p .same-length; kept = λ i h. q .kept i h ∙ p .kept i h }

@@ -1,0 +1,109 @@
+// The classes of conjugate pairs of a rule: for each pair of elements the number of the least pair conjugate to it, and how
+// many linked pairs, classes and joins there are. One pass over the factors x, y finds every conjugate: x·y = e and y·x = f
+// make (s, e) conjugate to (s·x, f) for each s with s·e = s.
+use answer::Refusal;
+use mark_class_numbers::begin;
+use mark_class_numbers::load;
+use mark_class_numbers::lower_row;
+use rule_check::Checked;
+use rule_check::check;
+use rule_marks::linked;
+use sections::zero;
+ghost use Prim.Native.Nat.{_+_, _*_, _≤_, _<_};
+ghost use lib.ListN.{length};
+ghost use Rattle.theory.specs.Rules.{Lawful};
+ghost use Rattle.rule_table.specs.Table.{Table, morphismAt};
+ghost use Rattle.mark_class_numbers.specs.Classes.{ClassesWritten};
+ghost use Rattle.mark_class_numbers.specs.Cells.{CellCounts};
+ghost use Rattle.mark_classes.specs.Promise.{ListPromise};
+
+// Writes the class of every pair: once all x and y were tried, each number is the least of a conjugate.
+pub fn write_classes(rule: &[u8], n: usize, k: usize, out: &mut [u8])
+    requires { ⌜ Table (now rule) n k ⌝ }
+    requires { ⌜ Lawful (morphismAt (now rule) n k) ⌝ }
+    requires { ⌜ 8192 ≤ length (now out) ⌝ }
+    ensures { λ r. ⌜ ClassesWritten (morphismAt (now (rule .entry)) n k) (now (out .entry)) (now (out .exit)) ⌝ }
+{
+    begin(rule, n, k, out);
+    for x in 0..n {
+        lower_row(rule, n, k, out, x);
+    }
+}
+
+// How many pairs have a class, and how many are the least of theirs.
+pub struct ClassNumbers {
+    pub linked: usize,
+    pub classes: usize,
+}
+
+// Counts the numbers that are not 65,535, and those that are their own pair's.
+fn count(out: &[u8], pairs: usize) -> ClassNumbers
+    requires { ⌜ (pairs ≤ 4096) × (2 * pairs ≤ length (now out)) ⌝ }
+    ensures { λ r. ⌜ CellCounts (now (out .entry)) pairs (r .linked) (r .classes) ⌝ }
+{
+    let mut linked = 0;
+    let mut classes = 0;
+    for i in 0..pairs {
+        let number = load(out, 2 * i);
+        if number != 65535 {
+            linked += 1;
+            if number == i {
+                classes += 1;
+            }
+        }
+    }
+    ClassNumbers { linked, classes }
+}
+
+// The linked pairs, the classes, and the joins, which are the first less the second.
+pub enum Listed {
+    Counts {
+        linked: usize,
+        classes: usize,
+        joins: usize,
+    },
+    Refused {
+        refusal: Refusal,
+        input: usize,
+        place: usize,
+    },
+}
+
+// Checks a rule, writes its classes and counts them, or refuses it. Scratch ends as zeros, but where a buffer is too short.
+pub fn list_classes(rule: &[u8], out: &mut [u8], scratch: &mut [u8]) -> Listed
+    ensures { λ r. ⌜ ListPromise (now (rule .entry)) (now (out .entry)) (now (out .exit)) (now (scratch .entry)) (now (scratch .exit)) r ⌝ }
+{
+    if out.len() < 8192 {
+        return Listed::Refused {
+            refusal: Refusal::BufferTooShort,
+            input: 1,
+            place: 0,
+        };
+    }
+    let shape = match check(rule, 1, scratch) {
+        Checked::Rule(shape) => shape,
+        Checked::Refused {
+            refusal,
+            input,
+            place,
+        } => {
+            return Listed::Refused {
+                refusal,
+                input,
+                place,
+            };
+        }
+    };
+    zero(scratch);
+    let n = shape.elements;
+    let k = shape.letters;
+    write_classes(rule, n, k, out);
+    let found = count(out, n * n);
+    let linked = found.linked;
+    let classes = found.classes;
+    Listed::Counts {
+        linked,
+        classes,
+        joins: linked - classes,
+    }
+}

@@ -1,0 +1,62 @@
+-- Two tables of marks in one list of bytes: where a pair's byte stands, what it says, and tables that are kept. Assumes nothing.
+use Prim.Native.Nat.{ℕ, _+_, _*_, _≤_, _<_}
+use mathlib.Core.Path.{_≡_, refl, ap, _∙_, subst}
+use mathlib.Core.List.{List}
+use native.Mathlib.Omega.{arith}
+use native.Mathlib.Nat.{zero-add}
+use lib.ListN.{getD}
+use lib.Dec.{T, ltb}
+use mir.Facts.{ltb-yes, yes-ltb}
+use Rattle.theory.specs.Rules.{Morphism}
+use Rattle.theory.specs.Pairs.{LinkedOnly}
+use Rattle.scratch.specs.Map.{pairsFrom}
+use Rattle.mark_closure.specs.Closing.{place, Kept}
+
+-- a place tells the pair
+pub place-same : (s e s′ e′ : ℕ) → e < 64 → e′ < 64 → place s e ≡ place s′ e′ → (s ≡ s′) × (e ≡ e′)
+place-same s e s′ e′ he he′ p = (omega arith, omega arith)
+
+-- a pair is in a table exactly if its byte is not 0
+pub pair-in : (bytes : List ℕ) (base s e : ℕ) → 0 < getD bytes (base + (s * 64 + e)) 0 → T (pairsFrom bytes base s e)
+unfolding pairsFrom
+pair-in bytes base s e h = yes-ltb h
+
+pub pair-byte : (bytes : List ℕ) (base s e : ℕ) → T (pairsFrom bytes base s e) → 0 < getD bytes (base + (s * 64 + e)) 0
+unfolding pairsFrom
+pair-byte bytes base s e t = ltb-yes t
+
+-- the same of the first table, whose places are counted from 0
+pub first-in : (bytes : List ℕ) (s e : ℕ) → 0 < getD bytes (s * 64 + e) 0 → T (pairsFrom bytes 0 s e)
+first-in bytes s e h = pair-in bytes 0 s e (rw zero-add h)
+
+pub first-byte : (bytes : List ℕ) (s e : ℕ) → T (pairsFrom bytes 0 s e) → 0 < getD bytes (s * 64 + e) 0
+first-byte bytes s e t = rw zero-add at (pair-byte bytes 0 s e t)
+
+-- a byte that is as it was says what it said
+pub pair-kept : (now next : List ℕ) (base s e : ℕ) → getD next (base + (s * 64 + e)) 0 ≡ getD now (base + (s * 64 + e)) 0
+    → pairsFrom next base s e ≡ pairsFrom now base s e
+unfolding pairsFrom
+pair-kept now next base s e p = ap (ltb 0) p
+
+pub kept-none : (n : ℕ) (l : List ℕ) → Kept n l l
+kept-none n l = record { same-length = refl; kept = λ i h. refl }
+
+pub kept-both : {n : ℕ} {a b c : List ℕ} → Kept n a b → Kept n b c → Kept n a c
+kept-both p q = record { same-length = q .same-length ∙ p .same-length; kept = λ i h. q .kept i h ∙ p .kept i h }
+
+module _ {n : ℕ} {entry exit : List ℕ} (small : n ≤ 64) (k : Kept n entry exit) where
+  -- no pair's byte of the second table stands before it or after it
+  pub kept-before : (i : ℕ) → i < 4096 → getD exit i 0 ≡ getD entry i 0
+  kept-before i h = k .kept i (λ s e hs he q. omega arith)
+
+  pub kept-after : (i : ℕ) → 8192 ≤ i → getD exit i 0 ≡ getD entry i 0
+  kept-after i h = k .kept i (λ s e hs he q. omega arith)
+
+  -- the first table is as it was
+  pub kept-first : (s e : ℕ) → s < n → e < n → pairsFrom exit 0 s e ≡ pairsFrom entry 0 s e
+  kept-first s e hs he = pair-kept entry exit 0 s e (kept-before (0 + (s * 64 + e)) (omega arith))
+
+-- the first table of marks has linked pairs only
+pub linked-kept : {m : Morphism} {entry exit : List ℕ} → m .size ≤ 64 → Kept (m .size) entry exit → LinkedOnly m (pairsFrom entry 0)
+    → LinkedOnly m (pairsFrom exit 0)
+linked-kept small k l = record { linked = λ s e hs he t. l .linked s e hs he (subst T (kept-first small k s e hs he) t) }

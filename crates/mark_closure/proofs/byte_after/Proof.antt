@@ -1,0 +1,69 @@
+-- `mark_closure::byte_after` meets its contract: each way through the tests is one of its cases. Assumes nothing.
+use Prim.Native.Nat.{_<_}
+use native.Mathlib.Omega.{arith}
+use borrow.Author.Needs.{needs}
+use Rattle.rule_table.proofs.Facts.{product-below}
+use Rattle.mark_closure.proofs.Columns.{after-moved, after-unmarked, after-marked}
+use Rattle.mark_closure.proofs.byte_after.Statement.{statement}
+use Rattle.mark_closure.proofs.byte_after.Tie as tie
+
+mul-old : tie.Need-mul-old
+mul-old c = search needs
+
+add-old : tie.Need-add-old
+add-old c = search needs
+
+add-old-2 : tie.Need-add-old-2
+add-old-2 c = search needs
+
+shared-slice-read-old : tie.Need-shared-slice-read-old
+shared-slice-read-old c = search needs
+
+product-requires : tie.Need-product-requires
+product-requires c κs = search needs
+
+returns : tie.Need-returns
+returns c = after-moved _ _ _ _ _ _ _ (c .before .product .ensures) (c .if1 .taken)
+
+product-requires-2 : tie.Need-product-requires-2
+product-requires-2 c κs = search needs
+
+-- s·x is an element
+start-below : (c : tie.After-product2) → c .product2 .result < c .before .before .before .before .before .before .args .n
+start-below c =
+    let b = c .before .before .before .before .before .before in
+    product-below (b .pre .0) (b .pre .1 .1 .3) (b .pre .1 .1 .0) (c .product2 .ensures)
+
+mul-if2 : tie.Need-mul-if2
+mul-if2 c = omega (arith, start-below c)
+
+add-if2 : tie.Need-add-if2
+add-if2 c = omega (arith, start-below c)
+
+shared-slice-read-if2 : tie.Need-shared-slice-read-if2
+shared-slice-read-if2 c = omega (arith, start-below (c .before))
+
+returns-2 : tie.Need-returns-2
+returns-2 c = after-unmarked _ _ _ _ _ _ _ (c .before .before .before .before .product .ensures) (c .before .before .product2 .ensures) (c .if2 .taken)
+
+returns-3 : tie.Need-returns-3
+returns-3 c =
+    after-marked _ _ _ _ _ _ _ (c .before .before .before .before .product .ensures) (c .before .before .before .if1 .left) (c .before .before .product2 .ensures)
+    (c .if2 .left)
+
+pub byte-after-spec : {M : Type 1} → statement M
+byte-after-spec =
+    tie.close
+    (tie.spec
+    mul-old
+    add-old
+    add-old-2
+    shared-slice-read-old
+    product-requires
+    returns
+    product-requires-2
+    mul-if2
+    add-if2
+    shared-slice-read-if2
+    returns-2
+    returns-3)

@@ -1,0 +1,124 @@
+// The closure of a rule's marks under conjugacy, laid out in scratch as a second table of marks behind the first. One pass over
+// the factors x, y finds it: x·y = e and y·x = f make (s, e) conjugate to (s·x, f) for each s with s·e = s.
+use rule_table::product;
+ghost use Prim.Native.Nat.{_+_, _*_, _≤_, _<_};
+ghost use lib.ListN.{length, getD};
+ghost use Rattle.theory.specs.Rules.{Lawful};
+ghost use Rattle.rule_table.specs.Table.{Table, morphismAt};
+ghost use Rattle.scratch.specs.Map.{pairsFrom};
+ghost use Rattle.mark_closure.specs.Closure.{ClosureRoom, ClosureAnswer};
+ghost use Rattle.mark_closure.specs.Closing.{place, ClosedSoFar, Advanced, ByteAfter, ColumnClosed, WithinAnswer};
+
+// The byte of (s, e) in the second table: 1 where s·e = s and (s·x, f) is marked, else the byte that is there.
+fn byte_after(
+    rule: &[u8],
+    n: usize,
+    k: usize,
+    scratch: &[u8],
+    x: usize,
+    e: usize,
+    f: usize,
+    s: usize,
+) -> u8
+    requires { ⌜ Table (now rule) n k ⌝ }
+    requires { ⌜ 8192 ≤ length (now scratch) ⌝ }
+    requires { ⌜ (x < n) × (e < n) × (f < n) × (s < n) ⌝ }
+    ensures { λ r. ⌜ ByteAfter (morphismAt (now (rule .entry)) n k) (pairsFrom (now (scratch .entry)) 0) x e f s (getD (now (scratch .entry)) (place s e) 0) r ⌝ }
+{
+    let old = scratch[4096 + (s * 64 + e)];
+    let kept = product(rule, n, s, e);
+    if kept != s {
+        return old;
+    }
+    let t = product(rule, n, s, x);
+    if scratch[t * 64 + f] == 0 {
+        return old;
+    }
+    1
+}
+
+// The pairs (s, e) that x takes to a marked pair (s·x, f).
+fn close_column(rule: &[u8], n: usize, k: usize, scratch: &mut [u8], x: usize, e: usize, f: usize)
+    requires { ⌜ Table (now rule) n k ⌝ }
+    requires { ⌜ 8192 ≤ length (now scratch) ⌝ }
+    requires { ⌜ (x < n) × (e < n) × (f < n) ⌝ }
+    ensures { λ r. ⌜ ColumnClosed (morphismAt (now (rule .entry)) n k) x e f n (now (scratch .entry)) (now (scratch .exit)) ⌝ }
+{
+    for s in 0..n {
+        let byte = byte_after(rule, n, k, scratch, x, e, f, s);
+        scratch[4096 + (s * 64 + e)] = byte;
+    }
+}
+
+// The pairs that x and y take to a marked pair. Where y·x is not idempotent there are none, as marked pairs are linked.
+fn close_by(rule: &[u8], n: usize, k: usize, scratch: &mut [u8], x: usize, y: usize)
+    requires { ⌜ Table (now rule) n k ⌝ }
+    requires { ⌜ Lawful (morphismAt (now rule) n k) ⌝ }
+    requires { ⌜ (x < n) × (y < n) ⌝ }
+    requires { ⌜ ClosedSoFar (morphismAt (now rule) n k) (x * n + y) (now scratch) ⌝ }
+    ensures { λ r. ⌜ Advanced (morphismAt (now (rule .entry)) n k) (x * n + (y + 1)) (now (scratch .entry)) (now (scratch .exit)) ⌝ }
+{
+    let e = product(rule, n, x, y);
+    let f = product(rule, n, y, x);
+    let ee = product(rule, n, e, e);
+    if ee != e {
+        return;
+    }
+    let ff = product(rule, n, f, f);
+    if ff != f {
+        return;
+    }
+    close_column(rule, n, k, scratch, x, e, f);
+}
+
+// All pairs that x takes to a marked pair.
+fn close_row(rule: &[u8], n: usize, k: usize, scratch: &mut [u8], x: usize)
+    requires { ⌜ Table (now rule) n k ⌝ }
+    requires { ⌜ Lawful (morphismAt (now rule) n k) ⌝ }
+    requires { ⌜ x < n ⌝ }
+    requires { ⌜ ClosedSoFar (morphismAt (now rule) n k) (x * n) (now scratch) ⌝ }
+    ensures { λ r. ⌜ Advanced (morphismAt (now (rule .entry)) n k) (x * n + n) (now (scratch .entry)) (now (scratch .exit)) ⌝ }
+{
+    for y in 0..n {
+        close_by(rule, n, k, scratch, x, y);
+    }
+}
+
+// All pairs that are conjugate to a marked pair.
+fn close_pairs(rule: &[u8], n: usize, k: usize, scratch: &mut [u8])
+    requires { ⌜ Table (now rule) n k ⌝ }
+    requires { ⌜ Lawful (morphismAt (now rule) n k) ⌝ }
+    requires { ⌜ ClosureRoom (morphismAt (now rule) n k) (now scratch) ⌝ }
+    ensures { λ r. ⌜ Advanced (morphismAt (now (rule .entry)) n k) (n * n) (now (scratch .entry)) (now (scratch .exit)) ⌝ }
+{
+    for x in 0..n {
+        close_row(rule, n, k, scratch, x);
+    }
+}
+
+// Whether the first table is not 0 wherever the second is not, among the first bytes of both.
+fn within(scratch: &[u8], count: usize) -> bool
+    requires { ⌜ (count ≤ 4096) × (8192 ≤ length (now scratch)) ⌝ }
+    ensures { λ r. ⌜ WithinAnswer (now (scratch .entry)) count r ⌝ }
+{
+    for i in 0..count {
+        if scratch[4096 + i] != 0 {
+            if scratch[i] == 0 {
+                return false;
+            }
+        }
+    }
+    true
+}
+
+// Lays the closure of the marks out in the second table, and says whether the marks are closed: each pair of the closure is
+// marked.
+pub fn close(rule: &[u8], n: usize, k: usize, scratch: &mut [u8]) -> bool
+    requires { ⌜ Table (now rule) n k ⌝ }
+    requires { ⌜ Lawful (morphismAt (now rule) n k) ⌝ }
+    requires { ⌜ ClosureRoom (morphismAt (now rule) n k) (now scratch) ⌝ }
+    ensures { λ r. ⌜ ClosureAnswer (morphismAt (now (rule .entry)) n k) (now (scratch .entry)) (now (scratch .exit)) r ⌝ }
+{
+    close_pairs(rule, n, k, scratch);
+    within(scratch, n * 64)
+}

@@ -1,0 +1,90 @@
+-- What the parts of the comparison show. Assumes nothing.
+use Prim.Native.Nat.{ℕ, _-_, _≤_, _<_}
+use mathlib.Core.Path.{_≡_, refl, ap, _∙_, subst}
+use mathlib.Core.List.{List}
+use native.Mathlib.Omega.{arith}
+use lib.ListN.{length, replicate}
+use Rattle.theory.specs.Rules.{Morphism, Pairs}
+use Rattle.theory.proofs.Included.{none-included, escape-witness}
+use Rattle.rule_table.specs.Table.{Table, morphismAt}
+use Rattle.rule_reach.specs.Reach.{placeAt, Empty, WordOrder}
+use Rattle.rule_reach.proofs.Words.{wordAt, found-word, reached-found}
+use Rattle.scratch.specs.Map.{pairsFrom}
+use Rattle.mark_spelling.specs.Spelling.{SpellPlace, WordWritten}
+use Rattle.mark_spelling.proofs.Entries.{spell-place}
+use Rattle.mark_search.specs.Search.{Stands, EscapePlace, EscapeAnswer, EscapedAt, Escaped}
+use Rattle.mark_search.specs.declared.Escape.{Escape}
+use Rattle.mark_search.specs.declared.Escape.the-variants.{At, Nothing as No-escape}
+use Rattle.mark_cycles.specs.Cycles.{CyclePlace, CycleWritten}
+use Rattle.mark_cycles.proofs.Spelled.{cycle-place, spelled-escapes, ended-short}
+use Rattle.mark_comparison.specs.Comparison.{StartPlace, StartWritten, ComparePlace, answered-included, answered-apart, Compared}
+use Rattle.mark_comparison.specs.declared.Inclusion.the-variants.{Included as Is-included, NotIncluded}
+
+-- the first word of an element
+module _ {bytes : List ℕ} {n k : ℕ} {before queue : List ℕ} {count s : ℕ} {out : List ℕ} (table : Table bytes n k) (place : StartPlace (morphismAt bytes n k) s out)
+    (order : WordOrder bytes n k before queue count) (blank : Empty before) where
+  found : 0 < placeAt queue s
+  found = reached-found order (place .lawful) (place .reached .word-of s (place .inside))
+
+  pub start-place : SpellPlace queue n s out
+  start-place = spell-place order (omega (arith, blank .room, order .same-length)) (table .small) (place .inside) found (omega (arith, table .small, place .room))
+
+  pub start-written : {exit : List ℕ} {r : ℕ} → WordWritten (wordAt queue (placeAt queue s)) out exit r → StartWritten (morphismAt bytes n k) s out exit r
+  start-written w =
+      let f = found-word order (place .lawful) (place .inside) found in
+      record { found = record { word = wordAt queue (placeAt queue s); over = f .over; its-value = f .its-value; short = f .short }; written = w }
+
+module _ {m : Morphism} {entry : List ℕ} (place : ComparePlace m entry) where
+  -- the search compares the first marking with the second
+  pub compare-search : EscapePlace m 0 4096 entry
+  compare-search = record {
+    lawful = place .lawful;
+    first-base = omega arith;
+    second-base = omega arith;
+    room = place .room;
+  }
+
+  module _ {mid : List ℕ} {answer : Escape} (r : Escaped m 0 4096 entry mid answer) where
+    -- no cycle escapes
+    pub compared-within : {end : List ℕ} (u v : List ℕ) → answer ≡ No-escape → end ≡ replicate (length mid) 0 → Compared m u u v v entry end Is-included
+    compared-within u v e z = record {
+      answers = λ P P′ l l′ t t′. record {
+        included = none-included (place .lawful) l l′ (subst (EscapeAnswer m P P′ mid) e (r .says P P′ t t′));
+        start-kept = refl;
+        cycle-kept = refl;
+      };
+      answered = answered-included;
+      scratch = z ∙ ap (λ (x : ℕ). replicate x 0) (r .same-length);
+    }
+
+    module _ {s i : ℕ} (e : answer ≡ At s i) where
+      escaped : (P P′ : Pairs) → Stands (m .size) P entry 0 → Stands (m .size) P′ entry 4096 → EscapedAt m P P′ s mid i
+      escaped P P′ t t′ = subst (EscapeAnswer m P P′ mid) e (r .says P P′ t t′)
+
+      -- the markings stand as the table itself says
+      itself : EscapedAt m (pairsFrom entry 0) (pairsFrom entry 4096) s mid i
+      itself = escaped (pairsFrom entry 0) (pairsFrom entry 4096) (record { same = λ u f hu hf. refl }) (record { same = λ u f hu hf. refl })
+
+      pub start-room : {u : List ℕ} → 64 ≤ length u → StartPlace m s u
+      start-room h = record { lawful = place .lawful; reached = place .reached; inside = itself .start-inside; room = h }
+
+      pub cycle-room : {v : List ℕ} → 4224 ≤ length v → CyclePlace (m .size) mid i v
+      cycle-room h = cycle-place (place .lawful) (itself .ended) h
+
+      -- a cycle escapes: with the first word of its start it is a lasso that tells the markings apart
+      pub compared-apart : {end u u′ v v′ : List ℕ} {a b : ℕ} → StartWritten m s u u′ a → CycleWritten (m .size) mid i v v′ b → end ≡ replicate (length mid) 0
+          → Compared m u u′ v v′ entry end (NotIncluded a b)
+      compared-apart x y z = record {
+        answers = λ P P′ l l′ t t′. record {
+          start = x .found .word;
+          cycle = y .word;
+          witness =
+              let k = escaped P P′ t t′ .ended in
+              escape-witness (place .lawful) l l′ (x .found)
+              (record { cycle = y .word; escapes = spelled-escapes (place .lawful) k (y .spells); short = ended-short (place .lawful) k (length (y .word)) (y .short) });
+          start-written = x .written;
+          cycle-written = y .written;
+        };
+        answered = answered-apart;
+        scratch = z ∙ ap (λ (k : ℕ). replicate k 0) (r .same-length);
+      }

@@ -1,0 +1,116 @@
+-- What each way through the call for the complement promises. Assumes nothing.
+use Prim.Native.Nat.{ℕ, _≤_, _<_}
+use mathlib.Core.Path.{_≡_, refl, sym, ap, _∙_, subst}
+use mathlib.Core.Bool.{Bool, true, false, not}
+use mathlib.Core.List.{List}
+use native.Mathlib.Omega.{arith}
+use lib.ListN.{length, replicate}
+use Rattle.answer.specs.declared.Refusal.{Refusal}
+use Rattle.answer.specs.declared.Refusal.the-variants.{BufferTooShort, NotStrong}
+use Rattle.answer.specs.Checks.{refused}
+use Rattle.answer.proofs.Order.{first-passes, first-fails, none-left, refused-before, passed-before}
+use Rattle.theory.specs.Rules.{Morphism, marked, level}
+use Rattle.theory.specs.Acceptance.{Strong}
+use Rattle.rule_table.specs.Table.{morphismAt}
+use Rattle.formats.specs.Format.{morphismOf, pairsOf}
+use Rattle.formats.specs.RuleChecks.{ruleSize}
+use Rattle.formats.proofs.Buffers.{buffer-short, buffer-long}
+use Rattle.rule_layout.specs.declared.Shape.{Shape}
+use Rattle.rule_check.specs.declared.Checked.the-variants.{Rule as Checked-rule, Refused as Checked-refused}
+use Rattle.rule_check.specs.Answers.{CheckPromise, scratchLeft}
+use Rattle.rule_check.proofs.Left.{short-left, long-left}
+use Rattle.rule_check.proofs.Calls.{called-good, zeros-left, checked-length, shape-morphism}
+use Rattle.rule_writer.specs.ReadBack.{WrittenRule}
+use Rattle.rule_writer.proofs.ReadBack.{written-rule}
+use Rattle.scratch.specs.Map.{pairsFrom}
+use Rattle.mark_strong.specs.Deciding.{StrongIf, Decided}
+use Rattle.mark_strong.specs.Weak.{weakCheck}
+use Rattle.mark_strong.proofs.Calling.{checked-table, checked-lawful, checked-reached, checked-linked, marks-stand, checked-room, decided-file}
+use Rattle.mark_complement_marks.specs.Complement.{ComplementMarks, ComplementLaid}
+use Rattle.mark_complement.specs.Promise.{WritePlace, secondMarking, TablesWritten, ComplementPromise}
+use Rattle.mark_complement.specs.declared.Complemented.the-variants.{Rule, Refused}
+use Rattle.mark_complement.proofs.Complements.{laid-complement}
+
+not-not : (b : Bool) → not (not b) ≡ b
+not-not true = refl
+not-not false = refl
+
+module _ (bytes out entry : List ℕ) where
+  -- a short buffer is refused, and both are left as they came
+  pub out-short : length out < ruleSize → ComplementPromise bytes out out entry entry (Refused BufferTooShort 1 0)
+  out-short h = record {
+    verdict = buffer-short h;
+    answered = refl;
+    scratch = short-left ruleSize out entry h;
+  }
+
+  module _ (long : ruleSize ≤ length out) where
+    -- the rule is refused
+    pub rule-refused : {exit : List ℕ} {r : Refusal} {i place : ℕ} → CheckPromise 1 bytes entry exit (Checked-refused r i place)
+        → ComplementPromise bytes out out entry exit (Refused r i place)
+    rule-refused p = record { verdict = buffer-long long (refused-before _ _ (p .verdict)); answered = refl; scratch = long-left ruleSize out entry long (p .scratch) }
+
+    module _ {shape : Shape} {mid decided : List ℕ} {answer : Bool} (p : CheckPromise 1 bytes entry mid (Checked-rule shape))
+        (d : Decided (morphismAt bytes (shape .elements) (shape .letters)) mid decided answer) where
+      abbrev m : Morphism
+      m = morphismAt bytes (shape .elements) (shape .letters)
+
+      same : m ≡ morphismOf bytes
+      same = shape-morphism (p .scratch .shape-is)
+
+      zeros : (was end : List ℕ) → length was ≡ length decided → end ≡ replicate (length was) 0 → end ≡ scratchLeft ruleSize out entry
+      zeros was end e z = long-left ruleSize out entry long (zeros-left 1 bytes entry (p .verdict) was end (e ∙ d .same-length ∙ checked-length (p .scratch)) z)
+
+      -- the rule is weak
+      pub weak-refused : {end : List ℕ} → not answer ≡ true → end ≡ replicate (length decided) 0 → ComplementPromise bytes out out entry end (Refused NotStrong 1 0)
+      weak-refused {end} n z =
+          let e : answer ≡ false = sym (not-not answer) ∙ ap not n in
+          record {
+            verdict = buffer-long long (passed-before _ _ (p .verdict)
+                (first-fails (weakCheck 1 bytes) (record { weak = subst (StrongIf (morphismOf bytes) (pairsOf bytes)) e (decided-file 1 bytes entry p d); is-place = refl })));
+            answered = refl;
+            scratch = zeros decided end refl z;
+          }
+
+      module _ {laid : List ℕ} (l : ComplementLaid m decided laid) where
+        pub write-place : WritePlace (shape .letters) laid out
+        write-place = record {
+          letters-some = omega (arith, called-good 1 bytes entry (p .verdict) .letters-some, p .scratch .shape-is .letters);
+          marks-long = omega (arith, checked-room 1 bytes entry p, d .same-length, l .same-length);
+          room = long;
+        }
+
+        module _ (n : not answer ≡ false) where
+          e : answer ≡ true
+          e = sym (not-not answer) ∙ ap not n
+
+          strong : Strong m (pairsOf bytes)
+          strong = subst (StrongIf m (pairsOf bytes)) e (d .verdict (pairsOf bytes) (checked-linked 1 bytes entry p) (marks-stand 1 bytes entry p))
+
+          -- the second table marks the complement
+          second-marks : ComplementMarks m (pairsOf bytes) (marked (secondMarking laid))
+          unfolding marked level pairsFrom
+          second-marks =
+              laid-complement (checked-lawful 1 bytes entry p) (checked-reached 1 bytes entry p) (checked-linked 1 bytes entry p) strong
+              (λ s c hs hc. sym (d .closure (pairsOf bytes) (checked-linked 1 bytes entry p) (marks-stand 1 bytes entry p) .same s c hs hc)) l
+
+          written : {exit : List ℕ} {r : ℕ} → TablesWritten m laid out exit r → WrittenRule m (secondMarking laid) out exit r
+          written w =
+              let t = checked-table 1 bytes entry p in
+              written-rule m (secondMarking laid)
+              (record { some = t .some; small = t .small; letters-some = write-place .letters-some; letters-small = t .letters-small })
+              (checked-lawful 1 bytes entry p) (second-marks .linked) (checked-reached 1 bytes entry p) (w .counts) (w .holds)
+
+          -- its file was written
+          pub complement-written : {exit end : List ℕ} {r : ℕ} → TablesWritten m laid out exit r → end ≡ replicate (length laid) 0
+              → ComplementPromise bytes out exit entry end (Rule r)
+          complement-written {exit} {end} {r} w z = record {
+            verdict = buffer-long long (passed-before _ _ (p .verdict)
+                (first-passes (record { nowhere = λ place f. f .weak (subst (λ (x : Morphism). Strong x (pairsOf bytes)) same strong) }) none-left));
+            answered = record {
+              marks = secondMarking laid;
+              is-complement = subst (λ (x : Morphism). ComplementMarks x (pairsOf bytes) (marked (secondMarking laid))) same second-marks;
+              written = subst (λ (x : Morphism). WrittenRule x (secondMarking laid) out exit r) same (written w);
+            };
+            scratch = zeros laid end (l .same-length) z;
+          }

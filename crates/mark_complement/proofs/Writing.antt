@@ -1,0 +1,75 @@
+-- The file that is written with a second table of marks: the rule's own products and images, read where they stand.
+-- Assumes nothing.
+use Prim.Native.Nat.{ℕ, _+_, _*_, _-_, _≤_, _<_}
+use mathlib.Core.Path.{_≡_, refl, sym, ap, _∙_, subst}
+use mathlib.Core.List.{List, _++_}
+use native.Mathlib.Omega.{arith}
+use lib.Arith.{digits-lt}
+use lib.Dec.{ltb}
+use lib.ListN.{length, getD, take, drop}
+use Rattle.theory.specs.Rules.{Morphism}
+use Rattle.rule_table.specs.Table.{Table, productAt, imageAt, morphismAt}
+use Rattle.rule_writer.specs.File.{fileOf}
+use Rattle.rule_writer.specs.Writing.{tableMorphism, tableMarks, RulePlace, RuleWritten}
+use Rattle.rule_writer.proofs.Agree.{Agree}
+use Rattle.rule_writer.proofs.Same.{SameMarks, file-same}
+use Rattle.scratch.proofs.Parts.{part-length, part-byte}
+use Rattle.mark_complement.specs.Promise.{WritePlace, secondMarking, TablesWritten}
+
+module _ {rule : List ℕ} {n k : ℕ} (table : Table rule n k) {scratch out : List ℕ} (place : WritePlace k scratch out) where
+  abbrev products : List ℕ
+  products = take (length rule - 1) (drop 1 rule)
+
+  abbrev images : List ℕ
+  images = take (length rule - (2 + n * n)) (drop (2 + n * n) rule)
+
+  abbrev marks : List ℕ
+  marks = take (length scratch - 4096) (drop 4096 scratch)
+
+  products-from : 1 ≤ length rule
+  products-from = omega (arith, table .long)
+
+  images-from : 2 + n * n ≤ length rule
+  images-from = omega (arith, table .long)
+
+  marks-from : 4096 ≤ length scratch
+  marks-from = omega (arith, place .marks-long)
+
+  pub rule-place : RulePlace (take (length rule - 1) (drop 1 rule)) (take (length rule - (2 + n * n)) (drop (2 + n * n) rule)) (take (length scratch - 4096) (drop 4096 scratch)) n k out
+  rule-place = record {
+    some = table .some;
+    small = table .small;
+    letters-some = place .letters-some;
+    letters-small = table .letters-small;
+    table-long = omega (arith, table .long, part-length rule 1 products-from);
+    images-long = omega (arith, table .long, part-length rule (2 + n * n) images-from);
+    marks-long = omega (arith, place .marks-long, part-length scratch 4096 marks-from);
+    room = place .room;
+  }
+
+  -- the tables that are copied are the rule's
+  agree : Agree (morphismAt rule n k) (tableMorphism products images n k)
+  unfolding productAt imageAt
+  agree = record {
+    same-size = refl;
+    same-letters = refl;
+    same-product = λ a b ha hb. part-byte rule 1 products-from (a * n + b) (omega (arith, table .long, digits-lt ha hb));
+    same-image = λ a h. part-byte rule (2 + n * n) images-from a (omega (arith, table .long));
+  }
+
+  same-marks : SameMarks n (secondMarking scratch) (tableMarks marks)
+  unfolding tableMarks
+  same-marks = record {
+    same = λ s e hs he. ap (ltb 0) (part-byte scratch 4096 marks-from (s * 64 + e) (omega (arith, table .small, place .marks-long)));
+  }
+
+  same-file : fileOf (tableMorphism products images n k) (tableMarks marks) ≡ fileOf (morphismAt rule n k) (secondMarking scratch)
+  same-file = file-same agree same-marks
+
+  pub tables-written : {exit : List ℕ} {r : ℕ}
+      → RuleWritten (take (length rule - 1) (drop 1 rule)) (take (length rule - (2 + n * n)) (drop (2 + n * n) rule)) (take (length scratch - 4096) (drop 4096 scratch)) n k out exit r
+      → TablesWritten (morphismAt rule n k) scratch out exit r
+  tables-written w = record {
+    holds = w .holds ∙ ap (λ (f : List ℕ). f ++ drop (length f) out) same-file;
+    counts = w .ends ∙ ap length same-file;
+  }

@@ -1,0 +1,77 @@
+// The complement of a strong rule: same elements and numbering, marked are the linked pairs that are not in the closure of the
+// rule's marks.
+use answer::Refusal;
+use mark_complement_marks::complement_marks;
+use mark_strong::decide;
+use rule_check::Checked;
+use rule_check::check;
+use rule_writer::write_rule;
+use sections::zero;
+ghost use Prim.Native.Nat.{_<_};
+ghost use lib.ListN.{length};
+ghost use Rattle.rule_table.specs.Table.{Table, morphismAt};
+ghost use Rattle.mark_complement.specs.Promise.{WritePlace, TablesWritten, ComplementPromise};
+
+// Writes the rule with the marks of the second table, and answers how many bytes it has.
+fn write_marked(rule: &[u8], n: usize, k: usize, scratch: &[u8], out: &mut [u8]) -> usize
+    requires { ⌜ Table (now rule) n k ⌝ }
+    requires { ⌜ WritePlace k (now scratch) (now out) ⌝ }
+    ensures { λ r. ⌜ TablesWritten (morphismAt (now (rule .entry)) n k) (now (scratch .entry)) (now (out .entry)) (now (out .exit)) r ⌝ }
+{
+    let table = &rule[1..];
+    let images = &rule[2 + n * n..];
+    let marks = &scratch[4096..];
+    write_rule(table, images, marks, n, k, out)
+}
+
+// The number of bytes that were written.
+pub enum Complemented {
+    Rule(usize),
+    Refused {
+        refusal: Refusal,
+        input: usize,
+        place: usize,
+    },
+}
+
+// Checks a rule and writes its complement, or refuses it. Scratch ends as zeros, but where a buffer is too short.
+pub fn complement(rule: &[u8], out: &mut [u8], scratch: &mut [u8]) -> Complemented
+    ensures { λ r. ⌜ ComplementPromise (now (rule .entry)) (now (out .entry)) (now (out .exit)) (now (scratch .entry)) (now (scratch .exit)) r ⌝ }
+{
+    if out.len() < 12308 {
+        return Complemented::Refused {
+            refusal: Refusal::BufferTooShort,
+            input: 1,
+            place: 0,
+        };
+    }
+    let shape = match check(rule, 1, scratch) {
+        Checked::Rule(shape) => shape,
+        Checked::Refused {
+            refusal,
+            input,
+            place,
+        } => {
+            return Complemented::Refused {
+                refusal,
+                input,
+                place,
+            };
+        }
+    };
+    let n = shape.elements;
+    let k = shape.letters;
+    let strong = decide(rule, n, k, scratch);
+    if !strong {
+        zero(scratch);
+        return Complemented::Refused {
+            refusal: Refusal::NotStrong,
+            input: 1,
+            place: 0,
+        };
+    }
+    complement_marks(rule, n, k, scratch);
+    let length = write_marked(rule, n, k, scratch, out);
+    zero(scratch);
+    Complemented::Rule(length)
+}

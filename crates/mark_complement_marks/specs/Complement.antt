@@ -1,0 +1,53 @@
+-- The marks of the complement, worked out in place in the second table of marks. Assumes nothing.
+use Prim.Native.Nat.{ℕ, _+_, _*_, _≤_, _<_}
+use mathlib.Core.Path.{_≡_}
+use mathlib.Core.Bool.{not, _&&_}
+use mathlib.Core.Logic.{_↔_}
+use mathlib.Core.List.{List}
+use lib.ListN.{length, getD}
+use lib.Dec.{ltb}
+use Rattle.theory.specs.Words.{Lasso}
+use Rattle.theory.specs.Rules.{Morphism, Pairs}
+use Rattle.theory.specs.Acceptance.{Accepts, Strong}
+use Rattle.theory.specs.Pairs.{LinkedOnly}
+use Rattle.theory.specs.Smallest.{Complement}
+use Rattle.theory.proofs.Closure.{linked-test}
+use Rattle.scratch.specs.Map.{pairsFrom}
+use Rattle.mark_closure.specs.Closing.{place}
+
+-- the linked pairs that are not in P
+abbrev pub linkedOutside : Morphism → Pairs → Pairs
+linkedOutside m P s e = linked-test m s e && not (P s e)
+
+-- marks of the complement: they accept a lasso exactly if P does not, and are strong, and linked
+pub record ComplementMarks (m : Morphism) (P P′ : Pairs) : Type 0 where
+  pub complement : Complement m P P′
+  pub strong : Strong m P′
+  pub linked : LinkedOnly m P′
+  pub accepts : (u v : List ℕ) → Lasso (m .letters) u v → Accepts m P′ u v ↔ (Accepts m P u v → ⊥)
+
+-- the second table has the linked pairs that it did not have; no byte has changed but those of pairs of elements there
+pub record ComplementLaid (m : Morphism) (entry exit : List ℕ) : Type 0 where
+  pub same-length : length exit ≡ length entry
+  pub marks : (s e : ℕ) → s < m .size → e < m .size → pairsFrom exit 4096 s e ≡ linkedOutside m (pairsFrom entry 4096) s e
+  pub bits : (s e : ℕ) → s < m .size → e < m .size → getD exit (4096 + (s * 64 + e)) 0 ≤ 1
+  pub before : (i : ℕ) → i < 4096 → getD exit i 0 ≡ getD entry i 0
+  pub after : (i : ℕ) → 8192 ≤ i → getD exit i 0 ≡ getD entry i 0
+  pub between : (i : ℕ) → ((s e : ℕ) → s < m .size → e < m .size → i ≡ 4096 + (s * 64 + e) → ⊥) → getD exit i 0 ≡ getD entry i 0
+
+-- the byte that a pair is to have: 1 where it is linked and its byte is 0, else 0
+pub record ByteTurned (m : Morphism) (bytes : List ℕ) (s e byte : ℕ) : Type 0 where
+  pub says : ltb 0 byte ≡ linkedOutside m (pairsFrom bytes 4096) s e
+  pub bit : byte ≤ 1
+
+-- the first pairs that begin with s have their bytes, and every other byte is as it was
+pub record RowTurned (m : Morphism) (s count : ℕ) (entry exit : List ℕ) : Type 0 where
+  pub same-length : length exit ≡ length entry
+  pub row : (e : ℕ) → e < count → ByteTurned m entry s e (getD exit (place s e) 0)
+  pub others : (i : ℕ) → ((e : ℕ) → e < count → i ≡ place s e → ⊥) → getD exit i 0 ≡ getD entry i 0
+
+-- the pairs that begin with one of the first elements have their bytes, and every other byte is as it was
+pub record RowsTurned (m : Morphism) (count : ℕ) (entry exit : List ℕ) : Type 0 where
+  pub same-length : length exit ≡ length entry
+  pub rows : (s e : ℕ) → s < count → e < m .size → ByteTurned m entry s e (getD exit (place s e) 0)
+  pub others : (i : ℕ) → ((s e : ℕ) → s < count → e < m .size → i ≡ place s e → ⊥) → getD exit i 0 ≡ getD entry i 0

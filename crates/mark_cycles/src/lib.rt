@@ -1,0 +1,32 @@
+// Writing the cycle that the search found: the letters of the entry that ended it and of the entries that it was found from, one
+// after the other.
+ghost use mathlib.Core.Path.{_≡_};
+ghost use Prim.Native.Nat.{_≤_, _<_};
+ghost use lib.ListN.{length};
+ghost use Rattle.mark_search_list.specs.Queue.{parentAt};
+ghost use Rattle.mark_cycles.specs.Cycles.{CyclePlace, CycleWritten};
+
+// The entry that an entry was found from.
+fn parent(scratch: &[u8], i: usize) -> usize
+    requires { ⌜ (65536 ≤ length (now scratch)) × (i < 4225) ⌝ }
+    ensures { λ r. ⌜ r ≡ parentAt (now (scratch .entry)) i ⌝ }
+{
+    let low = scratch[32768 + i] as usize;
+    let high = scratch[40960 + i] as usize;
+    low + 256 * high
+}
+
+// Writes the cycle of an entry to the front of a buffer, and answers how many letters it has.
+pub fn write_cycle(scratch: &[u8], n: usize, entry: usize, out: &mut [u8]) -> usize
+    requires { ⌜ CyclePlace n (now scratch) entry (now out) ⌝ }
+    ensures { λ r. ⌜ CycleWritten n (now (scratch .entry)) entry (now (out .entry)) (now (out .exit)) r ⌝ }
+{
+    let mut i = entry;
+    let mut letters = 0;
+    while scratch[16384 + i] as usize != n {
+        out[letters] = scratch[24576 + i];
+        letters += 1;
+        i = parent(scratch, i);
+    }
+    letters
+}

@@ -1,0 +1,133 @@
+-- What each way through the call that compares two markings promises. Assumes nothing.
+use Prim.Native.Nat.{ℕ, _+_, _*_, _≤_, _<_}
+use mathlib.Core.Path.{_≡_, refl, sym, ap, _∙_, subst}
+use mathlib.Core.List.{List, _∷_, _++_}
+use native.Mathlib.Omega.{arith}
+use lib.ListN.{length, replicate}
+use lib.Dec.{leb}
+use borrow.Author.Tests.{lt-ltb, le-ltb}
+use Rattle.answer.specs.declared.Refusal.{Refusal}
+use Rattle.answer.specs.declared.Refusal.the-variants.{BufferTooShort}
+use Rattle.answer.specs.Checks.{Verdict, passed, refused, FirstFailure}
+use Rattle.answer.proofs.Order.{refused-before, passed-before, passed-last, passes-tail}
+use Rattle.theory.specs.Rules.{Morphism, marked, level}
+use Rattle.theory.specs.Pairs.{LinkedOnly}
+use Rattle.sections.specs.Sections.{twoBytes, sectionChecks}
+use Rattle.rule_table.specs.Table.{morphismAt}
+use Rattle.formats.specs.Format.{elementsOf, morphismOf, pairsOf, markWidth, marksSection}
+use Rattle.formats.proofs.Buffers.{buffer-short, buffer-long}
+use Rattle.formats.specs.RuleChecks.{scratchSize, trailingCheck, markChecks, secondMarksChecks}
+use Rattle.rule_layout.specs.declared.Shape.{Shape}
+use Rattle.rule_check.specs.declared.Checked.the-variants.{Rule, Refused as Checked-refused}
+use Rattle.rule_marks.specs.declared.Fault.{Fault}
+use Rattle.rule_marks.specs.declared.Fault.the-variants.{Nothing, Refused as Fault-refused}
+use Rattle.rule_marks.specs.Faults.{FaultAnswer}
+use Rattle.rule_check.specs.Answers.{CheckPromise, checkedChecks, afterCall}
+use Rattle.rule_check.proofs.Calls.{zeros-left, checked-length, shape-morphism}
+use Rattle.rule_check.proofs.MarksPassed.{passed-marks, marking-linked}
+use Rattle.scratch.specs.Map.{pairsFrom}
+use Rattle.mark_search.specs.Search.{Stands}
+use Rattle.mark_strong.proofs.Calling.{checked-table, checked-lawful, checked-reached, checked-linked, marks-stand, checked-room}
+use Rattle.mark_inclusion.specs.Laying.{SecondLaid, LaidAnswer}
+use Rattle.mark_comparison.specs.Comparison.{ComparePlace, InclusionAnswer, Answered, answered-included, answered-apart, Compared}
+use Rattle.mark_inclusion.specs.Promise.{startSize, cycleSize, secondPairs, inclusionChecks, inclusionVerdict, inclusionLeft, InclusionPromise}
+use Rattle.mark_comparison.specs.declared.Inclusion.{Inclusion}
+use Rattle.mark_comparison.specs.declared.Inclusion.the-variants.{Refused}
+use Rattle.mark_inclusion.proofs.Laying.{moved-marks}
+
+module _ (bytes second u v entry : List ℕ) where
+  -- a short buffer is refused, and all are left as they came
+  pub start-short : length u < startSize → InclusionPromise bytes second u u v v entry entry (Refused BufferTooShort 1 0)
+  start-short h = record {
+    verdict = buffer-short h;
+    answered = record { start-kept = refl; cycle-kept = refl };
+    scratch = sym (simp (lt-ltb (length u) startSize h));
+  }
+
+  module _ (long : startSize ≤ length u) where
+    pub cycle-short : length v < cycleSize → InclusionPromise bytes second u u v v entry entry (Refused BufferTooShort 1 0)
+    cycle-short h = record {
+      verdict = buffer-long long (buffer-short h);
+      answered = record { start-kept = refl; cycle-kept = refl };
+      scratch = sym (simp (le-ltb (length u) startSize long, lt-ltb (length v) cycleSize h));
+    }
+
+    module _ (wide : cycleSize ≤ length v) where
+      after-buffers : {w : Verdict} → FirstFailure (checkedChecks 1 bytes entry ++ secondMarksChecks 2 bytes second) w → FirstFailure (inclusionChecks bytes second u v entry) w
+      after-buffers f = buffer-long long (buffer-long wide f)
+
+      left : {exit : List ℕ} → exit ≡ afterCall entry → exit ≡ inclusionLeft u v entry
+      left e = e ∙ sym (simp (le-ltb (length u) startSize long, le-ltb (length v) cycleSize wide))
+
+      -- the rule is refused
+      pub rule-refused : {exit : List ℕ} {r : Refusal} {i place : ℕ} → CheckPromise 1 bytes entry exit (Checked-refused r i place)
+          → InclusionPromise bytes second u u v v entry exit (Refused r i place)
+      rule-refused p = record {
+        verdict = after-buffers (refused-before _ _ (p .verdict));
+        answered = record { start-kept = refl; cycle-kept = refl };
+        scratch = left (p .scratch);
+      }
+
+      module _ {shape : Shape} {mid : List ℕ} (p : CheckPromise 1 bytes entry mid (Rule shape)) where
+        abbrev m : Morphism
+        m = morphismAt bytes (shape .elements) (shape .letters)
+
+        pub second-room : scratchSize ≤ length mid
+        second-room = checked-room 1 bytes entry p
+
+        zeros : (was end : List ℕ) → length was ≡ length mid → end ≡ replicate (length was) 0 → end ≡ inclusionLeft u v entry
+        zeros was end e z = left (zeros-left 1 bytes entry (p .verdict) was end (e ∙ checked-length (p .scratch)) z)
+
+        module _ (answer : Fault) (verdict : FaultAnswer (λ input. secondMarksChecks input bytes second) answer) (laid : List ℕ)
+            (l : LaidAnswer second (shape .elements) mid laid answer) where
+          -- the second marks are refused
+          pub second-refused : {end : List ℕ} {r : Refusal} {place : ℕ} → answer ≡ Fault-refused r place → end ≡ replicate (length laid) 0
+              → InclusionPromise bytes second u u v v entry end (Refused r 2 place)
+          second-refused {end} e z = record {
+            verdict = after-buffers (passed-before _ _ (p .verdict) (subst (FaultAnswer (λ input. secondMarksChecks input bytes second)) e verdict 2));
+            answered = record { start-kept = refl; cycle-kept = refl };
+            scratch = zeros laid end (subst (LaidAnswer second (shape .elements) mid laid) e l) z;
+          }
+
+          module _ (e : answer ≡ Nothing) where
+            second-passed : FirstFailure (secondMarksChecks 2 bytes second) passed
+            second-passed = subst (FaultAnswer (λ input. secondMarksChecks input bytes second)) e verdict 2
+
+            second-laid : SecondLaid second (shape .elements) mid laid
+            second-laid = subst (LaidAnswer second (shape .elements) mid laid) e l
+
+            -- both tables of marks stand
+            pub compare-place : ComparePlace m laid
+            compare-place = record {
+              lawful = checked-lawful 1 bytes entry p;
+              reached = checked-reached 1 bytes entry p;
+              room = omega (arith, checked-room 1 bytes entry p, second-laid .same-length);
+            }
+
+            second-linked : LinkedOnly m (secondPairs second)
+            unfolding secondMarksChecks
+            second-linked =
+                let rest : FirstFailure (trailingCheck 2 (2 + markWidth * twoBytes second 0) second ∷ markChecks 2 (morphismOf bytes) second 0 0 (twoBytes second 0)) passed =
+                passed-last (sectionChecks (marksSection (elementsOf bytes)) 2 0 second) _ second-passed in
+                subst (λ (x : Morphism). LinkedOnly x (secondPairs second)) (sym (shape-morphism (p .scratch .shape-is)))
+                (marking-linked second 0 (passed-marks 2 (twoBytes second 0) (passes-tail rest)))
+
+            second-stands : Stands (shape .elements) (secondPairs second) laid 4096
+            unfolding marked level pairsFrom
+            second-stands = record { same = λ s c hs hc. ap (λ (x : ℕ). leb 1 x) (sym (second-laid .mark s c hs hc)) }
+
+            first-stands : Stands (shape .elements) (pairsOf bytes) laid 0
+            first-stands = moved-marks (checked-table 1 bytes entry p .small) (second-laid .before) (marks-stand 1 bytes entry p)
+
+            -- the markings are compared
+            pub both-compared : {u′ v′ end : List ℕ} {r : Inclusion} → Compared m u u′ v v′ laid end r → InclusionPromise bytes second u u′ v v′ entry end r
+            both-compared {u′} {v′} {end} {r} c = record {
+              verdict = after-buffers (subst (FirstFailure _) (sym (no-refusal (c .answered))) (passed-before _ _ (p .verdict) second-passed));
+              answered = subst (λ (x : Morphism). InclusionAnswer x (pairsOf bytes) (secondPairs second) u u′ v v′ r) (shape-morphism (p .scratch .shape-is))
+                  (c .answers (pairsOf bytes) (secondPairs second) (checked-linked 1 bytes entry p) second-linked first-stands second-stands);
+              scratch = zeros laid end (second-laid .same-length) (c .scratch);
+            }
+              where
+                no-refusal : {x : Inclusion} → Answered x → inclusionVerdict x ≡ passed
+                no-refusal answered-included = refl
+                no-refusal answered-apart = refl

@@ -1,0 +1,44 @@
+-- The table behind the first marks is made blank, and the second section is laid out there. Assumes nothing.
+use native.Mathlib.Omega.{arith}
+use borrow.Author.Needs.{needs}
+use Rattle.mark_inclusion.proofs.Laying.{second-space, laid-answer}
+use Rattle.mark_inclusion.proofs.lay_second.Statement.{statement}
+use Rattle.mark_inclusion.proofs.lay_second.Tie as tie
+
+zero-part-requires : tie.Need-zero-part-requires
+zero-part-requires c κs = (omega arith, omega (arith, c .before .before .before .before .pre .1 .1))
+
+sub-second-marks : tie.Need-sub-second-marks
+sub-second-marks c = search needs
+
+part-second-marks-start : tie.Need-part-second-marks-start
+part-second-marks-start c = search needs
+
+part-second-marks-end : tie.Need-part-second-marks-end
+part-second-marks-end c = search needs
+
+second-marks-requires : tie.Need-second-marks-requires
+second-marks-requires c κs =
+    let start = c .before .before .before .before .before .before .before .before in
+    (start .pre .0, (start .pre .1 .0, second-space (start .pre .1 .1) (c .before .before .before .zero-part .ensures)))
+
+same-length : tie.Need-same-length
+same-length c = search needs
+
+returns : tie.Need-returns
+returns c =
+    let start = c .before .before .before .before .before .before .before .before .before .before .before in
+    let second = c .before .before .second-marks in
+    (second .ensures .0, laid-answer (start .pre .1 .1) (c .before .before .before .before .before .before .zero-part .ensures) _ (start .pre .0 .small) _ (second .result) (second .ensures .1))
+
+pub lay-second-spec : {M : Type 1} → statement M
+lay-second-spec =
+    tie.close
+    (tie.spec
+    zero-part-requires
+    sub-second-marks
+    part-second-marks-start
+    part-second-marks-end
+    second-marks-requires
+    same-length
+    returns)

@@ -1,0 +1,112 @@
+-- The states that a search begins with: one for each marked pair (s, e). Assumes nothing.
+use Prim.Native.Nat.{ℕ, _+_, _*_, _≤_, _<_}
+use mathlib.Core.Path.{_≡_, refl, sym, ap, _∙_, subst}
+use mathlib.Core.Bool.{Bool}
+use mathlib.Core.Logic.{⊎-elim, _⊎_, inl, inr}
+use mathlib.Core.List.{List}
+use native.Mathlib.Omega.{arith}
+use native.Mathlib.Nat.{le-refl}
+use lib.ListN.{length, getD}
+use lib.Dec.{T, ltb}
+use mir.Facts.{ltb-yes, yes-ltb}
+use Rattle.finite.proofs.Numbers.{below-cases, le-or-lt}
+use Rattle.theory.specs.Rules.{Pairs}
+use Rattle.scratch.specs.Map.{pairsFrom}
+use Rattle.mark_search_list.specs.Queue.{frontAt, backAt, seenAt, Queue, HasState, Kept, Grown}
+use Rattle.mark_search_list.specs.Steps.{AddPlace, Added, BeginPlace, BegunWith, Begun}
+use Rattle.mark_search_list.proofs.Growth.{grown-refl, grown-trans, state-grown}
+
+-- a worklist with no entry: no state was found for s yet
+pub queue-none : {n s : ℕ} {scratch : List ℕ} → n ≤ 64 → s < n → 65536 ≤ length scratch → ((c : ℕ) → c < 4225 → seenAt scratch c ≤ s) → Queue n s scratch 0
+queue-none small hs room unseen = record {
+  small = small;
+  start-inside = hs;
+  room = room;
+  front-inside = λ i h. omega arith;
+  back-inside = λ i h. omega arith;
+  apart = λ i j h l e. omega arith;
+  seen = λ i h. omega arith;
+  found = λ c h e. absurd (omega (arith, unseen c h));
+  older = λ c h. omega (arith, unseen c h);
+}
+
+-- what stands in a table of marks stays there
+pub pairs-kept : {entry exit : List ℕ} (base : ℕ) {s e : ℕ} → Kept entry exit → base ≤ 4096 → s < 64 → e < 64 → pairsFrom exit base s e ≡ pairsFrom entry base s e
+unfolding pairsFrom
+pairs-kept base {s} {e} k h hs he = ap (ltb 0) (k .marks (base + (s * 64 + e)) (omega arith))
+
+module _ {n s first count e : ℕ} {entry : List ℕ} (place : BeginPlace n s entry first count) (he : e < n) where
+  -- the pair is not marked
+  pub not-begun : getD entry (first + (s * 64 + e)) 0 ≤ 0 → BegunWith n s (pairsFrom entry first) e entry count entry count
+  unfolding pairsFrom
+  not-begun z = record {
+    grown = grown-refl (place .queue);
+    holds = λ t. let h : 0 < getD entry (first + (s * 64 + e)) 0 = ltb-yes t in absurd (omega arith);
+    front = λ j h l. omega arith;
+    back = λ j h l. omega arith;
+    is-marked = λ j h l. absurd (omega arith);
+  }
+
+  -- it is marked, and its state was added
+  pub begun-with : {exit : List ℕ} {total : ℕ} → 0 < getD entry (first + (s * 64 + e)) 0 → Added n s entry count e n 0 0 exit total
+      → BegunWith n s (pairsFrom entry first) e entry count exit total
+  unfolding pairsFrom
+  begun-with z a = record {
+    grown = a .grown;
+    holds = λ t. a .holds;
+    front = a .only .the-front;
+    back = a .only .the-back;
+    is-marked = λ j h l. yes-ltb z;
+  }
+
+module _ {n s first : ℕ} {entry : List ℕ} (base : first ≤ 4096) where
+  pub begun-start : BeginPlace n s entry first 0 → Begun n s (pairsFrom entry first) 0 entry entry 0
+  begun-start place = record {
+    within = omega arith;
+    grown = grown-refl (place .queue);
+    holds = λ e h t. absurd (omega arith);
+    front = λ j h. omega arith;
+    back = λ j h. omega arith;
+    is-marked = λ j h. absurd (omega arith);
+  }
+
+  module _ {e count : ℕ} {now : List ℕ} (b : Begun n s (pairsFrom entry first) e entry now count) where
+    pub begun-place : BeginPlace n s now first count
+    begun-place = record { queue = b .grown .queue; base = base }
+
+    -- one element more
+    pub begun-next : {next : List ℕ} {total : ℕ} → e < n → BegunWith n s (pairsFrom now first) e now count next total
+        → Begun n s (pairsFrom entry first) (e + 1) entry next total
+    begun-next {next} {total} he w = record {
+      within = omega arith;
+      grown = grown-trans (b .grown) (w .grown);
+      holds = λ d h t. holds d t (below-cases (omega arith));
+      front = λ j h. go (λ (x : ℕ). x < e + 1) j h (λ l. omega (arith, b .front j l)) (omega arith);
+      back = λ j h. back j h (le-or-lt count j);
+      is-marked = λ j h. go (λ (x : ℕ). T (pairsFrom entry first s x)) j h (λ l. b .is-marked j l) (marked-here j h);
+    }
+      where
+        q : Queue n s now count
+        q = b .grown .queue
+
+        same-mark : pairsFrom now first s e ≡ pairsFrom entry first s e
+        same-mark = pairs-kept first (b .grown .kept) base (omega (arith, q .small, q .start-inside)) (omega (arith, q .small))
+
+        holds : (d : ℕ) → T (pairsFrom entry first s d) → (d ≡ e) ⊎ (d < e) → HasState next total d n
+        holds d t (inl p) = subst (λ (x : ℕ). HasState next total x n) (sym p) (w .holds (subst T (sym same-mark) (subst (λ (x : ℕ). T (pairsFrom entry first s x)) p t)))
+        holds d t (inr h) = state-grown (w .grown) (b .holds d h t)
+
+        marked-here : (j : ℕ) → j < total → count ≤ j → T (pairsFrom entry first s e)
+        marked-here j h l = subst T same-mark (w .is-marked j l h)
+
+        go : (R : ℕ → Type 0) (j : ℕ) → j < total → (j < count → R (frontAt now j)) → (count ≤ j → R e) → R (frontAt next j)
+        go R j h old new =
+            ⊎-elim (λ l. subst R (sym (w .front j l h)) (new l)) (λ l. subst R (sym (w .grown .same j l .front)) (old l)) (le-or-lt count j)
+
+        back : (j : ℕ) → j < total → (count ≤ j) ⊎ (j < count) → backAt next j ≡ n
+        back j h (inl l) = w .back j l h
+        back j h (inr l) = w .grown .same j l .back ∙ b .back j l
+
+    -- all elements were looked at
+    pub begun-all : n ≤ e → Begun n s (pairsFrom entry first) n entry now count
+    begun-all h = subst (λ (x : ℕ). Begun n s (pairsFrom entry first) x entry now count) (let p : e ≡ n = omega (arith, b .within) in p) b

@@ -1,0 +1,90 @@
+-- A checked rule whose strength is to be decided: what scratch holds, and what the verdict says of the file. Assumes nothing.
+use Prim.Native.Nat.{ℕ, _+_, _*_, _≤_, _<_}
+use mathlib.Core.Path.{_≡_, refl, sym, ap, _∙_, subst}
+use mathlib.Core.Bool.{Bool, true, false}
+use mathlib.Core.List.{List}
+use native.Mathlib.Omega.{arith}
+use lib.ListN.{length, getD, replicate}
+use lib.Dec.{leb, ltb}
+use Rattle.answer.specs.declared.Refusal.{Refusal}
+use Rattle.answer.specs.Checks.{passed, refused, FirstFailure}
+use Rattle.theory.specs.Rules.{Morphism, Lawful, Pairs, AllReached, marked, level}
+use Rattle.theory.specs.Acceptance.{Strong}
+use Rattle.theory.specs.Pairs.{LinkedOnly}
+use Rattle.rule_table.specs.Table.{Table, morphismAt}
+use Rattle.formats.specs.Format.{elementsOf, lettersOf, morphismOf, pairsOf, markingOf}
+use Rattle.rule_layout.specs.declared.Shape.{Shape}
+use Rattle.rule_check.specs.declared.Checked.the-variants.{Rule, Refused as Checked-refused}
+use Rattle.rule_check.specs.Answers.{CheckPromise, afterCall}
+use Rattle.rule_check.specs.GoodRule.{GoodRule}
+use Rattle.rule_check.proofs.Calls.{scratch-long, called-good, zeros-left, checked-length, shape-morphism, shape-table}
+use Rattle.scratch.specs.Map.{pairsFrom}
+use Rattle.mark_closure.proofs.Agreement.{linked-agrees}
+use Rattle.mark_search.specs.Search.{Stands}
+use Rattle.mark_strong.specs.Deciding.{DecidePlace, StrongIf, Decided}
+use Rattle.mark_strong.specs.Promise.{StrongPromise}
+use Rattle.mark_strong.specs.declared.Strength.the-variants.{Strong as Is-strong, Weak, Refused}
+
+module _ (input : ℕ) (bytes entry : List ℕ) {shape : Shape} {mid : List ℕ} (p : CheckPromise input bytes entry mid (Rule shape)) where
+  good : GoodRule bytes
+  good = called-good input bytes entry (p .verdict)
+
+  pub checked-table : Table bytes (shape .elements) (shape .letters)
+  checked-table = shape-table (p .scratch .shape-is) (good .table)
+
+  pub checked-lawful : Lawful (morphismAt bytes (shape .elements) (shape .letters))
+  checked-lawful = subst Lawful (sym (shape-morphism (p .scratch .shape-is))) (good .lawful)
+
+  pub checked-reached : AllReached (morphismAt bytes (shape .elements) (shape .letters))
+  checked-reached = subst AllReached (sym (shape-morphism (p .scratch .shape-is))) (good .reached)
+
+  pub checked-linked : LinkedOnly (morphismAt bytes (shape .elements) (shape .letters)) (pairsOf bytes)
+  checked-linked = subst (λ (m : Morphism). LinkedOnly m (pairsOf bytes)) (sym (shape-morphism (p .scratch .shape-is))) (good .linked)
+
+  -- the marks of the file stand at the front of scratch
+  pub marks-stand : Stands (shape .elements) (pairsOf bytes) mid 0
+  unfolding marked level pairsFrom
+  marks-stand = record {
+    same = λ s e hs he. ap (λ (x : ℕ). leb 1 x)
+        (sym (ap (λ (x : ℕ). getD mid x 0) (let z : 0 + (s * 64 + e) ≡ s * 64 + e = omega arith in z) ∙ p .scratch .mark s e (omega (arith, p .scratch .shape-is .elements)) (omega (arith, p .scratch .shape-is .elements))));
+  }
+
+  pub checked-room : 65536 ≤ length mid
+  checked-room = omega (arith, scratch-long input bytes entry (p .verdict), checked-length (p .scratch))
+
+  pub decide-place : DecidePlace (morphismAt bytes (shape .elements) (shape .letters)) mid
+  decide-place = record {
+    lawful = checked-lawful;
+    reached = checked-reached;
+    linked = linked-agrees (morphismAt bytes (shape .elements) (shape .letters)) (pairsOf bytes) (pairsFrom mid 0) (marks-stand .same) checked-linked;
+    room = checked-room;
+  }
+
+  module _ {exit : List ℕ} {answer : Bool} (d : Decided (morphismAt bytes (shape .elements) (shape .letters)) mid exit answer) where
+    -- the verdict on the file
+    pub decided-file : StrongIf (morphismOf bytes) (pairsOf bytes) answer
+    decided-file = subst (λ (m : Morphism). StrongIf m (pairsOf bytes) answer) (shape-morphism (p .scratch .shape-is)) (d .verdict (pairsOf bytes) checked-linked marks-stand)
+
+    pub decided-left : (was end : List ℕ) → length was ≡ length exit → end ≡ replicate (length was) 0 → end ≡ afterCall entry
+    decided-left was end e z = zeros-left input bytes entry (p .verdict) was end (e ∙ d .same-length ∙ checked-length (p .scratch)) z
+
+-- the call for the verdict alone
+module _ (bytes entry : List ℕ) where
+  pub strong-refused : {exit : List ℕ} {r : Refusal} {i place : ℕ} → CheckPromise 1 bytes entry exit (Checked-refused r i place) → StrongPromise bytes entry exit (Refused r i place)
+  strong-refused p = record { verdict = p .verdict; answered = tt; scratch = p .scratch }
+
+  module _ {shape : Shape} {mid exit : List ℕ} {answer : Bool} (p : CheckPromise 1 bytes entry mid (Rule shape))
+      (d : Decided (morphismAt bytes (shape .elements) (shape .letters)) mid exit answer) (end : List ℕ) (z : end ≡ replicate (length exit) 0) where
+    pub says-strong : answer ≡ true → StrongPromise bytes entry end Is-strong
+    says-strong e = record {
+      verdict = p .verdict;
+      answered = subst (StrongIf (morphismOf bytes) (pairsOf bytes)) e (decided-file 1 bytes entry p d);
+      scratch = decided-left 1 bytes entry p d exit end refl z;
+    }
+
+    pub says-weak : answer ≡ false → StrongPromise bytes entry end Weak
+    says-weak e = record {
+      verdict = p .verdict;
+      answered = subst (StrongIf (morphismOf bytes) (pairsOf bytes)) e (decided-file 1 bytes entry p d);
+      scratch = decided-left 1 bytes entry p d exit end refl z;
+    }

@@ -1,0 +1,66 @@
+// Whether a rule is strong: the closure of its marks is worked out, and where the marks have all of it they are strong without a
+// search; otherwise they are strong exactly if no lasso of the closure escapes them.
+use answer::Refusal;
+use mark_closure::close;
+use mark_search::Escape;
+use mark_search::first_escape;
+use rule_check::Checked;
+use rule_check::check;
+use sections::zero;
+use sections::zero_part;
+ghost use Rattle.rule_table.specs.Table.{Table, morphismAt};
+ghost use Rattle.mark_strong.specs.Deciding.{DecidePlace, Decided};
+ghost use Rattle.mark_strong.specs.Promise.{StrongPromise};
+
+// Decides strength from the marks in scratch, and leaves their closure behind them. The bytes from 61440 on are kept.
+pub fn decide(rule: &[u8], n: usize, k: usize, scratch: &mut [u8]) -> bool
+    requires { ⌜ Table (now rule) n k ⌝ }
+    requires { ⌜ DecidePlace (morphismAt (now rule) n k) (now scratch) ⌝ }
+    ensures { λ r. ⌜ Decided (morphismAt (now (rule .entry)) n k) (now (scratch .entry)) (now (scratch .exit)) r ⌝ }
+{
+    zero_part(scratch, 4096, 8192);
+    let closed = close(rule, n, k, scratch);
+    if closed {
+        return true;
+    }
+    match first_escape(rule, n, k, scratch, 4096, 0) {
+        Escape::At { start: _, entry: _ } => false,
+        Escape::Nothing => true,
+    }
+}
+
+pub enum Strength {
+    Strong,
+    Weak,
+    Refused {
+        refusal: Refusal,
+        input: usize,
+        place: usize,
+    },
+}
+
+// Checks a rule and says whether it is strong. Scratch ends as zeros, but where it is too short.
+pub fn strong(rule: &[u8], scratch: &mut [u8]) -> Strength
+    ensures { λ r. ⌜ StrongPromise (now (rule .entry)) (now (scratch .entry)) (now (scratch .exit)) r ⌝ }
+{
+    let shape = match check(rule, 1, scratch) {
+        Checked::Rule(shape) => shape,
+        Checked::Refused {
+            refusal,
+            input,
+            place,
+        } => {
+            return Strength::Refused {
+                refusal,
+                input,
+                place,
+            };
+        }
+    };
+    let strong = decide(rule, shape.elements, shape.letters, scratch);
+    zero(scratch);
+    if strong {
+        return Strength::Strong;
+    }
+    Strength::Weak
+}

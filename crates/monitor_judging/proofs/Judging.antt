@@ -1,0 +1,90 @@
+-- Two values judged by a marking: where it is strong, one look in its closure decides every lasso that has them. Assumes nothing.
+use Prim.Native.Nat.{ℕ, _≤_, _<_}
+use mathlib.Core.Path.{_≡_, refl, sym, ap, _∙_, subst}
+use mathlib.Core.Bool.{Bool, true, false}
+use mathlib.Core.Logic.{_↔_}
+use mathlib.Core.List.{List}
+use native.Mathlib.Omega.{arith}
+use lib.ListN.{length, replicate}
+use lib.Dec.{T}
+use Rattle.answer.specs.declared.Refusal.the-variants.{NotStrong}
+use Rattle.theory.specs.Rules.{Morphism, Lawful, Pairs, AllReached}
+use Rattle.theory.specs.Acceptance.{Accepts, Strong}
+use Rattle.theory.specs.Pairs.{LinkedOnly}
+use Rattle.theory.proofs.Strength.{settled-start, settled-cycle, settled-linked}
+use Rattle.theory.proofs.Closure.{closure-test, acceptance-passes, strong-acceptance}
+use Rattle.scratch.specs.Map.{pairsFrom}
+use Rattle.mark_search.specs.Search.{Stands}
+use Rattle.mark_strong.specs.Deciding.{DecidePlace, StrongIf, Decided}
+use Rattle.monitor_judging.specs.declared.Judged.the-variants.{Accepted, NotAccepted, Refused}
+use Rattle.monitor_judging.specs.Lassos.{LassoWith, LassosAccepted, LassosNotAccepted}
+use Rattle.monitor_judging.specs.Judges.{Judges}
+
+module _ {m : Morphism} (law : Lawful m) (reached : AllReached m) {before since : ℕ} (hb : before < m .size) (hs : since < m .size)
+    {P : Pairs} (linked : LinkedOnly m P) (strong : Strong m P) where
+  -- a lasso with the values is accepted exactly if the closure has their settled pair
+  closure-decides : {u v : List ℕ} → LassoWith m before since u v → Accepts m P u v ↔ T (closure-test m P (settled-start m before since) (settled-cycle m since))
+  closure-decides l =
+      let a = strong-acceptance law reached linked strong (l .start-over) (l .cycle-over) (l .start-value) (l .cycle-value) in
+      let t = acceptance-passes m P before since in
+      (λ h. t .1 (a .0 h), λ h. a .1 (t .0 h))
+
+  pub closure-accepts : T (closure-test m P (settled-start m before since) (settled-cycle m since)) → LassosAccepted m P before since
+  closure-accepts t = record {
+    start = reached .word-of before hb;
+    cycle = reached .word-of since hs;
+    accepted = λ u v l. closure-decides l .1 t;
+  }
+
+  pub closure-rejects : (T (closure-test m P (settled-start m before since) (settled-cycle m since)) → ⊥) → LassosNotAccepted m P before since
+  closure-rejects f = record {
+    start = reached .word-of before hb;
+    cycle = reached .word-of since hs;
+    not-accepted = λ u v l a. f (closure-decides l .0 a);
+  }
+
+module _ {m : Morphism} {entry : List ℕ} (place : DecidePlace m entry) {before since : ℕ} (hb : before < m .size) (hs : since < m .size)
+    {mid : List ℕ} {strong : Bool} (d : Decided m entry mid strong) where
+  -- the room that the look asks for
+  pub look-room : 65536 ≤ length mid
+  look-room = omega (arith, place .room, d .same-length)
+
+  -- where zeros are left over what the decision left
+  zeros-left : {exit : List ℕ} → exit ≡ replicate (length mid) 0 → exit ≡ replicate (length entry) 0
+  zeros-left z = z ∙ ap (λ (x : ℕ). replicate x 0) (d .same-length)
+
+  -- the marks are not strong
+  pub judged-weak : {exit : List ℕ} → exit ≡ replicate (length mid) 0 → strong ≡ false → Judges m before since entry exit (Refused NotStrong 1 0)
+  judged-weak z e = record {
+    zeros = zeros-left z;
+    says = λ P lp t. (subst (StrongIf m P) e (d .verdict P lp t), refl);
+  }
+
+  module _ {accepted : Bool} (look : accepted ≡ pairsFrom mid 4096 (settled-start m before since) (settled-cycle m since)) {exit : List ℕ}
+      (z : exit ≡ replicate (length mid) 0) (e : strong ≡ true) where
+    strong-marks : (P : Pairs) → LinkedOnly m P → Stands (m .size) P entry 0 → Strong m P
+    strong-marks P lp t = subst (StrongIf m P) e (d .verdict P lp t)
+
+    -- the byte is the closure's
+    look-closure : (P : Pairs) → LinkedOnly m P → Stands (m .size) P entry 0 → closure-test m P (settled-start m before since) (settled-cycle m since) ≡ accepted
+    look-closure P lp t =
+        let l = settled-linked (place .lawful) hb hs in
+        d .closure P lp t .same (settled-start m before since) (settled-cycle m since) (l .inside) (l .idempotent .inside) ∙ sym look
+
+    pub judged-accepted : accepted ≡ true → Judges m before since entry exit Accepted
+    judged-accepted a = record {
+      zeros = zeros-left z;
+      says = λ P lp t. (
+        strong-marks P lp t,
+        closure-accepts (place .lawful) (place .reached) hb hs lp (strong-marks P lp t) (rw (look-closure P lp t, a) tt),
+      );
+    }
+
+    pub judged-not-accepted : accepted ≡ false → Judges m before since entry exit NotAccepted
+    judged-not-accepted a = record {
+      zeros = zeros-left z;
+      says = λ P lp t. (
+        strong-marks P lp t,
+        closure-rejects (place .lawful) (place .reached) hb hs lp (strong-marks P lp t) (λ h. rw (look-closure P lp t, a) at h),
+      );
+    }

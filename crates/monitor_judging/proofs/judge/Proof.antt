@@ -1,0 +1,57 @@
+-- `monitor_judging::judge` meets its contract: strength first, and then the closure decides. Assumes nothing.
+use borrow.Author.Needs.{needs}
+use borrow.Author.Tests.{not-true, not-false}
+use Rattle.monitor_judging.proofs.Judging.{look-room, judged-weak, judged-accepted, judged-not-accepted}
+use Rattle.monitor_judging.proofs.judge.Statement.{statement}
+use Rattle.monitor_judging.proofs.judge.Tie as tie
+
+decide-requires : tie.Need-decide-requires
+decide-requires c κs = search needs
+
+accepted-values-requires : tie.Need-accepted-values-requires
+accepted-values-requires c κs =
+    let b = c .before .before .before .before .before .before .before .pre in
+    (b .0, (b .1 .0 .lawful, (b .1 .1, look-room (b .1 .0) (b .1 .1 .0) (b .1 .1 .1) (c .before .before .before .decide .ensures))))
+
+zero-requires : tie.Need-zero-requires
+zero-requires c κs = search needs
+
+same-length : tie.Need-same-length
+same-length c = search needs
+
+returns : tie.Need-returns
+returns c =
+    let b = c .before .before .before .before .before .before .before .before .before .before .before .before .before .pre .1 in
+    judged-weak (b .0) (b .1 .0) (b .1 .1) (c .before .before .before .before .before .before .before .before .before .decide .ensures) (c .before .before .before .zero .ensures) (not-true _ (c .if1 .taken))
+
+same-length-2 : tie.Need-same-length-2
+same-length-2 c = search needs
+
+returns-2 : tie.Need-returns-2
+returns-2 c =
+    let b = c .before .before .before .before .before .before .before .before .before .before .before .before .before .before .pre .1 in
+    judged-accepted (b .0) (b .1 .0) (b .1 .1) (c .before .before .before .before .before .before .before .before .before .before .decide .ensures) (c .before .before .before .before .before .before .accepted-values .ensures) (c .before .before .before .before .zero .ensures)
+    (not-false _ (c .before .if1 .left)) (c .if2 .taken)
+
+same-length-3 : tie.Need-same-length-3
+same-length-3 c = search needs
+
+returns-3 : tie.Need-returns-3
+returns-3 c =
+    let b = c .before .before .before .before .before .before .before .before .before .before .before .before .before .before .pre .1 in
+    judged-not-accepted (b .0) (b .1 .0) (b .1 .1) (c .before .before .before .before .before .before .before .before .before .before .decide .ensures) (c .before .before .before .before .before .before .accepted-values .ensures) (c .before .before .before .before .zero .ensures)
+    (not-false _ (c .before .if1 .left)) (c .if2 .left)
+
+pub judge-spec : {M : Type 1} → statement M
+judge-spec =
+    tie.close
+    (tie.spec
+    decide-requires
+    accepted-values-requires
+    zero-requires
+    same-length
+    returns
+    same-length-2
+    returns-2
+    same-length-3
+    returns-3)

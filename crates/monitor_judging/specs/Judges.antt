@@ -1,0 +1,25 @@
+-- What the verdict on two values says and leaves. Assumes nothing.
+use Prim.Native.Nat.{ℕ}
+use mathlib.Core.Path.{_≡_}
+use mathlib.Core.List.{List}
+use lib.ListN.{length, replicate}
+use Rattle.answer.specs.declared.Refusal.the-variants.{NotStrong}
+use Rattle.answer.specs.Checks.{refused}
+use Rattle.theory.specs.Rules.{Morphism, Pairs}
+use Rattle.theory.specs.Acceptance.{Strong}
+use Rattle.theory.specs.Pairs.{LinkedOnly}
+use Rattle.mark_search.specs.Search.{Stands}
+use Rattle.monitor_judging.specs.declared.Judged.{Judged}
+use Rattle.monitor_judging.specs.declared.Judged.the-variants.{Accepted, NotAccepted, Refused}
+use Rattle.monitor_judging.specs.Lassos.{LassosAccepted, LassosNotAccepted}
+
+-- a strong marking with the answer for the values (before, since), or one that is not strong and 12
+abbrev pub JudgedBy : Morphism → Pairs → ℕ → ℕ → Judged → Type 0
+JudgedBy m P before since Accepted = Strong m P × LassosAccepted m P before since
+JudgedBy m P before since NotAccepted = Strong m P × LassosNotAccepted m P before since
+JudgedBy m P before since (Refused refusal input place) = (Strong m P → ⊥) × (refused refusal input place ≡ refused NotStrong 1 0)
+
+-- what the marks at the front of scratch say, and zeros are left
+pub record Judges (m : Morphism) (before since : ℕ) (entry exit : List ℕ) (answer : Judged) : Type 0 where
+  pub zeros : exit ≡ replicate (length entry) 0
+  pub says : (P : Pairs) → LinkedOnly m P → Stands (m .size) P entry 0 → JudgedBy m P before since answer

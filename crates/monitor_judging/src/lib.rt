@@ -1,0 +1,85 @@
+// The verdict on two values of a strong rule, below the checks: whether the lassos with these values are accepted.
+use answer::Refusal;
+use mark_strong::decide;
+use rule_table::Power;
+use rule_table::idempotent_power;
+use rule_table::product;
+use sections::zero;
+ghost use mathlib.Core.Path.{_≡_};
+ghost use Prim.Native.Nat.{_≤_, _<_};
+ghost use lib.ListN.{length};
+ghost use Rattle.theory.specs.Rules.{Lawful};
+ghost use Rattle.theory.proofs.Strength.{settled-start, settled-cycle};
+ghost use Rattle.rule_table.specs.Table.{Table, morphismAt};
+ghost use Rattle.scratch.specs.Map.{pairsFrom};
+ghost use Rattle.mark_strong.specs.Deciding.{DecidePlace};
+ghost use Rattle.monitor_judging.specs.Judges.{Judges};
+
+pub enum Judged {
+    Accepted,
+    NotAccepted,
+    Refused {
+        refusal: Refusal,
+        input: usize,
+        place: usize,
+    },
+}
+
+// Whether the table of marks from 4096 has the pair (before·f, f), f the idempotent power of since: the values of the same endless
+// words written with more turns in their start and their cycle.
+pub fn accepted_values(
+    rule: &[u8],
+    n: usize,
+    k: usize,
+    scratch: &[u8],
+    before: usize,
+    since: usize,
+) -> bool
+    requires { ⌜ Table (now rule) n k ⌝ }
+    requires { ⌜ Lawful (morphismAt (now rule) n k) ⌝ }
+    requires { ⌜ (before < n) × (since < n) ⌝ }
+    requires { ⌜ 65536 ≤ length (now scratch) ⌝ }
+    ensures { λ r. ⌜ r ≡ pairsFrom (now (scratch .entry)) 4096 (settled-start (morphismAt (now (rule .entry)) n k) before since) (settled-cycle (morphismAt (now (rule .entry)) n k) since) ⌝ }
+{
+    let f = match idempotent_power(rule, n, k, since) {
+        Power::Idempotent {
+            element,
+            exponent: _,
+        } => element,
+        Power::Nothing => {
+            return false;
+        }
+    };
+    let s = product(rule, n, before, f);
+    0 < scratch[4096 + (s * 64 + f)]
+}
+
+// Judges two elements by the marks in scratch: the marks must be strong, and then their closure decides. Scratch ends as zeros.
+pub fn judge(
+    rule: &[u8],
+    n: usize,
+    k: usize,
+    before: usize,
+    since: usize,
+    scratch: &mut [u8],
+) -> Judged
+    requires { ⌜ Table (now rule) n k ⌝ }
+    requires { ⌜ DecidePlace (morphismAt (now rule) n k) (now scratch) ⌝ }
+    requires { ⌜ (before < n) × (since < n) ⌝ }
+    ensures { λ r. ⌜ Judges (morphismAt (now (rule .entry)) n k) before since (now (scratch .entry)) (now (scratch .exit)) r ⌝ }
+{
+    let strong = decide(rule, n, k, scratch);
+    let accepted = accepted_values(rule, n, k, scratch, before, since);
+    zero(scratch);
+    if !strong {
+        return Judged::Refused {
+            refusal: Refusal::NotStrong,
+            input: 1,
+            place: 0,
+        };
+    }
+    if accepted {
+        return Judged::Accepted;
+    }
+    Judged::NotAccepted
+}

@@ -1,0 +1,28 @@
+-- What a call on a lent monitor comes to, from what the call by value promises. Assumes nothing.
+use Prim.Native.Nat.{ℕ}
+use mathlib.Core.Path.{_≡_, sym, subst}
+use mathlib.Core.List.{List}
+use Rattle.monitor_state.specs.declared.Monitor.{Monitor}
+use Rattle.monitor_moves.specs.declared.Moved.{Moved}
+use Rattle.monitor_moves.specs.declared.Moved.the-variants.{To, Refused}
+use Rattle.monitor_lent.specs.declared.Told.{Told}
+use Rattle.monitor_moves.specs.Moves.{afterEvent}
+use Rattle.monitor_moves.specs.Promises.{EventPromise}
+use Rattle.monitor_lent.specs.InPlace.{sinceOf, toldOf, EventInPlace}
+
+-- the lent monitor with another since
+abbrev pub withSince : Monitor → ℕ → Monitor
+withSince f since = record { before = f .before; since = since }
+
+module _ (bytes : List ℕ) (f : Monitor) (letter : ℕ) (entry exit : List ℕ) where
+  -- the since of the monitor handed back is all that an event changes
+  stored : (moved : Moved) → EventPromise bytes f letter entry exit moved → EventInPlace bytes f letter entry exit (withSince f (sinceOf moved)) (toldOf moved)
+  unfolding afterEvent
+  stored (To g) p = record { verdict = p .verdict; monitor = λ i. withSince f (p .monitor i .since); scratch = p .scratch }
+  stored (Refused g r j place) p = record { verdict = p .verdict; monitor = λ i. withSince f (p .monitor i .since); scratch = p .scratch }
+
+  pub event-stored : {moved : Moved} {since : ℕ} {told : Told} → EventPromise bytes f letter entry exit moved → since ≡ sinceOf moved → told ≡ toldOf moved
+      → EventInPlace bytes f letter entry exit (withSince f since) told
+  event-stored {moved} {since} {told} p es et =
+      subst (λ (x : ℕ). EventInPlace bytes f letter entry exit (withSince f x) told) (sym es)
+      (subst (λ (x : Told). EventInPlace bytes f letter entry exit (withSince f (sinceOf moved)) x) (sym et) (stored moved p))

@@ -1,0 +1,60 @@
+// An event on a monitor that is lent: the new since is stored in it.
+use answer::Refusal;
+use monitor_moves::Moved;
+use monitor_moves::event;
+use monitor_state::Monitor;
+ghost use mathlib.Core.Path.{_≡_};
+ghost use Rattle.monitor_lent.specs.InPlace.{sinceOf, toldOf, EventInPlace};
+
+// What a call that is lent a monitor answers: the monitor has moved, or the refusal.
+pub enum Told {
+    Done,
+    Refused {
+        refusal: Refusal,
+        input: usize,
+        place: usize,
+    },
+}
+
+// The number since of the monitor that a call hands back.
+fn since_of(moved: Moved) -> usize
+    ensures { λ r. ⌜ r ≡ sinceOf moved ⌝ }
+{
+    match moved {
+        Moved::To(g) => g.since,
+        Moved::Refused {
+            monitor,
+            refusal,
+            input,
+            place,
+        } => monitor.since,
+    }
+}
+
+// The answer of a call, without the monitor.
+fn told_of(moved: Moved) -> Told
+    ensures { λ r. ⌜ r ≡ toldOf moved ⌝ }
+{
+    match moved {
+        Moved::To(g) => Told::Done,
+        Moved::Refused {
+            monitor,
+            refusal,
+            input,
+            place,
+        } => Told::Refused {
+            refusal,
+            input,
+            place,
+        },
+    }
+}
+
+// An event on a monitor that is lent: the new since is stored in it.
+pub fn event_in_place(rule: &[u8], m: &mut Monitor, letter: u8, scratch: &mut [u8]) -> Told
+    ensures { λ r. ⌜ EventInPlace (now (rule .entry)) (now (m .entry)) letter (now (scratch .entry)) (now (scratch .exit)) (now (m .exit)) r ⌝ }
+{
+    let moved = event(rule, *m, letter, scratch);
+    m.since = since_of(moved);
+    told_of(moved)
+}

@@ -1,0 +1,90 @@
+// The monitor (document 01: follower) of a station: it keeps the value of the letters before the last mark and of those since.
+// It holds two values and no count, so its state has the same few forms after years. Every call checks the whole rule.
+use answer::Refusal;
+use monitor_state::Monitor;
+use monitor_state::Ready;
+use monitor_state::join;
+use monitor_state::prepare;
+use rule_table::image;
+ghost use Prim.Native.Nat.{_<_};
+ghost use Rattle.monitor_moves.specs.Promises.{EventPromise, MarkPromise};
+
+// What a call makes of a monitor; a refused call hands it back as it was.
+pub enum Moved {
+    To(Monitor),
+    Refused {
+        monitor: Monitor,
+        refusal: Refusal,
+        input: usize,
+        place: usize,
+    },
+}
+
+// An event: since times the letter's element.
+pub fn event(rule: &[u8], m: Monitor, letter: u8, scratch: &mut [u8]) -> Moved
+    ensures { λ r. ⌜ EventPromise (now (rule .entry)) m letter (now (scratch .entry)) (now (scratch .exit)) r ⌝ }
+{
+    let shape = match prepare(rule, m, scratch) {
+        Ready::Rule(shape) => shape,
+        Ready::Refused {
+            refusal,
+            input,
+            place,
+        } => {
+            return Moved::Refused {
+                monitor: m,
+                refusal,
+                input,
+                place,
+            };
+        }
+    };
+    let n = shape.elements;
+    let k = shape.letters;
+    let a = letter as usize;
+    if k <= a {
+        return Moved::Refused {
+            monitor: m,
+            refusal: Refusal::UnknownLetter,
+            input: 1,
+            place: 0,
+        };
+    }
+    let since = m.since;
+    let next = join(rule, n, k, since, image(rule, n, a));
+    let before = m.before;
+    Moved::To(Monitor {
+        before,
+        since: next,
+    })
+}
+
+// A mark: before times since, and since is none again.
+pub fn mark(rule: &[u8], m: Monitor, scratch: &mut [u8]) -> Moved
+    ensures { λ r. ⌜ MarkPromise (now (rule .entry)) m (now (scratch .entry)) (now (scratch .exit)) r ⌝ }
+{
+    let shape = match prepare(rule, m, scratch) {
+        Ready::Rule(shape) => shape,
+        Ready::Refused {
+            refusal,
+            input,
+            place,
+        } => {
+            return Moved::Refused {
+                monitor: m,
+                refusal,
+                input,
+                place,
+            };
+        }
+    };
+    let n = shape.elements;
+    let k = shape.letters;
+    let before = m.before;
+    let since = m.since;
+    let next = join(rule, n, k, before, since);
+    Moved::To(Monitor {
+        before: next,
+        since: 64,
+    })
+}

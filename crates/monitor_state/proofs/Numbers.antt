@@ -1,0 +1,67 @@
+-- The numbers of a monitor: an element, or 64 for none. Assumes nothing.
+use Prim.Native.Nat.{ℕ, _≤_, _<_}
+use mathlib.Core.Path.{_≡_, refl, sym, ap, _∙_, subst}
+use mathlib.Core.Bool.{Bool, true, false, cond}
+use mathlib.Core.Logic.{_⊎_, inl, inr, ⊎-elim}
+use mathlib.Core.List.{List}
+use native.Mathlib.Omega.{arith}
+use native.Mathlib.Decide.{ℕ-discrete}
+use borrow.Author.Tests.{eq-eqb, ne-eqb}
+use lib.Dec.{eqb}
+use Rattle.finite.proofs.Numbers.{le-or-lt}
+use Rattle.theory.specs.Rules.{Morphism, Value, none, element, join}
+use Rattle.theory.proofs.Values.{Inside, inside-none, inside-element, join-none}
+use Rattle.rule_table.specs.Table.{morphismAt, productAt}
+use Rattle.monitor_state.specs.Monitor.{noValue, valueOf, numberFor, IsStray}
+use Rattle.monitor_state.specs.Ready.{GoodNumber, joinAt}
+
+pub value-none : {s : ℕ} → s ≡ noValue → valueOf s ≡ none
+unfolding valueOf
+value-none {s} e = simp (eq-eqb s noValue e)
+
+pub value-element : {s : ℕ} → (s ≡ noValue → ⊥) → valueOf s ≡ element s
+unfolding valueOf
+value-element {s} f = simp (ne-eqb s noValue f)
+
+-- the number of a good number's value is that number
+pub number-of-value : (s : ℕ) → numberFor (valueOf s) ≡ s
+unfolding numberFor
+number-of-value s = go (ℕ-discrete s noValue)
+  where
+    go : Dec (s ≡ noValue) → numberFor (valueOf s) ≡ s
+    go (yes e) = ap numberFor (value-none e) ∙ sym e
+    go (no f) = ap numberFor (value-element f)
+
+-- the product with none
+pub join-left : (bytes : List ℕ) (n k a b : ℕ) → a ≡ noValue → b ≡ joinAt bytes n k a b
+unfolding joinAt join
+join-left bytes n k a b e = sym (ap (λ (x : Value). numberFor (join (morphismAt bytes n k) x (valueOf b))) (value-none e) ∙ number-of-value b)
+
+pub join-right : (bytes : List ℕ) (n k a b : ℕ) → b ≡ noValue → a ≡ joinAt bytes n k a b
+unfolding joinAt
+join-right bytes n k a b e =
+    sym (ap (λ (x : Value). numberFor (join (morphismAt bytes n k) (valueOf a) x)) (value-none e)
+    ∙ ap numberFor (join-none (morphismAt bytes n k) (valueOf a)) ∙ number-of-value a)
+
+-- the product of two elements
+pub join-both : (bytes : List ℕ) (n k a b : ℕ) → (a ≡ noValue → ⊥) → (b ≡ noValue → ⊥) → productAt bytes n a b ≡ joinAt bytes n k a b
+unfolding joinAt join numberFor
+join-both bytes n k a b f g =
+    sym (ap (λ (x : Value). numberFor (join (morphismAt bytes n k) x (valueOf b))) (value-element f)
+    ∙ ap (λ (x : Value). numberFor (join (morphismAt bytes n k) (element a) x)) (value-element g))
+
+-- what is not stray is good
+pub not-stray : (n s : ℕ) → (IsStray n s → ⊥) → GoodNumber n s
+not-stray n s f =
+    ⊎-elim (λ h. go h (ℕ-discrete s noValue)) (λ h. inl h) (le-or-lt n s)
+  where
+    go : n ≤ s → Dec (s ≡ noValue) → GoodNumber n s
+    go h (yes e) = inr e
+    go h (no g) = absurd (f (record { no-element = h; not-none = g }))
+
+pub good-not-stray : (n s : ℕ) → GoodNumber n s → IsStray n s → ⊥
+good-not-stray n s g i = ⊎-elim (λ (h : s < n). omega (arith, i .no-element)) (λ (e : s ≡ noValue). i .not-none e) g
+
+-- an element that is no none is below the size
+pub good-element : {n s : ℕ} → GoodNumber n s → (s ≡ noValue → ⊥) → s < n
+good-element g f = ⊎-elim (λ h. h) (λ e. absurd (f e)) g

@@ -1,0 +1,51 @@
+-- A rule that is checked and a monitor whose values are good. Assumes nothing.
+use Prim.Native.Nat.{ℕ, _<_}
+use mathlib.Core.Path.{_≡_}
+use mathlib.Core.Bool.{Bool, true, false}
+use mathlib.Core.Logic.{_⊎_}
+use mathlib.Core.List.{List, [], _∷_, _++_}
+use Rattle.answer.specs.declared.Refusal.the-variants.{EntryOutOfRange}
+use Rattle.answer.specs.Checks.{Check, Verdict, passed, refused, FirstFailure}
+use Rattle.theory.specs.Rules.{join}
+use Rattle.rule_table.specs.Table.{morphismAt}
+use Rattle.formats.specs.Format.{elementsOf}
+use Rattle.rule_layout.specs.Answers.{IsShape}
+use Rattle.rule_check.specs.Answers.{checkedChecks, afterCall}
+use Rattle.monitor_state.specs.declared.Monitor.{Monitor}
+use Rattle.monitor_state.specs.declared.Ready.{Ready}
+use Rattle.monitor_state.specs.declared.Ready.the-variants.{Rule, Refused as Not-ready}
+use Rattle.monitor_state.specs.Monitor.{noValue, valueOf, numberFor, IsStray, StrayAt}
+
+-- an element or none
+abbrev pub GoodNumber : ℕ → ℕ → Type 0
+GoodNumber n s = (s < n) ⊎ (s ≡ noValue)
+
+-- the product of two such numbers
+unfoldable pub joinAt : List ℕ → ℕ → ℕ → ℕ → ℕ → ℕ
+joinAt bytes n k a b = numberFor (join (morphismAt bytes n k) (valueOf a) (valueOf b))
+
+abbrev pub StrayAnswer : ℕ → ℕ → Bool → Type 0
+StrayAnswer n s true = IsStray n s
+StrayAnswer n s false = GoodNumber n s
+
+-- 3 for the values of a monitor of a rule with n elements, which is the input of the given number
+abbrev pub strayCheck : ℕ → ℕ → Monitor → Check
+strayCheck input n f = record { refusal = EntryOutOfRange; input = input; Fails = StrayAt n f }
+
+-- "Then 3 for a follower's values": after the rule's own checks
+abbrev pub monitorChecks : List ℕ → Monitor → List ℕ → List Check
+monitorChecks bytes f scratch = checkedChecks 1 bytes scratch ++ strayCheck 1 (elementsOf bytes) f ∷ []
+
+abbrev pub readyVerdict : Ready → Verdict
+readyVerdict (Rule shape) = passed
+readyVerdict (Not-ready refusal input place) = refused refusal input place
+
+-- a rule that is ready: its counts
+abbrev pub ReadyShape : List ℕ → Ready → Type 0
+ReadyShape bytes (Rule shape) = IsShape bytes shape
+ReadyShape bytes (Not-ready refusal input place) = Unit {0}
+
+pub record ReadyPromise (bytes : List ℕ) (f : Monitor) (entry exit : List ℕ) (answer : Ready) : Type 0 where
+  pub verdict : FirstFailure (monitorChecks bytes f entry) (readyVerdict answer)
+  pub shape : ReadyShape bytes answer
+  pub scratch : exit ≡ afterCall entry

@@ -1,0 +1,93 @@
+-- What each way through the call for a monitor's verdict promises. Assumes nothing.
+use Prim.Native.Nat.{ℕ}
+use mathlib.Core.Path.{_≡_, refl, sym, subst}
+use mathlib.Core.Logic.{_⊎_, ⊎-elim}
+use mathlib.Core.List.{List, [], _∷_, _++_, append-assoc}
+use native.Mathlib.Omega.{arith}
+use lib.ListN.{length, replicate}
+use Rattle.answer.specs.declared.Refusal.{Refusal}
+use Rattle.answer.specs.Checks.{Verdict, refused, FirstFailure}
+use Rattle.answer.proofs.Order.{first-passes, first-fails, none-left, refused-before, passed-before}
+use Rattle.theory.specs.Rules.{Morphism}
+use Rattle.rule_table.specs.Table.{morphismAt}
+use Rattle.formats.specs.Format.{elementsOf, morphismOf, pairsOf}
+use Rattle.rule_layout.specs.declared.Shape.{Shape}
+use Rattle.rule_check.specs.declared.Checked.the-variants.{Rule, Refused as Checked-refused}
+use Rattle.rule_check.specs.Answers.{CheckPromise, checkedChecks, afterCall}
+use Rattle.rule_check.proofs.Calls.{zeros-left, checked-length, shape-morphism}
+use Rattle.mark_strong.specs.Weak.{weakCheck}
+use Rattle.mark_strong.proofs.Calling.{checked-linked, marks-stand}
+use Rattle.monitor_state.specs.declared.Monitor.{Monitor}
+use Rattle.monitor_state.specs.Monitor.{IsStray}
+use Rattle.monitor_judging.specs.declared.Judged.{Judged}
+use Rattle.monitor_judging.specs.declared.Judged.the-variants.{Accepted, NotAccepted, Refused}
+use Rattle.monitor_verdict.specs.Promise.{verdictChecks, VerdictPromise}
+use Rattle.monitor_judging.specs.Judges.{JudgedBy, Judges}
+use Rattle.monitor_verdict.specs.Judging.{valueChecks, BothElements}
+
+module _ (bytes : List ℕ) (f : Monitor) (entry : List ℕ) where
+  -- the rule is refused
+  pub rule-refused : {exit : List ℕ} {r : Refusal} {i place : ℕ} → CheckPromise 1 bytes entry exit (Checked-refused r i place) → VerdictPromise bytes f entry exit (Refused r i place)
+  rule-refused p = record { verdict = refused-before _ _ (refused-before _ _ (p .verdict)); answered = tt; scratch = p .scratch }
+
+  module _ {shape : Shape} {mid : List ℕ} (p : CheckPromise 1 bytes entry mid (Rule shape)) where
+    left : {exit : List ℕ} → exit ≡ replicate (length mid) 0 → exit ≡ afterCall entry
+    left {exit} z = zeros-left 1 bytes entry (p .verdict) mid exit (checked-length (p .scratch)) z
+
+    -- the rule passed: the values and the strength decide
+    after-rule : {v : Verdict} → FirstFailure (valueChecks (elementsOf bytes) f ++ weakCheck 1 bytes ∷ []) v → FirstFailure (verdictChecks bytes f entry) v
+    after-rule r = rw append-assoc (passed-before (checkedChecks 1 bytes entry) _ (p .verdict) r)
+
+    -- a value is refused
+    pub value-refused : {exit : List ℕ} {r : Refusal} {place : ℕ} → FirstFailure (valueChecks (shape .elements) f) (refused r 1 place) → exit ≡ replicate (length mid) 0
+        → VerdictPromise bytes f entry exit (Refused r 1 place)
+    value-refused {r = r} {place = place} g z = record {
+      verdict = after-rule (refused-before _ _ (subst (λ (n : ℕ). FirstFailure (valueChecks n f) (refused r 1 place)) (p .scratch .shape-is .elements) g));
+      answered = tt;
+      scratch = left z;
+    }
+
+    module _ (b : BothElements (shape .elements) f) where
+      none-stray : IsStray (elementsOf bytes) (f .before) ⊎ IsStray (elementsOf bytes) (f .since) → ⊥
+      none-stray =
+          ⊎-elim (λ s. omega (arith, s .no-element, b .before-inside, p .scratch .shape-is .elements))
+          (λ s. omega (arith, s .no-element, b .since-inside, p .scratch .shape-is .elements))
+
+      -- both values passed: the strength decides
+      after-values : {v : Verdict} → FirstFailure (weakCheck 1 bytes ∷ []) v → FirstFailure (verdictChecks bytes f entry) v
+      after-values w =
+          after-rule
+          (first-passes (record { nowhere = λ place t. none-stray (t .stray) })
+          (first-passes (record { nowhere = λ place t. ⊎-elim (b .before-some) (b .since-some) (t .none) }) w))
+
+      -- what the marks of the file say
+      file-says : {exit : List ℕ} {answer : Judged} → Judges (morphismAt bytes (shape .elements) (shape .letters)) (f .before) (f .since) mid exit answer
+          → JudgedBy (morphismOf bytes) (pairsOf bytes) (f .before) (f .since) answer
+      file-says {answer = answer} j =
+          subst (λ (m : Morphism). JudgedBy m (pairsOf bytes) (f .before) (f .since) answer) (shape-morphism (p .scratch .shape-is))
+          (j .says (pairsOf bytes) (checked-linked 1 bytes entry p) (marks-stand 1 bytes entry p))
+
+      says : {exit : List ℕ} (answer : Judged) → exit ≡ afterCall entry → JudgedBy (morphismOf bytes) (pairsOf bytes) (f .before) (f .since) answer
+          → VerdictPromise bytes f entry exit answer
+      says Accepted z k = record {
+        verdict = after-values (first-passes (record { nowhere = λ place t. t .weak (k .0) }) none-left);
+        answered = k .1;
+        scratch = z;
+      }
+      says NotAccepted z k = record {
+        verdict = after-values (first-passes (record { nowhere = λ place t. t .weak (k .0) }) none-left);
+        answered = k .1;
+        scratch = z;
+      }
+      says (Refused r i place) z k = record {
+        verdict =
+            after-values
+            (subst (FirstFailure (weakCheck 1 bytes ∷ [])) (sym (k .1)) (first-fails (weakCheck 1 bytes) (record { weak = k .0; is-place = refl })));
+        answered = tt;
+        scratch = z;
+      }
+
+      -- the values are judged
+      pub judged : {exit : List ℕ} {answer : Judged} → Judges (morphismAt bytes (shape .elements) (shape .letters)) (f .before) (f .since) mid exit answer
+          → VerdictPromise bytes f entry exit answer
+      judged {answer = answer} j = says answer (left (j .zeros)) (file-says j)

@@ -1,0 +1,27 @@
+-- The steps of the call for a monitor's verdict: its values are looked at, and then judged by the marks in scratch. Assumes nothing.
+use Prim.Native.Nat.{ℕ, _<_}
+use mathlib.Core.Path.{_≡_}
+use mathlib.Core.List.{List, [], _∷_}
+use Rattle.answer.specs.Checks.{Check, refused, FirstFailure}
+use Rattle.rule_marks.specs.declared.Fault.{Fault}
+use Rattle.rule_marks.specs.declared.Fault.the-variants.{Nothing, Refused as Fault-refused}
+use Rattle.monitor_state.specs.declared.Monitor.{Monitor}
+use Rattle.monitor_state.specs.Monitor.{noValue}
+use Rattle.monitor_state.specs.Ready.{strayCheck}
+use Rattle.monitor_verdict.specs.Promise.{noneCheck}
+
+-- 3 for the values of a monitor, then 11
+abbrev pub valueChecks : ℕ → Monitor → List Check
+valueChecks n f = strayCheck 1 n f ∷ noneCheck f ∷ []
+
+-- both values are elements, and neither is none
+pub record BothElements (n : ℕ) (f : Monitor) : Type 0 where
+  pub before-inside : f .before < n
+  pub since-inside : f .since < n
+  pub before-some : f .before ≡ noValue → ⊥
+  pub since-some : f .since ≡ noValue → ⊥
+
+-- both are elements, or the first of the two checks that fails
+abbrev pub ValuesAnswer : ℕ → Monitor → Fault → Type 0
+ValuesAnswer n f Nothing = BothElements n f
+ValuesAnswer n f (Fault-refused refusal place) = FirstFailure (valueChecks n f) (refused refusal 1 place)

@@ -1,0 +1,87 @@
+// The verdict of a monitor (document 01: follower's verdict): whether the rule accepts the lassos whose start has the value before
+// and whose cycle has the value since. It is for strong rules only, where those lassos are all accepted or all not.
+use answer::Refusal;
+use monitor_judging::Judged;
+use monitor_judging::judge;
+use monitor_state::Monitor;
+use rule_check::Checked;
+use rule_check::check;
+use rule_marks::Fault;
+use sections::zero;
+ghost use Prim.Native.Nat.{_<_};
+ghost use Rattle.monitor_verdict.specs.Judging.{ValuesAnswer};
+ghost use Rattle.monitor_verdict.specs.Promise.{VerdictPromise};
+
+// Whether both values of a monitor are elements. A number that is neither an element nor 64 comes before one that is 64.
+fn values_fault(n: usize, monitor: Monitor) -> Fault
+    ensures { λ r. ⌜ ValuesAnswer n monitor r ⌝ }
+{
+    let before = monitor.before;
+    let since = monitor.since;
+    if n <= before {
+        if before != 64 {
+            return Fault::Refused {
+                refusal: Refusal::EntryOutOfRange,
+                place: 0,
+            };
+        }
+    }
+    if n <= since {
+        if since != 64 {
+            return Fault::Refused {
+                refusal: Refusal::EntryOutOfRange,
+                place: 0,
+            };
+        }
+    }
+    if before == 64 {
+        return Fault::Refused {
+            refusal: Refusal::WordLength,
+            place: 0,
+        };
+    }
+    if since == 64 {
+        return Fault::Refused {
+            refusal: Refusal::WordLength,
+            place: 0,
+        };
+    }
+    Fault::Nothing
+}
+
+// Checks a rule and a monitor's values, and says whether the lassos with those values are accepted. Scratch ends as zeros, but
+// where it is too short.
+pub fn verdict(rule: &[u8], monitor: Monitor, scratch: &mut [u8]) -> Judged
+    ensures { λ r. ⌜ VerdictPromise (now (rule .entry)) monitor (now (scratch .entry)) (now (scratch .exit)) r ⌝ }
+{
+    let shape = match check(rule, 1, scratch) {
+        Checked::Rule(shape) => shape,
+        Checked::Refused {
+            refusal,
+            input,
+            place,
+        } => {
+            return Judged::Refused {
+                refusal,
+                input,
+                place,
+            };
+        }
+    };
+    let n = shape.elements;
+    let k = shape.letters;
+    match values_fault(n, monitor) {
+        Fault::Nothing => {}
+        Fault::Refused { refusal, place } => {
+            zero(scratch);
+            return Judged::Refused {
+                refusal,
+                input: 1,
+                place,
+            };
+        }
+    }
+    let before = monitor.before;
+    let since = monitor.since;
+    judge(rule, n, k, before, since, scratch)
+}

@@ -1,0 +1,147 @@
+-- The blocks that the rounds leave are numbered and written; where the second table of marks holds the closure of a strong
+-- rule's marks, what was written is the reduction of that rule, whole. Assumes nothing.
+use Prim.Native.Nat.{ℕ, _≤_, _<_}
+use mathlib.Core.Path.{_≡_, refl, sym, ap, _∙_}
+use mathlib.Core.List.{List}
+use native.Mathlib.Omega.{arith}
+use lib.Dec.{ltb}
+use Rattle.theory.specs.Rules.{Morphism, Lawful, Rule, AllReached, marked}
+use Rattle.theory.specs.Pairs.{LinkedOnly}
+use Rattle.theory.specs.Acceptance.{RuleStrong}
+use Rattle.theory.specs.Smallest.{Reduction}
+use Rattle.theory.proofs.Closure.{acceptance, closure-test, linked-test}
+use Rattle.minimality.proofs.Contexts.{Indistinct, around-inside}
+use Rattle.minimality.proofs.Quotient.{Numbering, quotient, quotient-acc, quotient-lawful, quotient-reached}
+use Rattle.minimality.proofs.Saturation.{saturated}
+use Rattle.minimality.proofs.Reductions.{RuleNumbering, reduced-rule, reduction-right, reduced-linked}
+use Rattle.reduce_first_round.specs.Map.{outcomeOf, outcomeAt}
+use Rattle.reduce_rounds.specs.Rounds.{RoundsSettled}
+use Rattle.reduce_first_round.proofs.Bytes.{kept-room}
+use Rattle.reduce_first_round.proofs.OutcomeBytes.{outcome-below, outcome-acceptance}
+use Rattle.reduce_first_round.proofs.Comparing.{same-outcomes-carry}
+use Rattle.mark_search.specs.Search.{Stands}
+use Rattle.reduce_numbering.specs.Steps.{leaderAt}
+use Rattle.rule_first_words.specs.FirstWords.{ByFirstWords}
+use Rattle.reduce_numbering.specs.Numbering.{NumberedAs, BlocksNumbered}
+use Rattle.rule_writer.specs.File.{FitsFormat}
+use Rattle.rule_writer.proofs.Agree.{Agree}
+use Rattle.rule_writer.proofs.Same.{SameMarks, file-same}
+use Rattle.rule_writer.proofs.ReadBack.{written-rule}
+use Rattle.rule_writer.specs.ReadBack.{WrittenRule}
+use Rattle.reduce_rule.specs.Written.{FileWritten}
+use Rattle.reduce_rule.specs.Steps.{QuotientPlace, QuotientWritten, ReducePlace, ReducedWritten}
+use Rattle.reduce_call.proofs.Order.{quotient-by-first-words}
+use Rattle.reduce_rule.proofs.Laid.{written-same}
+
+-- from the blocks of the last round to the file
+module _ {m : Morphism} {entry settled numbered out : List ℕ} {i c : ℕ} (small : m .size ≤ 64)
+    (p : ReducePlace m entry out) (r : RoundsSettled m entry settled i) (b : BlocksNumbered m c settled numbered) where
+  -- the numbering by the outcomes that the table of marks gave
+  numbering-of : NumberedAs m (outcomeOf m entry) c numbered
+  numbering-of = b .numbered (outcomeOf m entry) i (r .blocks) (r .stable)
+
+  leader-inside : (j : ℕ) → j < c → leaderAt numbered j < m .size
+  leader-inside j h = rw (← numbering-of .leaders j) (numbering-of .numbering .leader-below j h)
+
+  pub quotient-place : QuotientPlace (m .size) (m .letters) c numbered out
+  quotient-place = record {
+    some = b .some;
+    letters-some = p .letters-some;
+    blocks = record { small = omega (arith, b .few); leaders = leader-inside; room = kept-room (b .kept) (kept-room (r .kept) (p .room)) };
+    out-room = p .out-room;
+  }
+
+  outcomes-stand : (s z : ℕ) → s < m .size → z < m .size → outcomeAt numbered s z ≡ outcomeOf m entry s z
+  outcomes-stand s z hs hz = outcome-below s z (omega arith) (omega arith) (omega arith) (b .kept) ∙ r .outcomes s z hs hz
+
+  pub reduced-written : {exit after : List ℕ} {end : ℕ} → QuotientWritten m c numbered exit out after end → ReducedWritten m entry exit out after end
+  reduced-written w = record {
+    same-length = w .same-length ∙ b .kept .same-length ∙ r .kept .same-length;
+    count = c;
+    some = b .some;
+    few = b .few;
+    numbering = numbering-of .numbering;
+    in-order = quotient-by-first-words (p .lawful) numbering-of (b .in-order);
+    written = w .written (outcomeOf m entry) numbering-of outcomes-stand;
+  }
+
+-- outcomes that agree on elements have the same numberings
+module _ {m : Morphism} (law : Lawful m) {f g : ℕ → ℕ → ℕ} (agree : (s z : ℕ) → s < m .size → z < m .size → f s z ≡ g s z) where
+  pub indistinct-back : {s t : ℕ} → s < m .size → t < m .size → Indistinct m g s t → Indistinct m f s t
+  indistinct-back hs ht d = record {
+    in-context = λ x y hx hy. same-outcomes-carry agree _ _ (around-inside law hx hy hs) (around-inside law hx hy ht) .1 (d .in-context x y hx hy);
+  }
+
+  unfoldable pub numbering-carry : {c : ℕ} → Numbering m f c → Numbering m g c
+  numbering-carry b = record {
+    number = b .number;
+    leader = b .leader;
+    number-below = b .number-below;
+    leader-below = b .leader-below;
+    number-leader = b .number-leader;
+    congruent = b .congruent;
+    outcomes = λ s t hs ht e. same-outcomes-carry agree s t hs ht .0 (b .outcomes s t hs ht e);
+    apart = λ s t hs ht d. b .apart s t hs ht (indistinct-back hs ht d);
+  }
+
+  -- and the same rule of blocks
+  carried-agree : {c : ℕ} (b : Numbering m f c) → Agree (quotient (numbering-carry b)) (quotient b)
+  unfolding numbering-carry quotient
+  carried-agree b = record { same-size = refl; same-letters = refl; same-product = λ i j hi hj. refl; same-image = λ a h. refl }
+
+  carried-acc : {c : ℕ} (b : Numbering m f c) (i j : ℕ) → i < c → j < c → quotient-acc b i j ≡ quotient-acc (numbering-carry b) i j
+  unfolding numbering-carry quotient-acc
+  carried-acc b i j hi hj = agree _ _ (b .leader-below i hi) (b .leader-below j hj)
+
+  carried-marks : {c : ℕ} (b : Numbering m f c)
+      → SameMarks c (saturated (quotient (numbering-carry b)) (quotient-acc (numbering-carry b))) (saturated (quotient b) (quotient-acc b))
+  unfolding numbering-carry saturated linked-test quotient
+  carried-marks b = record { same = λ i j hi hj. ap (λ (x : ℕ). ltb 0 (saturated (quotient b) (λ (u v : ℕ). x) i j)) (carried-acc b i j hi hj) }
+
+  pub carried-written : {c : ℕ} (b : Numbering m f c) {before after : List ℕ} {end : ℕ}
+      → FileWritten (quotient b) (saturated (quotient b) (quotient-acc b)) before after end
+      → FileWritten (quotient (numbering-carry b)) (saturated (quotient (numbering-carry b)) (quotient-acc (numbering-carry b))) before after end
+  unfolding numbering-carry quotient
+  carried-written b w = written-same (file-same (carried-agree b) (carried-marks b)) w
+
+  -- so the first words are the same
+  pub carried-order : {c : ℕ} (b : Numbering m f c) → ByFirstWords (quotient b) → ByFirstWords (quotient (numbering-carry b))
+  unfolding numbering-carry quotient
+  carried-order b o = o
+
+-- the reduction of a rule was written, whole
+pub record Reduces (r : Rule) (before after : List ℕ) (end : ℕ) : Type 0 where
+  pub reduced : Rule
+  pub reduction : Reduction r reduced
+  pub numbered : ByFirstWords (reduced .morphism)
+  pub written : WrittenRule (reduced .morphism) (reduced .marks) before after end
+
+-- a strong rule whose closure stands in the second table of marks
+module _ (r : Rule) (small : r .morphism .size ≤ 64) (letters-some : 1 ≤ r .morphism .letters) (letters-small : r .morphism .letters ≤ 16)
+    (reached : AllReached (r .morphism)) (linked : LinkedOnly (r .morphism) (marked (r .marks))) (strong : RuleStrong r)
+    {entry exit before after : List ℕ} {end : ℕ} (stands : Stands (r .morphism .size) (closure-test (r .morphism) (marked (r .marks))) entry 4096)
+    (w : ReducedWritten (r .morphism) entry exit before after end) where
+  outcomes-agree : (s z : ℕ) → s < r .morphism .size → z < r .morphism .size
+      → outcomeOf (r .morphism) entry s z ≡ acceptance (r .morphism) (marked (r .marks)) s z
+  outcomes-agree = outcome-acceptance (r .lawful) small (marked (r .marks)) entry (λ s e hs he. sym (stands .same s e hs he))
+
+  -- the blocks numbered, with acceptance for the outcome
+  abbrev by-acceptance : RuleNumbering r (w .count)
+  by-acceptance = numbering-carry (r .lawful) outcomes-agree (w .numbering)
+
+  fits : FitsFormat (quotient by-acceptance)
+  unfolding quotient
+  fits = record { some = w .some; small = omega (arith, w .few); letters-some = letters-some; letters-small = letters-small }
+
+  -- what was written is its file
+  pub reduces : Reduces r before after end
+  unfolding reduced-rule
+  reduces = record {
+    reduced = reduced-rule r by-acceptance;
+    reduction = reduction-right r reached linked strong by-acceptance;
+    numbered = carried-order (r .lawful) outcomes-agree (w .numbering) (w .in-order);
+    written =
+        let f = carried-written (r .lawful) outcomes-agree (w .numbering) (w .written) in
+        written-rule (quotient by-acceptance) _ fits (quotient-lawful (r .lawful) by-acceptance)
+        (reduced-linked r reached linked strong by-acceptance) (quotient-reached (r .lawful) by-acceptance reached) (f .ends) (f .holds);
+  }

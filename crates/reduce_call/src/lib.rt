@@ -1,0 +1,77 @@
+// Reduction of a strong rule: the elements that no context tells apart are put into one block, the blocks are numbered in the
+// order of their first words, and the rule whose elements are the blocks is written, with every linked pair marked whose lassos
+// are accepted. All stands in one lent slice, as reduce_table/specs/Layout
+// says.
+use answer::Refusal;
+use mark_strong::decide;
+use reduce_numbering::number_blocks;
+use reduce_rounds::settle;
+use reduce_rule::write_quotient;
+use rule_check::Checked;
+use rule_check::check;
+use sections::zero;
+ghost use Prim.Native.Nat.{_<_};
+ghost use lib.ListN.{length};
+ghost use Rattle.rule_table.specs.Table.{Table, morphismAt};
+ghost use Rattle.reduce_rule.specs.Steps.{ReducePlace, ReducedWritten};
+ghost use Rattle.reduce_call.specs.Promise.{ReducePromise};
+
+// Writes the reduction of a strong rule, from the closure of its marks in scratch.
+fn write_reduced(rule: &[u8], n: usize, k: usize, scratch: &mut [u8], out: &mut [u8]) -> usize
+    requires { ⌜ Table (now rule) n k ⌝ }
+    requires { ⌜ ReducePlace (morphismAt (now rule) n k) (now scratch) (now out) ⌝ }
+    ensures { λ r. ⌜ ReducedWritten (morphismAt (now (rule .entry)) n k) (now (scratch .entry)) (now (scratch .exit)) (now (out .entry)) (now (out .exit)) r ⌝ }
+{
+    settle(rule, n, k, scratch);
+    let c = number_blocks(rule, n, k, scratch);
+    write_quotient(rule, n, k, c, scratch, out)
+}
+
+// A reduced rule's length, or a refusal.
+pub enum Reduced {
+    Rule(usize),
+    Refused {
+        refusal: Refusal,
+        input: usize,
+        place: usize,
+    },
+}
+
+// Checks a rule and writes its reduction, or refuses it. Scratch ends as zeros, but where a buffer is too short.
+pub fn reduce(rule: &[u8], out: &mut [u8], scratch: &mut [u8]) -> Reduced
+    ensures { λ r. ⌜ ReducePromise (now (rule .entry)) (now (out .entry)) (now (out .exit)) (now (scratch .entry)) (now (scratch .exit)) r ⌝ }
+{
+    if out.len() < 12308 {
+        return Reduced::Refused {
+            refusal: Refusal::BufferTooShort,
+            input: 1,
+            place: 0,
+        };
+    }
+    let shape = match check(rule, 1, scratch) {
+        Checked::Rule(shape) => shape,
+        Checked::Refused {
+            refusal,
+            input,
+            place,
+        } => {
+            return Reduced::Refused {
+                refusal,
+                input,
+                place,
+            };
+        }
+    };
+    let strong = decide(rule, shape.elements, shape.letters, scratch);
+    if !strong {
+        zero(scratch);
+        return Reduced::Refused {
+            refusal: Refusal::NotStrong,
+            input: 1,
+            place: 0,
+        };
+    }
+    let length = write_reduced(rule, shape.elements, shape.letters, scratch, out);
+    zero(scratch);
+    Reduced::Rule(length)
+}

@@ -1,0 +1,92 @@
+-- The test of a further round: two elements compared by their blocks, and by those of their products with every letter.
+-- Assumes nothing.
+use Prim.Native.Nat.{ℕ, _+_, _≤_, _<_}
+use mathlib.Core.Path.{_≡_, refl}
+use mathlib.Core.Bool.{Bool, true, false}
+use mathlib.Core.Logic.{_≢_}
+use mathlib.Core.List.{List}
+use native.Mathlib.Omega.{arith}
+use native.Mathlib.Decide.{ℕ-discrete}
+use lib.ListN.{getD}
+use Rattle.theory.specs.Rules.{Morphism}
+use Rattle.rule_table.specs.Table.{Table, productAt, imageAt}
+use Rattle.rule_table.proofs.Facts.{product-below}
+use Rattle.minimality.specs.Rounds.{StillTogether}
+use Rattle.reduce_first_round.specs.Map.{InOneBlock}
+use Rattle.reduce_first_round.specs.Steps.{Tells, ProductsTogether}
+use Rattle.reduce_first_round.proofs.Comparing.{told-yes, told-no}
+
+-- the element of a letter
+pub letter-below : {bytes : List ℕ} {n k a h : ℕ} → Table bytes n k → a < k → h ≡ imageAt bytes n a → h < n
+letter-below {a = a} table letter e = rw e (table .images a letter)
+
+-- products with one letter, by the numbers that the code has
+module _ (scratch : List ℕ) {m : Morphism} {s t a h p q : ℕ} (eh : h ≡ m .image a) where
+  -- the products on the right are in different blocks
+  pub right-apart : p ≡ m .product s h → q ≡ m .product t h → (getD scratch (12288 + p) 0 ≡ getD scratch (12288 + q) 0 → ⊥)
+      → Tells (ProductsTogether m (InOneBlock scratch) s t a) false
+  unfolding InOneBlock
+  right-apart ep eq g = told-no (λ o. g (rw (ep, eq, eh) (o .on-right)))
+
+  -- the products on the left are
+  pub left-apart : p ≡ m .product h s → q ≡ m .product h t → (getD scratch (12288 + p) 0 ≡ getD scratch (12288 + q) 0 → ⊥)
+      → Tells (ProductsTogether m (InOneBlock scratch) s t a) false
+  unfolding InOneBlock
+  left-apart ep eq g = told-no (λ o. g (rw (ep, eq, eh) (o .on-left)))
+
+  -- neither are
+  pub both-together : {u v : ℕ} → p ≡ m .product s h → q ≡ m .product t h → u ≡ m .product h s → v ≡ m .product h t
+      → getD scratch (12288 + p) 0 ≡ getD scratch (12288 + q) 0 → getD scratch (12288 + u) 0 ≡ getD scratch (12288 + v) 0
+      → Tells (ProductsTogether m (InOneBlock scratch) s t a) true
+  unfolding InOneBlock
+  both-together ep eq eu ev r l = told-yes (record { on-right = rw (← eh, ← ep, ← eq) r; on-left = rw (← eh, ← eu, ← ev) l })
+
+-- s and t are related, and so are their products with the letters below a number
+pub record TogetherBelow (m : Morphism) (R : ℕ → ℕ → Type 0) (s t a : ℕ) : Type 0 where
+  pub before : R s t
+  pub products : (b : ℕ) → b < a → ProductsTogether m R s t b
+
+module _ {m : Morphism} {R : ℕ → ℕ → Type 0} {s t : ℕ} where
+  -- s and t are not related
+  pub still-not : (R s t → ⊥) → Tells (StillTogether m R s t) false
+  still-not g = told-no (λ r. g (r .before))
+
+  pub still-start : R s t → TogetherBelow m R s t 0
+  still-start r = record { before = r; products = λ b h. absurd (omega arith) }
+
+  -- one letter more
+  pub still-next : {a : ℕ} {answer : Bool} → TogetherBelow m R s t a → Tells (ProductsTogether m R s t a) answer → answer ≡ true
+      → TogetherBelow m R s t (a + 1)
+  still-next {a} w p e = record { before = w .before; products = λ b h. at b h (ℕ-discrete b a) }
+    where
+      at : (b : ℕ) → b < a + 1 → Dec (b ≡ a) → ProductsTogether m R s t b
+      at b h (yes q) = rw q (p .holds e)
+      at b h (no g) = let d : b ≢ a = g in w .products b (omega arith)
+
+  -- a letter parts them
+  pub still-parted : {a : ℕ} {answer : Bool} → a < m .letters → Tells (ProductsTogether m R s t a) answer → answer ≡ false
+      → Tells (StillTogether m R s t) false
+  still-parted {a} h p e = told-no (λ r. p .fails e (record { on-right = r .on-right a h; on-left = r .on-left a h }))
+
+  -- no letter does
+  pub still-all : {a : ℕ} → TogetherBelow m R s t a → m .letters ≤ a → Tells (StillTogether m R s t) true
+  still-all w h = told-yes (record {
+    before = w .before;
+    on-right = λ b l. w .products b (omega arith) .on-right;
+    on-left = λ b l. w .products b (omega arith) .on-left;
+  })
+
+-- relations of which one implies the other on elements
+pub still-carry : {m : Morphism} {R S : ℕ → ℕ → Type 0} → ((a b : ℕ) → a < m .size → b < m .size → m .product a b < m .size)
+    → ((a : ℕ) → a < m .letters → m .image a < m .size) → ((s t : ℕ) → s < m .size → t < m .size → R s t → S s t)
+    → (s t : ℕ) → s < m .size → t < m .size → StillTogether m R s t → StillTogether m S s t
+still-carry closed images f s t hs ht r = record {
+  before = f s t hs ht (r .before);
+  on-right = λ a h. f _ _ (closed s _ hs (images a h)) (closed t _ ht (images a h)) (r .on-right a h);
+  on-left = λ a h. f _ _ (closed _ s (images a h) hs) (closed _ t (images a h) ht) (r .on-left a h);
+}
+
+-- every element is kept together with itself
+pub still-refl : (m : Morphism) (scratch : List ℕ) (s : ℕ) → StillTogether m (InOneBlock scratch) s s
+unfolding InOneBlock
+still-refl m scratch s = record { before = refl; on-right = λ a h. refl; on-left = λ a h. refl }

@@ -1,0 +1,82 @@
+-- `reduce_first_round::outcome_column` meets its contract: the outcomes of the elements that were passed are written. Assumes nothing.
+use Prim.Native.Nat.{_-_}
+use native.Mathlib.Omega.{arith}
+use Rattle.rule_table.specs.Table.{morphismAt}
+use Rattle.reduce_first_round.specs.Steps.{ColumnWritten}
+use Rattle.reduce_first_round.proofs.Bytes.{kept-room}
+use Rattle.reduce_first_round.proofs.OutcomeBytes.{settled-below, column-none, column-more, column-all}
+use Rattle.reduce_first_round.proofs.outcome_column.Statement.{statement}
+use Rattle.reduce_first_round.proofs.outcome_column.Tie as tie
+
+abbrev Inv-loop : tie.InvT-loop
+Inv-loop rule n k scratch₀ z f s₀ scratch s = ColumnWritten (morphismAt rule n k) z s scratch₀ scratch
+
+abbrev μ-loop : tie.MeasureT-loop
+μ-loop rule n k scratch₀ z f s₀ scratch s = n - s
+
+settled-requires : tie.Need-settled-requires Inv-loop μ-loop
+settled-requires c κs = (c .before .before .pre .0, (c .before .before .pre .1 .0, c .before .before .pre .1 .1 .0))
+
+loop-holds : tie.Need-loop-holds Inv-loop μ-loop
+loop-holds c =
+    let b = c .before .before .before in
+    column-none (b .pre .1 .0) (b .pre .0 .small) _ _
+
+outcome-requires : tie.Need-outcome-requires Inv-loop μ-loop
+outcome-requires c κs =
+    let b = c .before .before .before .before .before .before in
+    let h = settled-below (b .pre .1 .0) (b .pre .1 .1 .0) (c .before .before .before .settled .ensures) in
+    (b .pre .0, ((c .before .loop-test .taken, h), kept-room (c .before .before .loop .inv .kept) (b .pre .1 .1 .1)))
+
+mul-scratch : tie.Need-mul-scratch Inv-loop μ-loop
+mul-scratch c = omega (arith, c .before .before .before .before .before .before .before .pre .0 .small)
+
+add-scratch : tie.Need-add-scratch Inv-loop μ-loop
+add-scratch c = omega (arith, c .before .before .before .before .before .before .before .pre .0 .small)
+
+add-scratch-2 : tie.Need-add-scratch-2 Inv-loop μ-loop
+add-scratch-2 c = omega (arith, c .before .before .before .before .before .before .before .pre .0 .small)
+
+slice-write-scratch : tie.Need-slice-write-scratch Inv-loop μ-loop
+slice-write-scratch c =
+    let b = c .before .before .before .before .before .before .before in
+    omega (arith, b .pre .0 .small, kept-room (c .before .before .before .loop .inv .kept) (b .pre .1 .1 .1))
+
+add-s : tie.Need-add-s Inv-loop μ-loop
+add-s c = omega arith
+
+loop-less : tie.Need-loop-less Inv-loop μ-loop
+loop-less c = omega arith
+
+loop-again : tie.Need-loop-again Inv-loop μ-loop
+loop-again c =
+    let b = c .before .before .before .before .before .before .before in
+    column-more (b .pre .1 .0) (b .pre .0 .small) (b .pre .1 .1 .0) (c .before .before .loop-test .taken) (b .pre .1 .1 .1)
+    (c .before .before .before .before .settled .ensures) (c .outcome .ensures) (c .before .before .before .loop .inv)
+
+same-length : tie.Need-same-length Inv-loop μ-loop
+same-length c = c .before .loop .inv .kept .same-length
+
+returns : tie.Need-returns Inv-loop μ-loop
+returns c =
+    let b = c .before .before .before .before .before in
+    column-all (b .pre .1 .0) (b .pre .0 .small) (c .loop-test .left) (c .before .loop .inv)
+
+pub outcome-column-spec : {M : Type 1} → statement M
+outcome-column-spec =
+    tie.close
+    (tie.spec
+    Inv-loop
+    μ-loop
+    settled-requires
+    loop-holds
+    outcome-requires
+    mul-scratch
+    add-scratch
+    add-scratch-2
+    slice-write-scratch
+    add-s
+    loop-less
+    loop-again
+    same-length
+    returns)

@@ -1,0 +1,65 @@
+-- `reduce_marks::block_outcome` meets its contract: the leaders are elements. Assumes nothing.
+use Prim.Native.Nat.{_+_}
+use mathlib.Core.Path.{refl}
+use native.Mathlib.Omega.{arith}
+use borrow.Author.Needs.{needs}
+use Rattle.reduce_first_round.specs.Map.{outcomeAt}
+use Rattle.reduce_table.specs.Layout.{blockOutcome}
+use Rattle.reduce_marks.proofs.block_outcome.Statement.{statement}
+use Rattle.reduce_marks.proofs.block_outcome.Tie as tie
+
+add-a : tie.Need-add-a
+add-a c = search needs
+
+shared-slice-read-a : tie.Need-shared-slice-read-a
+shared-slice-read-a c = search needs
+
+cast-a : tie.Need-cast-a
+cast-a c = omega (arith, c .shared-slice-known .given (12480 + c .before .args .i))
+
+add-b : tie.Need-add-b
+add-b c = search needs
+
+shared-slice-read-b : tie.Need-shared-slice-read-b
+shared-slice-read-b c = search needs
+
+cast-b : tie.Need-cast-b
+cast-b c = omega (arith, c .shared-slice-known2 .given (12480 + c .before .before .args .j))
+
+mul-result : tie.Need-mul-result
+mul-result c = omega (arith, c .before .before .pre .0 .leaders _ (c .before .before .pre .1 .0))
+
+add-result : tie.Need-add-result
+add-result c =
+    let start = c .before .before in
+    omega (arith, start .pre .0 .leaders _ (start .pre .1 .0), start .pre .0 .leaders _ (start .pre .1 .1))
+
+add-result-2 : tie.Need-add-result-2
+add-result-2 c =
+    let start = c .before .before in
+    omega (arith, start .pre .0 .leaders _ (start .pre .1 .0), start .pre .0 .leaders _ (start .pre .1 .1))
+
+shared-slice-read-result : tie.Need-shared-slice-read-result
+shared-slice-read-result c =
+    let start = c .before .before .before in
+    omega (arith, start .pre .0 .leaders _ (start .pre .1 .0), start .pre .0 .leaders _ (start .pre .1 .1), start .pre .0 .room)
+
+returns : tie.Need-returns
+unfolding blockOutcome outcomeAt
+returns c = refl
+
+pub block-outcome-spec : {M : Type 1} → statement M
+block-outcome-spec =
+    tie.close
+    (tie.spec
+    add-a
+    shared-slice-read-a
+    cast-a
+    add-b
+    shared-slice-read-b
+    cast-b
+    mul-result
+    add-result
+    add-result-2
+    shared-slice-read-result
+    returns)

@@ -1,0 +1,71 @@
+-- `reduce_rounds::next_blocks` meets its contract: the elements that were passed have their new blocks. Assumes nothing.
+use Prim.Native.Nat.{_-_}
+use native.Mathlib.Omega.{arith}
+use Rattle.rule_table.specs.Table.{morphismAt}
+use Rattle.minimality.specs.Rounds.{StillTogether}
+use Rattle.reduce_first_round.specs.Map.{InOneBlock}
+use Rattle.reduce_first_round.specs.Steps.{BlocksWritten}
+use Rattle.reduce_first_round.proofs.Bytes.{kept-room}
+use Rattle.reduce_first_round.proofs.BlockBytes.{written-none, written-all}
+use Rattle.reduce_first_round.proofs.Writing.{next-more}
+use Rattle.reduce_rounds.proofs.next_blocks.Statement.{statement}
+use Rattle.reduce_rounds.proofs.next_blocks.Tie as tie
+
+abbrev Inv-loop : tie.InvT-loop
+Inv-loop rule n k scratch₀ s₀ scratch s = BlocksWritten s (StillTogether (morphismAt rule n k) (InOneBlock scratch₀)) 12352 scratch₀ scratch
+
+abbrev μ-loop : tie.MeasureT-loop
+μ-loop rule n k scratch₀ s₀ scratch s = n - s
+
+loop-holds : tie.Need-loop-holds Inv-loop μ-loop
+loop-holds c = written-none 12352 _
+
+first-kept-requires : tie.Need-first-kept-requires Inv-loop μ-loop
+first-kept-requires c κs =
+    let b = c .before .before .before .before .before in
+    (b .pre .0, (c .before .loop-test .taken, kept-room (c .before .before .loop .inv .kept) (b .pre .1)))
+
+cast-scratch : tie.Need-cast-scratch Inv-loop μ-loop
+cast-scratch c = omega (arith, c .first-kept .ensures .at-most, c .before .before .before .before .before .before .pre .0 .small)
+
+add-scratch : tie.Need-add-scratch Inv-loop μ-loop
+add-scratch c = omega (arith, c .before .before .before .before .before .before .pre .0 .small)
+
+slice-write-scratch : tie.Need-slice-write-scratch Inv-loop μ-loop
+slice-write-scratch c =
+    let b = c .before .before .before .before .before .before in
+    omega (arith, kept-room (c .before .before .before .loop .inv .kept) (b .pre .1), b .pre .0 .small)
+
+add-s : tie.Need-add-s Inv-loop μ-loop
+add-s c = omega arith
+
+loop-less : tie.Need-loop-less Inv-loop μ-loop
+loop-less c = omega arith
+
+loop-again : tie.Need-loop-again Inv-loop μ-loop
+loop-again c =
+    let b = c .before .before .before .before .before .before in
+    next-more (b .pre .0 .small) (b .pre .1) (c .before .before .loop-test .taken) (b .pre .0 .products) (b .pre .0 .images) (c .before .before .before .loop .inv) (c .first-kept .ensures)
+
+same-length : tie.Need-same-length Inv-loop μ-loop
+same-length c = c .before .loop .inv .kept .same-length
+
+returns : tie.Need-returns Inv-loop μ-loop
+returns c = written-all (c .loop-test .left) (c .before .loop .inv)
+
+pub next-blocks-spec : {M : Type 1} → statement M
+next-blocks-spec =
+    tie.close
+    (tie.spec
+    Inv-loop
+    μ-loop
+    loop-holds
+    first-kept-requires
+    cast-scratch
+    add-scratch
+    slice-write-scratch
+    add-s
+    loop-less
+    loop-again
+    same-length
+    returns)

@@ -1,0 +1,42 @@
+// The rule of the blocks laid out in scratch and written, as reduce_table/specs/Layout says.
+use reduce_marks::lay_marks;
+use reduce_table::lay_images;
+use reduce_table::lay_table;
+use rule_writer::write_rule;
+ghost use lib.ListN.{length};
+ghost use Rattle.rule_table.specs.Table.{Table, morphismAt};
+ghost use Rattle.reduce_rule.specs.Steps.{LaidPlace, LaidWritten, QuotientPlace, QuotientWritten};
+
+// Writes the rule whose tables stand in scratch.
+pub fn write_laid(scratch: &[u8], c: usize, k: usize, out: &mut [u8]) -> usize
+    requires { ⌜ LaidPlace c k (now scratch) (now out) ⌝ }
+    ensures { λ r. ⌜ LaidWritten c k (now (scratch .entry)) (now (out .entry)) (now (out .exit)) r ⌝ }
+{
+    write_rule(
+        &scratch[16384..],
+        &scratch[20480..],
+        &scratch[24576..],
+        c,
+        k,
+        out,
+    )
+}
+
+// Writes the rule whose elements are the c blocks, and answers its length.
+pub fn write_quotient(
+    rule: &[u8],
+    n: usize,
+    k: usize,
+    c: usize,
+    scratch: &mut [u8],
+    out: &mut [u8],
+) -> usize
+    requires { ⌜ Table (now rule) n k ⌝ }
+    requires { ⌜ QuotientPlace n k c (now scratch) (now out) ⌝ }
+    ensures { λ r. ⌜ QuotientWritten (morphismAt (now (rule .entry)) n k) c (now (scratch .entry)) (now (scratch .exit)) (now (out .entry)) (now (out .exit)) r ⌝ }
+{
+    lay_table(rule, n, k, c, scratch);
+    lay_images(rule, n, k, scratch);
+    lay_marks(c, scratch);
+    write_laid(scratch, c, k, out)
+}

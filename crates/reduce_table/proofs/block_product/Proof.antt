@@ -1,0 +1,63 @@
+-- `reduce_table::block_product` meets its contract: the leaders are elements, and so is their product. Assumes nothing.
+use Prim.Native.Nat.{_+_}
+use mathlib.Core.Path.{ap}
+use native.Mathlib.Omega.{arith}
+use borrow.Author.Needs.{needs}
+use Rattle.rule_table.proofs.Facts.{table-place}
+use Rattle.reduce_numbering.specs.Steps.{numberAt}
+use Rattle.reduce_table.specs.Layout.{blockProduct}
+use Rattle.reduce_table.proofs.Blocks.{product-small}
+use Rattle.reduce_table.proofs.block_product.Statement.{statement}
+use Rattle.reduce_table.proofs.block_product.Tie as tie
+
+add-a : tie.Need-add-a
+add-a c = search needs
+
+shared-slice-read-a : tie.Need-shared-slice-read-a
+shared-slice-read-a c = search needs
+
+cast-a : tie.Need-cast-a
+cast-a c = omega (arith, c .shared-slice-known3 .given (12480 + c .before .before .before .args .i))
+
+add-b : tie.Need-add-b
+add-b c = search needs
+
+shared-slice-read-b : tie.Need-shared-slice-read-b
+shared-slice-read-b c = search needs
+
+cast-b : tie.Need-cast-b
+cast-b c = omega (arith, c .shared-slice-known4 .given (12480 + c .before .before .before .before .args .j))
+
+product-requires : tie.Need-product-requires
+product-requires c κs =
+    let start = c .before .before .before .before in
+    table-place (start .pre .0) (start .pre .1 .0 .leaders _ (start .pre .1 .1 .0)) (start .pre .1 .0 .leaders _ (start .pre .1 .1 .1))
+
+add-result : tie.Need-add-result
+add-result c =
+    let start = c .before .before .before .before .before in
+    omega (arith, c .product .ensures, product-small (start .pre .0) (start .pre .1 .0) _ _ (start .pre .1 .1 .0) (start .pre .1 .1 .1))
+
+shared-slice-read-result : tie.Need-shared-slice-read-result
+shared-slice-read-result c =
+    let start = c .before .before .before .before .before .before in
+    omega (arith, c .before .product .ensures, product-small (start .pre .0) (start .pre .1 .0) _ _ (start .pre .1 .1 .0) (start .pre .1 .1 .1), start .pre .1 .0 .room)
+
+returns : tie.Need-returns
+unfolding blockProduct
+returns c = ap (numberAt (c .before .before .before .before .before .before .args .scratch .now)) (c .before .product .ensures)
+
+pub block-product-spec : {M : Type 1} → statement M
+block-product-spec =
+    tie.close
+    (tie.spec
+    add-a
+    shared-slice-read-a
+    cast-a
+    add-b
+    shared-slice-read-b
+    cast-b
+    product-requires
+    add-result
+    shared-slice-read-result
+    returns)

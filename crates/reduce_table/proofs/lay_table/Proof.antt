@@ -1,0 +1,62 @@
+-- `reduce_table::lay_table` meets its contract: the rows that were passed are laid out. Assumes nothing.
+use Prim.Native.Nat.{_-_, _≤_}
+use native.Mathlib.Omega.{arith}
+use native.Mathlib.Nat.{le-refl}
+use Rattle.reduce_table.specs.Layout.{blockProduct, Grid}
+use Rattle.reduce_table.proofs.Cells.{grid-none, grid-more, grid-all}
+use Rattle.reduce_table.proofs.Blocks.{blocks-kept, product-kept}
+use Rattle.reduce_table.proofs.lay_table.Statement.{statement}
+use Rattle.reduce_table.proofs.lay_table.Tie as tie
+
+abbrev Inv-loop : tie.InvT-loop
+Inv-loop rule n k c scratch₀ i₀ scratch i = Grid (blockProduct rule n scratch₀) 16384 c c i scratch₀ scratch × (i ≤ c)
+
+abbrev μ-loop : tie.MeasureT-loop
+μ-loop rule n k c scratch₀ i₀ scratch i = c - i
+
+loop-holds : tie.Need-loop-holds Inv-loop μ-loop
+loop-holds c = (grid-none 16384 _ _ _, omega arith)
+
+table-row-requires : tie.Need-table-row-requires Inv-loop μ-loop
+table-row-requires c κs =
+    let at-loop = c .before .before in
+    let start = at-loop .before .before .before in
+    (start .pre .0, (blocks-kept (at-loop .loop .inv .0 .kept) (omega arith) (start .pre .1), c .before .loop-test .taken))
+
+add-i : tie.Need-add-i Inv-loop μ-loop
+add-i c = omega arith
+
+loop-less : tie.Need-loop-less Inv-loop μ-loop
+loop-less c = omega arith
+
+loop-again : tie.Need-loop-again Inv-loop μ-loop
+loop-again c =
+    let at-table-row = c .before .before in
+    let at-test = at-table-row .before .before in
+    let at-loop = at-test .before in
+    let start = at-loop .before .before .before in (
+      grid-more (le-refl _)
+          (λ j h. product-kept (at-loop .loop .inv .0 .kept) (omega arith) (start .pre .0) (start .pre .1) _ j (at-test .loop-test .taken) h)
+          (at-loop .loop .inv .0) (at-table-row .table-row .ensures),
+      omega arith,
+    )
+
+same-length : tie.Need-same-length Inv-loop μ-loop
+same-length c = c .before .loop .inv .0 .kept .same-length
+
+returns : tie.Need-returns Inv-loop μ-loop
+returns c = grid-all (c .before .loop .inv .1) (c .loop-test .left) (c .before .loop .inv .0)
+
+pub lay-table-spec : {M : Type 1} → statement M
+lay-table-spec =
+    tie.close
+    (tie.spec
+    Inv-loop
+    μ-loop
+    loop-holds
+    table-row-requires
+    add-i
+    loop-less
+    loop-again
+    same-length
+    returns)

@@ -1,0 +1,56 @@
+-- The rule of the blocks as it is laid out in scratch before it is written. Assumes nothing.
+--
+--    8192  the outcomes of the rule's elements, as the rounds leave them; read only here
+--   12416  the number of each element's block, and from 12480 the leader of each block; read only here
+--   16384  the products of the c blocks, a byte for each pair (i, j), at i·c + j
+--   20480  the block of each letter
+--   24576  the marks, a byte for each pair (i, j), at i·64 + j; they end at 28672
+use Prim.Native.Nat.{ℕ, _+_, _*_, _≤_, _<_}
+use mathlib.Core.Path.{_≡_}
+use mathlib.Core.Bool.{_&&_}
+use mathlib.Core.List.{List}
+use lib.ListN.{length, getD}
+use lib.Dec.{eqb, ltb}
+use Rattle.finite.proofs.Search.{bit}
+use Rattle.rule_table.specs.Table.{productAt, imageAt}
+use Rattle.reduce_first_round.specs.Map.{outcomeAt, KeptOutside}
+use Rattle.reduce_numbering.specs.Steps.{numberAt, leaderAt}
+
+-- scratch has its size, and the leaders of c blocks are elements
+pub record BlocksPlace (n c : ℕ) (scratch : List ℕ) : Type 0 where
+  pub small : c ≤ 64
+  pub leaders : (j : ℕ) → j < c → leaderAt scratch j < n
+  pub room : 65536 ≤ length scratch
+
+-- the product of two blocks is the block of their leaders' product
+unfoldable pub blockProduct : List ℕ → ℕ → List ℕ → ℕ → ℕ → ℕ
+blockProduct bytes n scratch i j = numberAt scratch (productAt bytes n (leaderAt scratch i) (leaderAt scratch j))
+
+-- the block of a letter's element
+unfoldable pub blockImage : List ℕ → ℕ → List ℕ → ℕ → ℕ
+blockImage bytes n scratch a = numberAt scratch (imageAt bytes n a)
+
+-- the product of two blocks as it is laid out
+unfoldable pub laidProduct : ℕ → List ℕ → ℕ → ℕ → ℕ
+laidProduct c scratch i j = getD scratch (16384 + (i * c + j)) 0
+
+-- the outcome of two blocks is that of their leaders
+unfoldable pub blockOutcome : List ℕ → ℕ → ℕ → ℕ
+blockOutcome scratch i j = outcomeAt scratch (leaderAt scratch i) (leaderAt scratch j)
+
+-- 1 where the pair of blocks is linked and its outcome is not 0, else 0
+unfoldable pub blockMark : ℕ → List ℕ → ℕ → ℕ → ℕ
+blockMark c scratch i j =
+    let stays = eqb (laidProduct c scratch i j) i in
+    let accepted = ltb 0 (blockOutcome scratch i j) in
+    bit (eqb (laidProduct c scratch j j) j && (stays && accepted))
+
+-- the bytes from a base on are the values of f, and every other byte is as it was
+pub record Filled (f : ℕ → ℕ) (base count : ℕ) (entry exit : List ℕ) : Type 0 where
+  pub cells : (j : ℕ) → j < count → getD exit (base + j) 0 ≡ f j
+  pub kept : KeptOutside base (base + count) entry exit
+
+-- rows of values of f, each as many bytes after the one before it as the stride says, and every byte outside them is as it was
+pub record Grid (f : ℕ → ℕ → ℕ) (base stride width rows : ℕ) (entry exit : List ℕ) : Type 0 where
+  pub cells : (i j : ℕ) → i < rows → j < width → getD exit (base + (i * stride + j)) 0 ≡ f i j
+  pub kept : KeptOutside base (base + rows * stride) entry exit

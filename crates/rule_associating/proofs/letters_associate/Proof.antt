@@ -1,0 +1,102 @@
+-- The loops hold the answers of the letters in front that were passed, and of the letters behind the one that is tried. The measures are
+-- the numbers of letters left. Assumes nothing.
+use Prim.Native.Nat.{_<_, _-_}
+use mathlib.Core.Path.{_≡_, refl}
+use lib.ListN.{getD}
+use native.Mathlib.Omega.{arith}
+use mir.Facts.{fits-8-64}
+use Rattle.rule_associating.specs.Tests.{LettersBetween}
+use Rattle.rule_associating.proofs.Passed.{RowBetween, row-start, row-next, letters-start, letters-next, letters-all}
+use Rattle.rule_associating.proofs.letters_associate.Statement.{statement}
+use Rattle.rule_associating.proofs.letters_associate.Tie as tie
+
+abbrev Inv-loop2 : tie.InvT-loop2
+Inv-loop2 rule n k queue count letters i g j₀ j = RowBetween rule n k queue i j × LettersBetween rule n k queue i letters × (g ≡ getD queue i 0) × (i < letters)
+
+abbrev μ-loop2 : tie.MeasureT-loop2
+μ-loop2 rule n k queue count letters i g j₀ j = letters - j
+
+abbrev Inv-loop : tie.InvT-loop
+Inv-loop rule n k queue count letters i₀ i = LettersBetween rule n k queue i letters
+
+abbrev μ-loop : tie.MeasureT-loop
+μ-loop rule n k queue count letters i₀ i = letters - i
+
+loop-holds : tie.Need-loop-holds Inv-loop2 μ-loop2 Inv-loop μ-loop
+loop-holds c = letters-start
+
+shared-slice-read-g : tie.Need-shared-slice-read-g Inv-loop2 μ-loop2 Inv-loop μ-loop
+shared-slice-read-g c =
+    let start = c .before .before .before .before .before in
+    omega (arith, start .pre .1 .0 .room, start .pre .1 .0 .few, start .pre .0 .small, start .pre .1 .1 .few)
+
+cast-g : tie.Need-cast-g Inv-loop2 μ-loop2 Inv-loop μ-loop
+cast-g c = fits-8-64 (c .shared-slice-known3 .given _)
+
+loop2-holds : tie.Need-loop2-holds Inv-loop2 μ-loop2 Inv-loop μ-loop
+loop2-holds c = (row-start, c .before .before .loop .inv, refl, c .before .loop-test .taken)
+
+shared-slice-read-h : tie.Need-shared-slice-read-h Inv-loop2 μ-loop2 Inv-loop μ-loop
+shared-slice-read-h c =
+    let start = c .before .before .before .before .before .before .before .before in
+    omega (arith, start .pre .1 .0 .room, start .pre .1 .0 .few, start .pre .0 .small, start .pre .1 .1 .few)
+
+cast-h : tie.Need-cast-h Inv-loop2 μ-loop2 Inv-loop μ-loop
+cast-h c = fits-8-64 (c .shared-slice-known4 .given _)
+
+between-requires : tie.Need-between-requires Inv-loop2 μ-loop2 Inv-loop μ-loop
+between-requires c κs =
+    let start = c .before .before .before .before .before .before .before .before in
+    let found = start .pre .1 .0 in
+    let few = start .pre .1 .1 .few in
+    (start .pre .0, (found .inside (c .before .before .before .before .before .loop .i) (omega (arith, few)), found .inside (c .before .before .loop2 .j) (omega (arith, few))))
+
+returns : tie.Need-returns Inv-loop2 μ-loop2 Inv-loop μ-loop
+returns c = tt
+
+add-j : tie.Need-add-j Inv-loop2 μ-loop2 Inv-loop μ-loop
+add-j c = omega arith
+
+loop2-less : tie.Need-loop2-less Inv-loop2 μ-loop2 Inv-loop μ-loop
+loop2-less c = omega arith
+
+loop2-again : tie.Need-loop2-again Inv-loop2 μ-loop2 Inv-loop μ-loop
+loop2-again c =
+    let row = c .before .before .before .before .loop2 .inv in
+    (row-next (row .0) (c .before .between .result) (c .before .between .ensures) (c .if1 .left), row .1, row .2, row .3)
+
+add-i : tie.Need-add-i Inv-loop2 μ-loop2 Inv-loop μ-loop
+add-i c = omega arith
+
+loop-less : tie.Need-loop-less Inv-loop2 μ-loop2 Inv-loop μ-loop
+loop-less c = omega arith
+
+loop-again : tie.Need-loop-again Inv-loop2 μ-loop2 Inv-loop μ-loop
+loop-again c = letters-next (c .before .before .before .before .loop .inv) (c .before .loop2 .inv .0) (c .loop2-test .left)
+
+returns-2 : tie.Need-returns-2 Inv-loop2 μ-loop2 Inv-loop μ-loop
+returns-2 c = letters-all (c .before .loop .inv) (c .loop-test .left)
+
+pub letters-associate-spec : {M : Type 1} → statement M
+letters-associate-spec =
+    tie.close
+    (tie.spec
+    Inv-loop2
+    μ-loop2
+    Inv-loop
+    μ-loop
+    loop-holds
+    shared-slice-read-g
+    cast-g
+    loop2-holds
+    shared-slice-read-h
+    cast-h
+    between-requires
+    returns
+    add-j
+    loop2-less
+    loop2-again
+    add-i
+    loop-less
+    loop-again
+    returns-2)

@@ -1,0 +1,122 @@
+-- The bytes of an entry behind the letters' are an element, an entry before it, and a letter; the loop holds the answers of the
+-- entries that were passed. The measure is the number of entries left. Assumes nothing.
+use Prim.Native.Nat.{_≤_, _-_}
+use native.Mathlib.Omega.{arith}
+use mir.Facts.{fits-8-64}
+use Rattle.rule_table.proofs.Facts.{image-place}
+use Rattle.rule_associating.specs.Tests.{WordsAlong}
+use Rattle.rule_associating.proofs.Entries.{parent-small, letter-small, image-below}
+use Rattle.rule_associating.proofs.Passed.{words-start, words-next, words-all}
+use Rattle.rule_associating.proofs.words_associate.Statement.{statement}
+use Rattle.rule_associating.proofs.words_associate.Tie as tie
+
+abbrev Inv-loop : tie.InvT-loop
+Inv-loop rule n k queue count letters i₀ i = WordsAlong rule n k queue letters i × (letters ≤ i)
+
+abbrev μ-loop : tie.MeasureT-loop
+μ-loop rule n k queue count letters i₀ i = count - i
+
+loop-holds : tie.Need-loop-holds Inv-loop μ-loop
+loop-holds c = (words-start _, omega arith)
+
+add-from : tie.Need-add-from Inv-loop μ-loop
+add-from c = omega (arith, c .before .before .before .before .pre .1 .0 .few, c .before .before .before .before .pre .0 .small)
+
+shared-slice-read-from : tie.Need-shared-slice-read-from Inv-loop μ-loop
+shared-slice-read-from c =
+    let start = c .before .before .before .before .before in
+    omega (arith, start .pre .1 .0 .room, start .pre .1 .0 .few, start .pre .0 .small)
+
+cast-from : tie.Need-cast-from Inv-loop μ-loop
+cast-from c = fits-8-64 (c .shared-slice-known3 .given _)
+
+sub-p : tie.Need-sub-p Inv-loop μ-loop
+sub-p c = c .before .before .before .before .before .pre .1 .1 .later (c .before .before .loop .i) (c .before .before .loop .inv .1) (c .before .loop-test .taken)
+
+shared-slice-read-p : tie.Need-shared-slice-read-p Inv-loop μ-loop
+shared-slice-read-p c =
+    let start = c .before .before .before .before .before .before in
+    omega (arith, parent-small (start .pre .1 .0) (c .before .before .before .loop .i) (c .before .before .loop-test .taken), start .pre .1 .0 .room, start .pre .1 .0 .few, start .pre .0 .small)
+
+cast-p : tie.Need-cast-p Inv-loop μ-loop
+cast-p c = fits-8-64 (c .shared-slice-known4 .given _)
+
+shared-slice-read-s : tie.Need-shared-slice-read-s Inv-loop μ-loop
+shared-slice-read-s c =
+    let start = c .before .before .before .before .before .before .before in
+    omega (arith, start .pre .1 .0 .room, start .pre .1 .0 .few, start .pre .0 .small)
+
+cast-s : tie.Need-cast-s Inv-loop μ-loop
+cast-s c = fits-8-64 (c .shared-slice-known5 .given _)
+
+add-letter : tie.Need-add-letter Inv-loop μ-loop
+add-letter c = omega (arith, c .before .before .before .before .before .before .before .pre .1 .0 .few, c .before .before .before .before .before .before .before .pre .0 .small)
+
+shared-slice-read-letter : tie.Need-shared-slice-read-letter Inv-loop μ-loop
+shared-slice-read-letter c =
+    let start = c .before .before .before .before .before .before .before .before in
+    omega (arith, start .pre .1 .0 .room, start .pre .1 .0 .few, start .pre .0 .small)
+
+cast-letter : tie.Need-cast-letter Inv-loop μ-loop
+cast-letter c = fits-8-64 (c .shared-slice-known6 .given _)
+
+image-requires : tie.Need-image-requires Inv-loop μ-loop
+image-requires c κs =
+    let start = c .before .before .before .before .before .before .before .before in
+    image-place (start .pre .0) (letter-small (start .pre .1 .0) (c .before .before .before .before .before .loop .i) (c .before .before .before .before .loop-test .taken))
+
+along-requires : tie.Need-along-requires Inv-loop μ-loop
+along-requires c κs =
+    let start = c .before .before .before .before .before .before .before .before .before in
+    let found = start .pre .1 .0 in
+    let i = c .before .before .before .before .before .before .loop .i in
+    let below = c .before .before .before .before .before .loop-test .taken in (
+      start .pre .0,
+      (
+        found .inside _ (omega (arith, parent-small found i below, start .pre .1 .1 .later i (c .before .before .before .before .before .before .loop .inv .1) below)),
+        image-below (start .pre .0) (letter-small found i below) (c .image .ensures),
+        found .inside i below,
+      ),
+    )
+
+returns : tie.Need-returns Inv-loop μ-loop
+returns c = tt
+
+add-i : tie.Need-add-i Inv-loop μ-loop
+add-i c = omega arith
+
+loop-less : tie.Need-loop-less Inv-loop μ-loop
+loop-less c = omega arith
+
+loop-again : tie.Need-loop-again Inv-loop μ-loop
+loop-again c =
+    (words-next (c .before .before .before .before .before .before .before .before .loop .inv .0) (c .before .before .image .ensures) (c .before .along .result) (c .before .along .ensures) (c .if1 .left), omega arith)
+
+returns-2 : tie.Need-returns-2 Inv-loop μ-loop
+returns-2 c = words-all (c .before .loop .inv .0) (c .loop-test .left)
+
+pub words-associate-spec : {M : Type 1} → statement M
+words-associate-spec =
+    tie.close
+    (tie.spec
+    Inv-loop
+    μ-loop
+    loop-holds
+    add-from
+    shared-slice-read-from
+    cast-from
+    sub-p
+    shared-slice-read-p
+    cast-p
+    shared-slice-read-s
+    cast-s
+    add-letter
+    shared-slice-read-letter
+    cast-letter
+    image-requires
+    along-requires
+    returns
+    add-i
+    loop-less
+    loop-again
+    returns-2)

@@ -1,0 +1,67 @@
+-- What the tests with letters answer. Assumes nothing.
+use Prim.Native.Nat.{ℕ, suc, _+_, _-_, _≤_, _<_}
+use mathlib.Core.Path.{_≡_}
+use mathlib.Core.Bool.{Bool, true, false}
+use mathlib.Core.List.{List}
+use lib.ListN.{length, getD}
+use Rattle.finite.proofs.FirstWords.{FirstOrder}
+use Rattle.theory.specs.Rules.{Morphism, none}
+use Rattle.rule_table.specs.Table.{morphismAt, imageAt}
+use Rattle.rule_table.specs.Answers.{AllAssociate}
+use Rattle.rule_reach.specs.Reach.{entryAt, parentAt, letterAt, placeAt, wordStep, Places}
+
+-- the worklist of words holds every element
+pub record AllFound (bytes : List ℕ) (n k : ℕ) (queue : List ℕ) (count : ℕ) : Type 0 where
+  pub room : 256 ≤ length queue
+  pub order : FirstOrder none (wordStep (morphismAt bytes n k)) k (entryAt queue) (suc count) (parentAt queue) (letterAt queue)
+  pub few : count ≤ n
+  pub inside : (i : ℕ) → i < count → getD queue i 0 < n
+  pub places : Places queue n count
+  pub have : (s : ℕ) → s < n → 0 < placeAt queue s
+
+-- so many entries were found from the empty word's, and those behind them from others
+pub record LetterEntries (queue : List ℕ) (count letters : ℕ) : Type 0 where
+  pub few : letters ≤ count
+  pub first : (i : ℕ) → i < letters → getD queue (64 + i) 0 ≡ 0
+  pub later : (i : ℕ) → letters ≤ i → i < count → 0 < getD queue (64 + i) 0
+
+-- (x·p)·h = x·s for every x
+pub record Along (m : Morphism) (p h s : ℕ) : Type 0 where
+  pub along : (x : ℕ) → x < m .size → m .product (m .product x p) h ≡ m .product x s
+
+abbrev pub AlongAnswer : Morphism → ℕ → ℕ → ℕ → Bool → Type 0
+AlongAnswer m p h s true = Along m p h s
+AlongAnswer m p h s false = Unit {0}
+
+-- so for the element of an entry, with the element that it was found from and its letter's
+abbrev pub WordAlong : List ℕ → ℕ → ℕ → List ℕ → ℕ → Type 0
+WordAlong bytes n k queue i =
+    Along (morphismAt bytes n k) (getD queue (getD queue (64 + i) 0 - 1) 0) (imageAt bytes n (getD queue (128 + i) 0)) (getD queue i 0)
+
+-- so for every entry from one number up to another
+pub record WordsAlong (bytes : List ℕ) (n k : ℕ) (queue : List ℕ) (from to : ℕ) : Type 0 where
+  pub word : (i : ℕ) → from ≤ i → i < to → WordAlong bytes n k queue i
+
+abbrev pub WordsAnswer : List ℕ → ℕ → ℕ → List ℕ → ℕ → ℕ → Bool → Type 0
+WordsAnswer bytes n k queue from to true = WordsAlong bytes n k queue from to
+WordsAnswer bytes n k queue from to false = Unit {0}
+
+-- (g·x)·h = g·(x·h) for every x
+pub record Between (m : Morphism) (g h : ℕ) : Type 0 where
+  pub between : (x : ℕ) → x < m .size → m .product (m .product g x) h ≡ m .product g (m .product x h)
+
+abbrev pub BetweenAnswer : Morphism → ℕ → ℕ → Bool → Type 0
+BetweenAnswer m g h true = Between m g h
+BetweenAnswer m g h false = Unit {0}
+
+-- so for the elements of two entries, the first below one number and the second below another
+pub record LettersBetween (bytes : List ℕ) (n k : ℕ) (queue : List ℕ) (rows letters : ℕ) : Type 0 where
+  pub letter : (i j : ℕ) → i < rows → j < letters → Between (morphismAt bytes n k) (getD queue i 0) (getD queue j 0)
+
+abbrev pub LettersAnswer : List ℕ → ℕ → ℕ → List ℕ → ℕ → Bool → Type 0
+LettersAnswer bytes n k queue letters true = LettersBetween bytes n k queue letters letters
+LettersAnswer bytes n k queue letters false = Unit {0}
+
+abbrev pub AssociatesAnswer : Morphism → Bool → Type 0
+AssociatesAnswer m true = AllAssociate m
+AssociatesAnswer m false = Unit {0}

@@ -1,0 +1,127 @@
+// Whether a table associates, by two tests with letters in place of all triples, from the worklist of all its elements (crate rule_reach).
+// Where both hold every triple associates (theory/proofs/Associating); where one fails nothing is said of the triples.
+use rule_table::image;
+use rule_table::product;
+ghost use Prim.Native.Nat.{_<_};
+ghost use Rattle.rule_table.specs.Table.{Table, morphismAt};
+ghost use Rattle.rule_associating.specs.Tests.{AllFound, LetterEntries, AlongAnswer, WordsAnswer, BetweenAnswer, LettersAnswer, AssociatesAnswer};
+
+// How many entries are letters' elements: those that were found from entry 0, which stand first, each once.
+fn letter_entries(rule: &[u8], n: usize, k: usize, queue: &[u8], count: usize) -> usize
+    requires { ⌜ Table (now rule) n k ⌝ }
+    requires { ⌜ AllFound (now rule) n k (now queue) count ⌝ }
+    ensures { λ r. ⌜ LetterEntries (now (queue .entry)) count r ⌝ }
+{
+    for i in 0..count {
+        if 0 < queue[64 + i] {
+            return i;
+        }
+    }
+    count
+}
+
+// Whether (x·p)·h is x·s for every x.
+fn along(rule: &[u8], n: usize, k: usize, p: usize, h: usize, s: usize) -> bool
+    requires { ⌜ Table (now rule) n k ⌝ }
+    requires { ⌜ (p < n) × (h < n) × (s < n) ⌝ }
+    ensures { λ r. ⌜ AlongAnswer (morphismAt (now (rule .entry)) n k) p h s r ⌝ }
+{
+    for x in 0..n {
+        let xp = product(rule, n, x, p);
+        let left = product(rule, n, xp, h);
+        let right = product(rule, n, x, s);
+        if left != right {
+            return false;
+        }
+    }
+    true
+}
+
+// Whether every product with the element of an entry behind the letters' is one with the element that it was found from and then one
+// with its letter's.
+fn words_associate(
+    rule: &[u8],
+    n: usize,
+    k: usize,
+    queue: &[u8],
+    count: usize,
+    letters: usize,
+) -> bool
+    requires { ⌜ Table (now rule) n k ⌝ }
+    requires { ⌜ AllFound (now rule) n k (now queue) count ⌝ }
+    requires { ⌜ LetterEntries (now queue) count letters ⌝ }
+    ensures { λ r. ⌜ WordsAnswer (now (rule .entry)) n k (now (queue .entry)) letters count r ⌝ }
+{
+    for i in letters..count {
+        let from = queue[64 + i] as usize;
+        let p = queue[from - 1] as usize;
+        let s = queue[i] as usize;
+        let letter = queue[128 + i] as usize;
+        let h = image(rule, n, letter);
+        if !along(rule, n, k, p, h, s) {
+            return false;
+        }
+    }
+    true
+}
+
+// Whether (g·x)·h is g·(x·h) for every x.
+fn between(rule: &[u8], n: usize, k: usize, g: usize, h: usize) -> bool
+    requires { ⌜ Table (now rule) n k ⌝ }
+    requires { ⌜ (g < n) × (h < n) ⌝ }
+    ensures { λ r. ⌜ BetweenAnswer (morphismAt (now (rule .entry)) n k) g h r ⌝ }
+{
+    for x in 0..n {
+        let gx = product(rule, n, g, x);
+        let xh = product(rule, n, x, h);
+        let left = product(rule, n, gx, h);
+        let right = product(rule, n, g, xh);
+        if left != right {
+            return false;
+        }
+    }
+    true
+}
+
+// Whether this holds for every two letters' elements.
+fn letters_associate(
+    rule: &[u8],
+    n: usize,
+    k: usize,
+    queue: &[u8],
+    count: usize,
+    letters: usize,
+) -> bool
+    requires { ⌜ Table (now rule) n k ⌝ }
+    requires { ⌜ AllFound (now rule) n k (now queue) count ⌝ }
+    requires { ⌜ LetterEntries (now queue) count letters ⌝ }
+    ensures { λ r. ⌜ LettersAnswer (now (rule .entry)) n k (now (queue .entry)) letters r ⌝ }
+{
+    for i in 0..letters {
+        let g = queue[i] as usize;
+        for j in 0..letters {
+            let h = queue[j] as usize;
+            if !between(rule, n, k, g, h) {
+                return false;
+            }
+        }
+    }
+    true
+}
+
+// Both tests: true only where every triple associates. The first looks up three products for each element and entry behind the letters',
+// the second four for each element and two letters; where that is no less than the three for each triple, the triples are left to decide.
+pub fn associates(rule: &[u8], n: usize, k: usize, queue: &[u8], count: usize) -> bool
+    requires { ⌜ Table (now rule) n k ⌝ }
+    requires { ⌜ AllFound (now rule) n k (now queue) count ⌝ }
+    ensures { λ r. ⌜ AssociatesAnswer (morphismAt (now (rule .entry)) n k) r ⌝ }
+{
+    let letters = letter_entries(rule, n, k, queue, count);
+    if 3 * (n * n) <= 3 * (n - letters) + 4 * (letters * letters) {
+        return false;
+    }
+    if !words_associate(rule, n, k, queue, count, letters) {
+        return false;
+    }
+    letters_associate(rule, n, k, queue, count, letters)
+}

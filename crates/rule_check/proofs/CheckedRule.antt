@@ -1,0 +1,56 @@
+-- What a rule file is once every check passes, for the calls that get one: a lawful table whose elements are all reached, and
+-- marks that are linked and differ. Assumes nothing.
+use Prim.Native.Nat.{ℕ, _≤_, _<_}
+use mathlib.Core.Path.{_≡_, refl}
+use mathlib.Core.List.{List}
+use native.Mathlib.Omega.{arith}
+use lib.ListN.{length}
+use Rattle.answer.specs.Checks.{passed, FirstFailure}
+use Rattle.answer.proofs.Order.{passed-first, passed-last, passes-head, passes-tail}
+use Rattle.theory.specs.Rules.{Lawful, AllReached}
+use Rattle.theory.specs.Pairs.{Linked, LinkedOnly}
+use Rattle.rule_table.specs.Table.{Table}
+use Rattle.rule_table.proofs.Facts.{table-lawful}
+use Rattle.formats.specs.Format.{elementsOf, lettersOf, marksAt, marksOf, ruleEnd, morphismOf, markStart, markCycle, pairsOf}
+use Rattle.formats.specs.RuleChecks.{layoutChecks, tableChecks, contentChecks, ruleChecks}
+use Rattle.rule_check.specs.GoodRule.{GoodRule}
+use Rattle.rule_check.proofs.Passed.{layout-as, letters-some, marks-small, end-inside, table-of}
+use Rattle.rule_check.proofs.TablePassed.{table-associates, table-reached}
+use Rattle.rule_check.proofs.MarksPassed.{passed-marks, marking-linked}
+use Rattle.rule_marks.proofs.MarkOrder.{GoodMarks}
+
+module _ (input : ℕ) (bytes : List ℕ) (all : FirstFailure (ruleChecks input bytes) passed) where
+  -- its sections pass, as those of a first input
+  pub layout-passed : FirstFailure (layoutChecks 1 bytes) passed
+  unfolding ruleChecks
+  layout-passed = layout-as bytes input 1 (passed-first _ _ all)
+
+  content-passed : FirstFailure (contentChecks input bytes) passed
+  unfolding ruleChecks
+  content-passed = passed-last (layoutChecks input bytes) _ all
+
+  table-passed : FirstFailure (tableChecks input (morphismOf bytes)) passed
+  table-passed = passed-first _ _ (passes-tail content-passed)
+
+  marks-passed : GoodMarks (morphismOf bytes) bytes (marksAt bytes) (marksOf bytes)
+  marks-passed =
+      passed-marks input (marksOf bytes) (passed-first _ _ (passed-last (tableChecks input (morphismOf bytes)) _ (passes-tail content-passed)))
+
+  -- every check passes: the file is a good rule
+  pub good-rule : GoodRule bytes
+  unfolding marksOf
+  good-rule =
+      let h : ruleEnd bytes < length bytes → ⊥ = λ l. passes-head content-passed .nowhere _ (record { longer = l; is-place = refl }) in
+      let t = table-of bytes layout-passed in
+      let law = table-lawful t (table-associates table-passed) in
+      record {
+        table = t;
+        letters-some = letters-some bytes layout-passed;
+        marks-small = marks-small bytes layout-passed;
+        end = omega (arith, end-inside bytes layout-passed);
+        lawful = law;
+        reached = table-reached table-passed law;
+        each-linked = λ i l. marks-passed .good i l .linked;
+        distinct = λ i j l b p q. marks-passed .good j b .fresh i l p q;
+        linked = marking-linked bytes (marksAt bytes) marks-passed;
+      }

@@ -1,0 +1,87 @@
+-- `rule_check::check_rule` meets its contract: the table of marks is made blank, then the sections decide, then the contents. Assumes nothing.
+use borrow.Author.Needs.{needs}
+use Rattle.formats.specs.RuleChecks.{contentChecks}
+use Rattle.rule_check.proofs.Faults.{no-fault, fault-refused}
+use Rattle.rule_check.proofs.Promise.{layout-said, layout-refused, blank-marks, layout-verdict, content-verdict, rule-verdict, content-laid, content-kept}
+use Rattle.rule_check.proofs.check_rule.Statement.{statement}
+use Rattle.rule_check.proofs.check_rule.Tie as tie
+
+zero-part-requires : tie.Need-zero-part-requires
+zero-part-requires c κs = search needs
+
+read-layout-requires : tie.Need-read-layout-requires
+read-layout-requires c κs = search needs
+
+enum-known-shape : tie.Need-enum-known-shape
+enum-known-shape c = search needs
+
+enum-known-refusal : tie.Need-enum-known-refusal
+enum-known-refusal c = search needs
+
+same-length : tie.Need-same-length
+same-length c = search needs
+
+returns : tie.Need-returns
+returns c =
+    let read = c .before .before .before in
+    let start = read .before .before .before .before .before .before .before in
+    layout-verdict (start .args .input) (start .args .rule .now) (start .args .scratch .now) (read .before .before .before .zero-part .ensures)
+    (layout-refused (start .args .rule .now) (read .read-layout .result) (read .read-layout .ensures) (c .before .refusal .given .1))
+
+content-fault-requires : tie.Need-content-fault-requires
+content-fault-requires c κs =
+    let read = c .before .before .before .before in
+    let start = read .before .before .before .before .before .before .before in (
+      layout-said (start .args .rule .now) (read .read-layout .result) (read .read-layout .ensures) (c .before .before .shape .given .1),
+      blank-marks (start .pre) (read .before .before .before .zero-part .ensures),
+    )
+
+enum-told : tie.Need-enum-told
+enum-told c = search needs
+
+enum-known-refusal-2 : tie.Need-enum-known-refusal-2
+enum-known-refusal-2 c = search needs
+
+same-length-2 : tie.Need-same-length-2
+same-length-2 c = search needs
+
+returns-2 : tie.Need-returns-2
+returns-2 c =
+    let content = c .before .before .before .before in
+    let read = content .before .before .before .before .before in
+    let start = read .before .before .before .before .before .before .before in
+    rule-verdict (start .args .input) (start .args .rule .now) (start .args .scratch .now)
+    (layout-said (start .args .rule .now) (read .read-layout .result) (read .read-layout .ensures) (content .before .before .before .shape .given .1)) (read .before .before .before .zero-part .ensures)
+    (no-fault (λ input. contentChecks input (start .args .rule .now)) (content .content-fault .result) (content .content-fault .ensures .0) (c .enum-told .given .1))
+    (content-laid _ _ _ (content .content-fault .result) (content .content-fault .ensures .1) (c .enum-told .given .1))
+
+same-length-3 : tie.Need-same-length-3
+same-length-3 c = search needs
+
+returns-3 : tie.Need-returns-3
+returns-3 c =
+    let content = c .before .before .before .before .before in
+    let read = content .before .before .before .before .before in
+    let start = read .before .before .before .before .before .before .before in
+    content-verdict (start .args .input) (start .args .rule .now) (start .args .scratch .now)
+    (layout-said (start .args .rule .now) (read .read-layout .result) (read .read-layout .ensures) (content .before .before .before .shape .given .1)) (read .before .before .before .zero-part .ensures)
+    (content-kept _ _ _ (content .content-fault .result) (content .content-fault .ensures .1) (c .before .refusal2 .given .1))
+    (fault-refused (λ input. contentChecks input (start .args .rule .now)) (content .content-fault .result) (content .content-fault .ensures .0) (c .before .refusal2 .given .1))
+
+pub check-rule-spec : {M : Type 1} → statement M
+check-rule-spec =
+    tie.close
+    (tie.spec
+    zero-part-requires
+    read-layout-requires
+    enum-known-shape
+    enum-known-refusal
+    same-length
+    returns
+    content-fault-requires
+    enum-told
+    enum-known-refusal-2
+    same-length-2
+    returns-2
+    same-length-3
+    returns-3)

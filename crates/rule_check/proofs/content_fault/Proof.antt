@@ -1,0 +1,142 @@
+-- `rule_check::content_fault` meets its contract: the first of its checks that fails decides, and after good marks the table of
+-- scratch holds them. Assumes nothing.
+use Prim.Native.Nat.{ℕ, _+_, _*_, _≤_, _<_}
+use mathlib.Core.Path.{_≡_, refl, subst}
+use mathlib.Core.List.{List}
+use native.Mathlib.Omega.{arith}
+use lib.ListN.{length, drop}
+use Rattle.answer.specs.Checks.{passed, FirstFailure}
+use Rattle.formats.specs.Format.{morphismOf, marksAt, marksOf}
+use Rattle.formats.specs.RuleChecks.{tableChecks, markChecks}
+use Rattle.rule_check.proofs.Faults.{no-fault, fault-refused, trailing, table-refuses, marks-refuse, powers-decide}
+use Rattle.rule_check.proofs.Content.{square-small, k-small, count-small, end-is, end-in, table-is, marks-room, of-table, of-marks, of-laid, laid-said, kept-said}
+use Rattle.rule_marks.specs.declared.Fault.the-variants.{Nothing as No-fault}
+use Rattle.rule_table.proofs.Facts.{table-lawful}
+use Rattle.rule_check.proofs.Passed.{table-of}
+use Rattle.rule_check.proofs.TablePassed.{table-associates, lawful-powers-pass}
+use borrow.Author.Needs.{needs}
+use Rattle.rule_check.proofs.content_fault.Statement.{statement}
+use Rattle.rule_check.proofs.content_fault.Tie as tie
+
+mul-marks-at : tie.Need-mul-marks-at
+mul-marks-at c = omega (arith, square-small _ _ (c .before .before .pre .0), k-small _ _ (c .before .before .pre .0), count-small _ _ (c .before .before .pre .0))
+
+add-marks-at : tie.Need-add-marks-at
+add-marks-at c = omega (arith, square-small _ _ (c .before .before .pre .0), k-small _ _ (c .before .before .pre .0), count-small _ _ (c .before .before .pre .0))
+
+add-marks-at-2 : tie.Need-add-marks-at-2
+add-marks-at-2 c = omega (arith, square-small _ _ (c .before .before .pre .0), k-small _ _ (c .before .before .pre .0), count-small _ _ (c .before .before .pre .0))
+
+add-marks-at-3 : tie.Need-add-marks-at-3
+add-marks-at-3 c = omega (arith, square-small _ _ (c .before .before .pre .0), k-small _ _ (c .before .before .pre .0), count-small _ _ (c .before .before .pre .0))
+
+mul-end : tie.Need-mul-end
+mul-end c = omega (arith, square-small _ _ (c .before .before .pre .0), k-small _ _ (c .before .before .pre .0), count-small _ _ (c .before .before .pre .0))
+
+add-end : tie.Need-add-end
+add-end c = omega (arith, square-small _ _ (c .before .before .pre .0), k-small _ _ (c .before .before .pre .0), count-small _ _ (c .before .before .pre .0))
+
+add-end-2 : tie.Need-add-end-2
+add-end-2 c = omega (arith, square-small _ _ (c .before .before .pre .0), k-small _ _ (c .before .before .pre .0), count-small _ _ (c .before .before .pre .0))
+
+rest-after-requires : tie.Need-rest-after-requires
+rest-after-requires c κs = end-in _ _ (c .before .before .pre .0)
+
+returns : tie.Need-returns
+returns c =
+    let b = c .before .before .before .before in
+    (trailing (b .args .rule .now) (end-is _ _ (b .pre .0)) (subst (λ (l : List ℕ). 0 < length l) (c .before .rest-after .ensures) (c .if1 .taken)), refl)
+
+table-fault-requires : tie.Need-table-fault-requires
+table-fault-requires c κs = table-is _ _ (c .before .before .before .before .pre .0)
+
+enum-told : tie.Need-enum-told
+enum-told c = search needs
+
+enum-known-refusal : tie.Need-enum-known-refusal
+enum-known-refusal c = search needs
+
+-- nothing follows the last section
+follows : (c : tie.Else1)
+    → length (drop (1 + c .before .before .before .before .args .shape .elements * c .before .before .before .before .args .shape .elements
+    + (1 + c .before .before .before .before .args .shape .letters) + (2 + 2 * c .before .before .before .before .args .shape .marks)) (c .before .before .before .before .args .rule .now)) ≤ 0
+follows c = subst (λ (l : List ℕ). length l ≤ 0) (c .before .rest-after .ensures) (c .if1 .left)
+
+-- the table is good
+table-passes : (c : tie.After-enum-told) → (input : ℕ)
+    → FirstFailure (tableChecks input (morphismOf (c .before .before .before .before .before .before .before .args .rule .now))) passed
+table-passes c =
+    let b = c .before .before .before .before .before .before .before in
+    no-fault (λ input. tableChecks input (morphismOf (b .args .rule .now))) (c .before .before .table-fault .result)
+    (of-table _ _ (b .pre .0) (c .before .before .table-fault .result) (c .before .before .table-fault .ensures)) (c .enum-told .given .1)
+
+returns-2 : tie.Need-returns-2
+returns-2 c =
+    let b = c .before .before .before .before .before .before .before .before in
+    let m = c .before .before .before .table-fault in (
+      table-refuses (b .args .rule .now) (end-is _ _ (b .pre .0)) (follows (c .before .before .before .before))
+          (fault-refused (λ input. tableChecks input (morphismOf (b .args .rule .now))) (m .result) (of-table _ _ (b .pre .0) (m .result) (m .ensures)) (c .before .refusal .given .1)),
+      refl,
+    )
+
+mark-fault-requires : tie.Need-mark-fault-requires
+mark-fault-requires c κs = (table-is _ _ (c .before .before .before .before .before .before .before .before .pre .0), marks-room _ _ (c .before .before .before .before .before .before .before .before .pre .0) (c .before .before .before .before .before .before .before .before .pre .1))
+
+enum-told-2 : tie.Need-enum-told-2
+enum-told-2 c = search needs
+
+enum-known-refusal-2 : tie.Need-enum-known-refusal-2
+enum-known-refusal-2 c = search needs
+
+same-length : tie.Need-same-length
+same-length c = search needs
+
+returns-3 : tie.Need-returns-3
+returns-3 c =
+    let b = c .before .before .before .before .before .before .before .before .before .before .before .before .before .before in
+    let m = c .before .before .before .before .before .mark-fault in (
+      marks-refuse (b .args .rule .now) (end-is _ _ (b .pre .0)) (follows (c .before .before .before .before .before .before .before .before .before .before)) (table-passes (c .before .before .before .before .before .before .before))
+          (fault-refused (λ input. markChecks input (morphismOf (b .args .rule .now)) (b .args .rule .now) (marksAt (b .args .rule .now)) 0 (marksOf (b .args .rule .now))) (m .result)
+          (of-marks _ _ (b .pre .0) (m .result) (m .ensures .0)) (c .before .refusal2 .given .1)),
+      kept-said _ _ _ _ _ _ (m .result) (m .ensures .1) (c .before .refusal2 .given .1),
+    )
+
+same-length-2 : tie.Need-same-length-2
+same-length-2 c = search needs
+
+returns-4 : tie.Need-returns-4
+returns-4 c =
+    let b = c .before .before .before .before .before .before .before .before .before .before .before .before .before in
+    let m = c .before .before .before .before .mark-fault in
+    let table = table-passes (c .before .before .before .before .before .before) in (
+      powers-decide (b .args .rule .now) (end-is _ _ (b .pre .0)) (follows (c .before .before .before .before .before .before .before .before .before)) table
+          (no-fault (λ input. markChecks input (morphismOf (b .args .rule .now)) (b .args .rule .now) (marksAt (b .args .rule .now)) 0 (marksOf (b .args .rule .now))) (m .result)
+          (of-marks _ _ (b .pre .0) (m .result) (m .ensures .0)) (c .enum-told2 .given .1))
+          No-fault (λ input. lawful-powers-pass input (table-lawful (table-of (b .args .rule .now) (b .pre .0 .verdict 1)) (table-associates (table 1)))),
+      of-laid _ _ (b .pre .0) (laid-said _ _ _ _ _ _ (m .result) (m .ensures .1) (c .enum-told2 .given .1)),
+    )
+
+pub content-fault-spec : {M : Type 1} → statement M
+content-fault-spec =
+    tie.close
+    (tie.spec
+    mul-marks-at
+    add-marks-at
+    add-marks-at-2
+    add-marks-at-3
+    mul-end
+    add-end
+    add-end-2
+    rest-after-requires
+    returns
+    table-fault-requires
+    enum-told
+    enum-known-refusal
+    returns-2
+    mark-fault-requires
+    enum-told-2
+    enum-known-refusal-2
+    same-length
+    returns-3
+    same-length-2
+    returns-4)

@@ -1,0 +1,20 @@
+-- `rule_check::rest_after` meets its contract: the part from a place to the end is what is left from there. Assumes nothing.
+use Rattle.rule_layout.proofs.Rows.{rest-of}
+use borrow.Author.Needs.{needs}
+use Rattle.rule_check.proofs.rest_after.Statement.{statement}
+use Rattle.rule_check.proofs.rest_after.Tie as tie
+
+sub-result : tie.Need-sub-result
+sub-result c = search needs
+
+part-result-start : tie.Need-part-result-start
+part-result-start c = search needs
+
+part-result-end : tie.Need-part-result-end
+part-result-end c = search needs
+
+returns : tie.Need-returns
+returns c = rest-of (c .before .args .bytes .now) (c .before .args .end)
+
+pub rest-after-spec : {M : Type 1} → statement M
+rest-after-spec = tie.close (tie.spec sub-result part-result-start part-result-end returns)

@@ -1,0 +1,76 @@
+-- `rule_check::table_fault` meets its contract: where words find every element and the tests with letters hold, nothing is refused; else the
+-- triples decide. Assumes nothing.
+use native.Mathlib.Omega.{arith}
+use lib.ListN.{length-replicate}
+use Prim.Native.Nat.{ℕ}
+use borrow.Author.Needs.{needs}
+use Rattle.rule_check.proofs.Faults.{blank-queue, all-found, letters-pass}
+use Rattle.rule_check.proofs.table_fault.Statement.{statement}
+use Rattle.rule_check.proofs.table_fault.Tie as tie
+
+slice-aggregate-reach : tie.Need-slice-aggregate-reach
+slice-aggregate-reach c = search needs
+
+reach-requires : tie.Need-reach-requires
+reach-requires c κs = (c .before .before .pre, blank-queue)
+
+slice-aggregate-least-without : tie.Need-slice-aggregate-least-without
+slice-aggregate-least-without c = search needs
+
+least-without-requires : tie.Need-least-without-requires
+least-without-requires c κs = search needs
+
+enum-known-s : tie.Need-enum-known-s
+enum-known-s c = search needs
+
+triples-fault-requires : tie.Need-triples-fault-requires
+triples-fault-requires c κs = search needs
+
+returns : tie.Need-returns
+returns c = search needs
+
+enum-told : tie.Need-enum-told
+enum-told c = search needs
+
+slice-aggregate-associates : tie.Need-slice-aggregate-associates
+slice-aggregate-associates c = search needs
+
+associates-requires : tie.Need-associates-requires
+associates-requires c κs =
+    let b = c .before .before .before .before .before .before .before .before .before in (
+      b .pre,
+      all-found (omega (arith, length-replicate {A = ℕ} 256 0)) (c .before .before .before .before .before .before .reach .ensures)
+          (c .before .before .before .least-without .result) (c .before .before .before .least-without .ensures) (c .before .enum-told .given .1),
+    )
+
+returns-2 : tie.Need-returns-2
+returns-2 c =
+    let b = c .before .before .before .before .before .before .before .before .before .before .before in
+    let d = c .before .before .before in
+    letters-pass (b .args .rule .now) (b .args .n) (b .args .k) (b .pre) (d .before .before .before .before .before .reach .ensures)
+    (d .before .before .least-without .result) (d .before .before .least-without .ensures) (d .enum-told .given .1)
+    (c .before .associates .result) (c .before .associates .ensures) (c .if1 .taken)
+
+triples-fault-requires-2 : tie.Need-triples-fault-requires-2
+triples-fault-requires-2 c κs = search needs
+
+returns-3 : tie.Need-returns-3
+returns-3 c = search needs
+
+pub table-fault-spec : {M : Type 1} → statement M
+table-fault-spec =
+    tie.close
+    (tie.spec
+    slice-aggregate-reach
+    reach-requires
+    slice-aggregate-least-without
+    least-without-requires
+    enum-known-s
+    triples-fault-requires
+    returns
+    enum-told
+    slice-aggregate-associates
+    associates-requires
+    returns-2
+    triples-fault-requires-2
+    returns-3)

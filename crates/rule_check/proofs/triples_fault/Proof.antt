@@ -1,0 +1,68 @@
+-- `rule_check::triples_fault` meets its contract: the first triple that does not associate, and after an associative table the
+-- reached elements. Assumes nothing.
+use native.Mathlib.Omega.{arith}
+use Rattle.rule_table.specs.Table.{morphismAt}
+use Rattle.rule_table.specs.Answers.{FirstTriple, AllAssociate}
+use Rattle.rule_check.proofs.Faults.{triple-at, triple-none, not-associative, associative}
+use borrow.Author.Needs.{needs}
+use Rattle.rule_check.proofs.triples_fault.Statement.{statement}
+use Rattle.rule_check.proofs.triples_fault.Tie as tie
+
+first-not-associative-requires : tie.Need-first-not-associative-requires
+first-not-associative-requires c κs = search needs
+
+enum-known-a : tie.Need-enum-known-a
+enum-known-a c = search needs
+
+-- the triple that was found
+found : (c : tie.After-known-told)
+    → FirstTriple (morphismAt (c .before .before .before .before .before .args .rule .now) (c .before .before .before .before .before .args .n) (c .before .before .before .before .before .args .k))
+    (c .before .a .given .0 .0) (c .before .a .given .0 .1 .0) (c .before .a .given .0 .1 .1 .0)
+found c =
+    let a = c .before .before .before .before .before .args in
+    triple-at (a .rule .now) (a .n) (a .k) (c .before .before .before .first-not-associative .result) (c .before .before .before .first-not-associative .ensures) (c .before .a .given .1)
+
+mul-t10 : tie.Need-mul-t10
+mul-t10 c = omega (arith, found c .a-inside, found c .b-inside, found c .c-inside, c .before .before .before .before .before .pre .small)
+
+mul-t11 : tie.Need-mul-t11
+mul-t11 c = omega (arith, found c .a-inside, found c .b-inside, found c .c-inside, c .before .before .before .before .before .pre .small)
+
+add-t12 : tie.Need-add-t12
+add-t12 c = omega (arith, found c .a-inside, found c .b-inside, found c .c-inside, c .before .before .before .before .before .pre .small)
+
+add-t13 : tie.Need-add-t13
+add-t13 c = omega (arith, found c .a-inside, found c .b-inside, found c .c-inside, c .before .before .before .before .before .pre .small)
+
+enum-told : tie.Need-enum-told
+enum-told c = search needs
+
+reach-fault-requires : tie.Need-reach-fault-requires
+reach-fault-requires c κs =
+    let b = c .before .before .before .before in
+    (b .pre, triple-none (b .args .rule .now) (b .args .n) (b .args .k) (c .before .before .first-not-associative .result) (c .before .before .first-not-associative .ensures) (c .enum-told .given .1))
+
+returns : tie.Need-returns
+returns c = not-associative (found c)
+
+returns-2 : tie.Need-returns-2
+returns-2 c =
+    let b = c .before .before .before .before .before in
+    let all = triple-none (b .args .rule .now) (b .args .n) (b .args .k) (c .before .before .before .first-not-associative .result) (c .before .before .before .first-not-associative .ensures)
+    (c .before .enum-told .given .1) in
+    associative _ (c .reach-fault .result) all (c .reach-fault .ensures)
+
+pub triples-fault-spec : {M : Type 1} → statement M
+triples-fault-spec =
+    tie.close
+    (tie.spec
+    first-not-associative-requires
+    enum-known-a
+    mul-t10
+    mul-t11
+    add-t12
+    add-t13
+    enum-told
+    reach-fault-requires
+    returns
+    returns-2)

@@ -1,0 +1,47 @@
+-- `rule_inspect::inspect` meets its contract: the check's refusal is handed on; of a checked rule the counts are, and its marks are
+-- cleared from scratch. Assumes nothing.
+use Rattle.rule_inspect.proofs.Inspecting.{inspected-rule, inspected-refused}
+use borrow.Author.Needs.{needs}
+use Rattle.rule_inspect.proofs.inspect.Statement.{statement}
+use Rattle.rule_inspect.proofs.inspect.Tie as tie
+
+check-requires : tie.Need-check-requires
+check-requires c κs = search needs
+
+enum-known-shape : tie.Need-enum-known-shape
+enum-known-shape c = search needs
+
+zero-requires : tie.Need-zero-requires
+zero-requires c κs = search needs
+
+enum-known-refusal : tie.Need-enum-known-refusal
+enum-known-refusal c = search needs
+
+same-length : tie.Need-same-length
+same-length c = search needs
+
+returns : tie.Need-returns
+returns c =
+    let k = c .before .before .before .before .before .before .before .before .before .check in
+    inspected-rule _ _ _ (k .result) (k .ensures) (c .before .before .before .before .before .shape .given .1) (c .before .before .zero .ensures)
+
+same-length-2 : tie.Need-same-length-2
+same-length-2 c = search needs
+
+returns-2 : tie.Need-returns-2
+returns-2 c =
+    let k = c .before .before .before .before .before .check in
+    inspected-refused _ _ _ (k .result) (k .ensures) (c .before .refusal .given .1)
+
+pub inspect-spec : {M : Type 1} → statement M
+inspect-spec =
+    tie.close
+    (tie.spec
+    check-requires
+    enum-known-shape
+    zero-requires
+    enum-known-refusal
+    same-length
+    returns
+    same-length-2
+    returns-2)

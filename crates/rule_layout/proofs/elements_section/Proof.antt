@@ -1,0 +1,55 @@
+-- `rule_layout::elements_section` meets its contract: the count decides, and after a good count the entries. Assumes nothing.
+use mathlib.Core.Path.{refl}
+use native.Mathlib.Omega.{arith}
+use native.Mathlib.Nat.{mul-le-mul}
+use Rattle.sections.specs.Sections.{one-byte}
+use Rattle.sections.specs.Answers.{CountGood}
+use Rattle.formats.specs.Format.{elementsSection}
+use Rattle.rule_layout.proofs.Sectioned.{count-read, count-refused, by-count, by-entries}
+use borrow.Author.Needs.{needs}
+use Rattle.rule_layout.proofs.elements_section.Statement.{statement}
+use Rattle.rule_layout.proofs.elements_section.Tie as tie
+
+byte-count-requires : tie.Need-byte-count-requires
+byte-count-requires c κs = search needs
+
+enum-known-n : tie.Need-enum-known-n
+enum-known-n c = search needs
+
+-- the count that was read
+good : (c : tie.After-known-told) → CountGood one-byte 1 64 (c .before .before .before .before .before .args .rule .now) (c .before .n .given .0 .0)
+good c =
+    let a = c .before .before .before .before .before .args in
+    count-read one-byte 1 64 0 (a .rule .now) (c .before .before .before .byte-count .result) (c .before .before .before .byte-count .ensures) (c .before .n .given .1)
+
+mul-entries : tie.Need-mul-entries
+mul-entries c = omega (arith, mul-le-mul (good c .within) (good c .within))
+
+entries-requires : tie.Need-entries-requires
+entries-requires c κs = omega (arith, mul-le-mul (good c .within) (good c .within))
+
+enum-known-refusal : tie.Need-enum-known-refusal
+enum-known-refusal c = search needs
+
+returns : tie.Need-returns
+returns c =
+    let a = c .before .before .before .before .before .before .args in
+    by-entries elementsSection 0 (a .rule .now) (good (c .before)) refl (c .entries .result) (c .entries .ensures)
+
+returns-2 : tie.Need-returns-2
+returns-2 c =
+    let a = c .before .before .before .before .before .args in
+    by-count elementsSection 0 (a .rule .now)
+    (count-refused one-byte 1 64 0 (a .rule .now) (c .before .before .before .byte-count .result) (c .before .before .before .byte-count .ensures) (c .before .refusal .given .1))
+
+pub elements-section-spec : {M : Type 1} → statement M
+elements-section-spec =
+    tie.close
+    (tie.spec
+    byte-count-requires
+    enum-known-n
+    mul-entries
+    entries-requires
+    enum-known-refusal
+    returns
+    returns-2)

@@ -1,0 +1,51 @@
+-- `rule_layout::letters_section` meets its contract: the count decides, and after a good count the entries. Assumes nothing.
+use mathlib.Core.Path.{refl}
+use native.Mathlib.Omega.{arith}
+use native.Mathlib.Nat.{mul-le-mul}
+use Rattle.sections.specs.Sections.{one-byte}
+use Rattle.sections.specs.Answers.{CountGood}
+use Rattle.formats.specs.Format.{lettersSection}
+use Rattle.rule_layout.proofs.Sectioned.{count-read, count-refused, by-count, by-entries}
+use borrow.Author.Needs.{needs}
+use Rattle.rule_layout.proofs.letters_section.Statement.{statement}
+use Rattle.rule_layout.proofs.letters_section.Tie as tie
+
+byte-count-requires : tie.Need-byte-count-requires
+byte-count-requires c κs = search needs
+
+enum-known-k : tie.Need-enum-known-k
+enum-known-k c = search needs
+
+-- the count that was read
+good : (c : tie.After-known-told) → CountGood one-byte 1 16 (c .before .before .before .before .before .args .rest .now) (c .before .k .given .0 .0)
+good c =
+    let a = c .before .before .before .before .before .args in
+    count-read one-byte 1 16 (a .at) (a .rest .now) (c .before .before .before .byte-count .result) (c .before .before .before .byte-count .ensures) (c .before .k .given .1)
+
+entries-requires : tie.Need-entries-requires
+entries-requires c κs = omega (arith, good c .within)
+
+enum-known-refusal : tie.Need-enum-known-refusal
+enum-known-refusal c = search needs
+
+returns : tie.Need-returns
+returns c =
+    let a = c .before .before .before .before .before .before .args in
+    by-entries (lettersSection (a .n)) (a .at) (a .rest .now) (good (c .before)) refl (c .entries .result) (c .entries .ensures)
+
+returns-2 : tie.Need-returns-2
+returns-2 c =
+    let a = c .before .before .before .before .before .args in
+    by-count (lettersSection (a .n)) (a .at) (a .rest .now)
+    (count-refused one-byte 1 16 (a .at) (a .rest .now) (c .before .before .before .byte-count .result) (c .before .before .before .byte-count .ensures) (c .before .refusal .given .1))
+
+pub letters-section-spec : {M : Type 1} → statement M
+letters-section-spec =
+    tie.close
+    (tie.spec
+    byte-count-requires
+    enum-known-k
+    entries-requires
+    enum-known-refusal
+    returns
+    returns-2)

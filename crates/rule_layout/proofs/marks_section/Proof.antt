@@ -1,0 +1,55 @@
+-- `rule_layout::marks_section` meets its contract: the count decides, and after a good count the entries. Assumes nothing.
+use mathlib.Core.Path.{refl}
+use native.Mathlib.Omega.{arith}
+use native.Mathlib.Nat.{mul-le-mul}
+use Rattle.sections.specs.Sections.{two-byte}
+use Rattle.sections.specs.Answers.{CountGood}
+use Rattle.formats.specs.Format.{marksSection}
+use Rattle.rule_layout.proofs.Sectioned.{count-read, count-refused, by-count, by-entries}
+use borrow.Author.Needs.{needs}
+use Rattle.rule_layout.proofs.marks_section.Statement.{statement}
+use Rattle.rule_layout.proofs.marks_section.Tie as tie
+
+wide-count-requires : tie.Need-wide-count-requires
+wide-count-requires c κs = search needs
+
+enum-known-c : tie.Need-enum-known-c
+enum-known-c c = search needs
+
+-- the count that was read
+good : (c : tie.After-known-told) → CountGood two-byte 0 4096 (c .before .before .before .before .before .args .rest .now) (c .before .c .given .0 .0)
+good c =
+    let a = c .before .before .before .before .before .args in
+    count-read two-byte 0 4096 (a .at) (a .rest .now) (c .before .before .before .wide-count .result) (c .before .before .before .wide-count .ensures) (c .before .c .given .1)
+
+mul-entries : tie.Need-mul-entries
+mul-entries c = omega (arith, good c .within)
+
+entries-requires : tie.Need-entries-requires
+entries-requires c κs = omega (arith, good c .within)
+
+enum-known-refusal : tie.Need-enum-known-refusal
+enum-known-refusal c = search needs
+
+returns : tie.Need-returns
+returns c =
+    let a = c .before .before .before .before .before .before .args in
+    by-entries (marksSection (a .n)) (a .at) (a .rest .now) (good (c .before)) refl (c .entries .result) (c .entries .ensures)
+
+returns-2 : tie.Need-returns-2
+returns-2 c =
+    let a = c .before .before .before .before .before .args in
+    by-count (marksSection (a .n)) (a .at) (a .rest .now)
+    (count-refused two-byte 0 4096 (a .at) (a .rest .now) (c .before .before .before .wide-count .result) (c .before .before .before .wide-count .ensures) (c .before .refusal .given .1))
+
+pub marks-section-spec : {M : Type 1} → statement M
+marks-section-spec =
+    tie.close
+    (tie.spec
+    wide-count-requires
+    enum-known-c
+    mul-entries
+    entries-requires
+    enum-known-refusal
+    returns
+    returns-2)

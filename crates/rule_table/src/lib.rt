@@ -1,0 +1,76 @@
+// The product table and the letters' elements, read where they stand in the lent bytes of a rule file: no copy is made.
+// These functions are shared by the calls of the library and ask for bytes whose first two sections were checked.
+ghost use mathlib.Core.Path.{_≡_};
+ghost use Prim.Native.Nat.{_<_};
+ghost use Rattle.rule_table.specs.Table.{Table, ProductPlace, ImagePlace, productAt, imageAt};
+ghost use Rattle.rule_table.specs.Answers.{TripleAnswer, PowerAnswer};
+
+// The product of two elements.
+pub fn product(rule: &[u8], n: usize, a: usize, b: usize) -> usize
+    requires { ⌜ ProductPlace (now rule) n a b ⌝ }
+    ensures { λ r. ⌜ r ≡ productAt (now (rule .entry)) n a b ⌝ }
+{
+    rule[1 + (a * n + b)] as usize
+}
+
+// The element of a letter.
+pub fn image(rule: &[u8], n: usize, a: usize) -> usize
+    requires { ⌜ ImagePlace (now rule) n a ⌝ }
+    ensures { λ r. ⌜ r ≡ imageAt (now (rule .entry)) n a ⌝ }
+{
+    rule[2 + n * n + a] as usize
+}
+
+// The first triple, by a, then b, then c, with (a·b)·c not a·(b·c).
+pub enum Triple {
+    At(usize, usize, usize),
+    Nothing,
+}
+
+pub fn first_not_associative(rule: &[u8], n: usize, k: usize) -> Triple
+    requires { ⌜ Table (now rule) n k ⌝ }
+    ensures { λ r. ⌜ TripleAnswer (now (rule .entry)) n k r ⌝ }
+{
+    let found = 'search: loop {
+        for a in 0..n {
+            for b in 0..n {
+                let ab = product(rule, n, a, b);
+                for c in 0..n {
+                    let bc = product(rule, n, b, c);
+                    let left = product(rule, n, ab, c);
+                    let right = product(rule, n, a, bc);
+                    if left != right {
+                        break 'search Triple::At(a, b, c);
+                    }
+                }
+            }
+        }
+        break 'search Triple::Nothing;
+    };
+    found
+}
+
+// The first power of an element that is idempotent, with its exponent, among the exponents 1 to n.
+pub enum Power {
+    Idempotent { element: usize, exponent: usize },
+    Nothing,
+}
+
+pub fn idempotent_power(rule: &[u8], n: usize, k: usize, x: usize) -> Power
+    requires { ⌜ Table (now rule) n k ⌝ }
+    requires { ⌜ x < n ⌝ }
+    ensures { λ r. ⌜ PowerAnswer (now (rule .entry)) n k x r ⌝ }
+{
+    let mut p = x;
+    for i in 0..n {
+        let square = product(rule, n, p, p);
+        if square == p {
+            return Power::Idempotent {
+                element: p,
+                exponent: i + 1,
+            };
+        }
+        p = product(rule, n, p, x);
+    }
+    Power::Nothing
+}

@@ -1,0 +1,146 @@
+-- From the parts of a file to the whole: a count before its entries, the marks' count before the pairs, and the three sections
+-- of a rule one after the other. Assumes nothing.
+use Prim.Native.Nat.{ℕ, _+_, _*_, _-_, _/_, _%_, _≤_}
+use mathlib.Core.Path.{_≡_, refl, sym, ap, _∙_}
+use mathlib.Core.List.{List, _∷_, _++_}
+use native.Mathlib.Omega.{arith}
+use native.Mathlib.Nat.{zero-add, mul-le-mul, div-add-mod'}
+use lib.ListN.{length, getD, take, drop, set, length-set, length-append}
+use lib.Seq.{length-take-le, take-at}
+use Rattle.theory.specs.Rules.{Morphism}
+use Rattle.rule_writer.specs.File.{elementsBytes, lettersBytes, marksBytes, fileOf}
+use Rattle.rule_writer.specs.Writing.{placed, Written, tableMorphism, tableMarks, pairsFrom, CopyPlace, CountedPlace, PairsPlace, MarksPlace, MarksWritten, RulePlace, RuleWritten}
+use Rattle.rule_writer.proofs.Tabulated.{tabulate-take}
+use Rattle.rule_writer.proofs.Placed.{written-store, written-length, written-more, written-front}
+use Rattle.rule_writer.proofs.GoodSections.{file-short}
+use Rattle.rule_writer.proofs.Rows.{stretch-short, section-is}
+
+module _ {entries : List ℕ} {count size : ℕ} {before : List ℕ} {at : ℕ} (p : CountedPlace entries count size before at) where
+  -- where the entries go after their count
+  pub counted-place : CopyPlace entries size (set before at count) (at + 1)
+  counted-place = record { enough = p .enough; room = simp length-set (omega (arith, p .room)) }
+
+  module _ {after : List ℕ} {end : ℕ} where
+    -- the count and the entries in one row
+    pub counted-written : Written (set before at count) (at + 1) (take size entries) after end → Written before at (count ∷ take size entries) after end
+    counted-written w =
+        written-more (written-store before at count (omega (arith, p .room))) w
+        (omega (arith, p .room, length-take-le size entries (p .enough)))
+
+    pub counted-length : Written before at (count ∷ take size entries) after end → length after ≡ length before
+    counted-length w = written-length w (omega (arith, p .room, length-take-le size entries (p .enough)))
+
+    pub counted-end : Written before at (count ∷ take size entries) after end → end ≡ at + (1 + size)
+    counted-end w = omega (arith, w .ends, length-take-le size entries (p .enough))
+
+module _ {marks : List ℕ} {n : ℕ} {before : List ℕ} {at : ℕ} (p : MarksPlace marks n before at) where
+  -- where the pairs go, two bytes on
+  pub marks-place : PairsPlace marks n before (at + 2)
+  marks-place = record { table = p .table; room = omega (arith, p .room) }
+
+  module _ {after : List ℕ} {end : ℕ} (w : Written before (at + 2) (pairsFrom n (tableMarks marks) 0 (n * n)) after end) where
+    short : length (pairsFrom n (tableMarks marks) 0 (n * n)) ≤ 2 * (n * n)
+    short = stretch-short n (tableMarks marks) 0 (n * n)
+
+    -- the buffer has kept its length
+    pub marks-kept : length after ≡ length before
+    marks-kept = written-length w (omega (arith, p .room, short))
+
+    -- half of what was written is as many as the pairs
+    pub marks-count : (end - (at + 2)) / 2 ≡ length (pairsFrom n (tableMarks marks) 0 (n * n)) / 2
+    marks-count = ap (λ (c : ℕ). c / 2) (let e : end - (at + 2) ≡ length (pairsFrom n (tableMarks marks) 0 (n * n)) = omega (arith, w .ends) in e)
+
+    pub marks-count-small : (end - (at + 2)) / 2 ≤ 4096
+    marks-count-small = omega (arith, w .ends, short, mul-le-mul (p .table .small) (p .table .small))
+
+    -- the count before the pairs
+    pub marks-written : MarksWritten marks n before at
+        (set (set after at ((end - (at + 2)) / 2 % 256)) (at + 1) ((end - (at + 2)) / 2 / 256)) end
+    marks-written = record {
+      section = λ m e.
+          rw (section-is m (tableMarks marks) n e, marks-count)
+          (written-front w (omega (arith, p .room, short)) _ _);
+    }
+
+-- three parts one after the other, from the front on
+three-parts : {d e f g : List ℕ} {x y z : List ℕ} {a b end : ℕ} → Written d 0 x e a → Written e a y f b → Written f b z g end
+    → length x + (length y + length z) ≤ length d → Written d 0 (x ++ (y ++ z)) g end
+three-parts {x = x} {y = y} {z = z} w v u h =
+    let k = written-length w (omega arith) in
+    written-more w (written-more v u (omega (arith, w .ends))) (simp length-append (omega arith))
+
+module _ {table images marks : List ℕ} {n k : ℕ} {before : List ℕ} (p : RulePlace table images marks n k before) where
+  cells : n * n ≤ 4096
+  cells = mul-le-mul (p .small) (p .small)
+
+  -- the elements' section
+  elements-is : elementsBytes (tableMorphism table images n k) ≡ n ∷ take (n * n) table
+  unfolding elementsBytes
+  elements-is = ap (λ (l : List ℕ). n ∷ l) (tabulate-take (n * n) _ table (p .table-long) (λ j h. ap (λ (i : ℕ). getD table i 0) (div-add-mod' j n)))
+
+  -- the letters' section
+  letters-is : lettersBytes (tableMorphism table images n k) ≡ k ∷ take k images
+  unfolding lettersBytes
+  letters-is = ap (λ (l : List ℕ). k ∷ l) (tabulate-take k _ images (p .images-long) (λ j h. refl))
+
+  -- where the elements go
+  pub rule-elements : CountedPlace table n (n * n) before 0
+  rule-elements = record { small = omega (arith, p .small); enough = p .table-long; room = omega (arith, cells, p .room) }
+
+  module _ {now : List ℕ} {letters-at : ℕ} (w : Written before 0 (n ∷ take (n * n) table) now letters-at) where
+    kept : length now ≡ length before
+    kept = counted-length rule-elements w
+
+    -- where the letters go
+    pub rule-letters : CountedPlace images k k now letters-at
+    rule-letters = record {
+      small = omega (arith, p .letters-small);
+      enough = p .images-long;
+      room = omega (arith, kept, counted-end rule-elements w, cells, p .letters-small, p .room);
+    }
+
+    module _ {then : List ℕ} {marks-at : ℕ} (v : Written now letters-at (k ∷ take k images) then marks-at) where
+      kept-again : length then ≡ length before
+      kept-again = counted-length rule-letters v ∙ kept
+
+      -- where the marks go
+      pub rule-marks : MarksPlace marks n then marks-at
+      rule-marks = record {
+        table = record { small = p .small; long = p .marks-long };
+        room = omega (arith, kept-again, counted-end rule-elements w, counted-end rule-letters v, cells, p .letters-small, p .room);
+      }
+
+      -- the whole file
+      pub rule-written : {after : List ℕ} {end : ℕ} → MarksWritten marks n then marks-at after end → RuleWritten table images marks n k before after end
+      unfolding fileOf placed
+      rule-written {after} {end} u = record {
+        ends = whole .ends ∙ zero-add _;
+        holds = whole .holds ∙ ap (λ (i : ℕ). file ++ drop i before) (zero-add (length file));
+      }
+        where
+          m : Morphism
+          m = tableMorphism table images n k
+
+          file : List ℕ
+          file = fileOf m (tableMarks marks)
+
+          rest : List ℕ
+          rest = lettersBytes m ++ marksBytes m (tableMarks marks)
+
+          short : length file ≤ 12308
+          short =
+              file-short m (tableMarks marks)
+              (record { some = p .some; small = p .small; letters-some = p .letters-some; letters-small = p .letters-small })
+
+          whole : Written before 0 file after end
+          whole =
+              let w′ : Written before 0 (elementsBytes m) now letters-at = rw elements-is w in
+              let v′ : Written now letters-at (lettersBytes m) then marks-at = rw letters-is v in
+              three-parts w′ v′ (u .section m refl)
+              (omega (arith, p .room, short, length-append (elementsBytes m) rest, length-append (lettersBytes m) (marksBytes m (tableMarks marks))))
+
+-- the front of the buffer is the file
+pub rule-front : {table images marks before after : List ℕ} {n k end : ℕ} → RuleWritten table images marks n k before after end
+    → take end after ≡ fileOf (tableMorphism table images n k) (tableMarks marks)
+rule-front {table} {images} {marks} {n = n} {k = k} {end = end} w =
+    ap (take end) (w .holds) ∙ take-at (fileOf (tableMorphism table images n k) (tableMarks marks)) _ end (sym (w .ends))

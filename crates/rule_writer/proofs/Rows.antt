@@ -1,0 +1,99 @@
+-- Stretches of marked pairs: one stretch after another, one pair alone, and all pairs as the marks' section of a file has them.
+-- What was written of the first stretch and then of the next is written of both. Assumes nothing.
+use Prim.Native.Nat.{ℕ, _+_, _*_, _/_, _%_, _≤_, _<_}
+use mathlib.Core.Path.{_≡_, refl, sym, ap, ap₂, _∙_}
+use mathlib.Core.Bool.{Bool, true, false, cond}
+use mathlib.Core.List.{List, [], _∷_, _++_}
+use native.Mathlib.Omega.{arith}
+use native.Mathlib.Nat.{mul-div-right}
+use lib.Dec.{ltb}
+use lib.ListN.{length, getD, set}
+use lib.Arith.{digits-div, digits-mod}
+use borrow.Author.Tests.{lt-ltb, le-ltb}
+use Rattle.finite.specs.Select.{select, selectFrom}
+use Rattle.theory.specs.Rules.{Morphism, Marking}
+use Rattle.rule_writer.specs.File.{isMarked, markNumbers, pairBytes, marksBytes}
+use Rattle.rule_writer.specs.Writing.{Written, sized, tableMarks, pairIfMarked, pairsFrom}
+use Rattle.rule_writer.proofs.Listed.{select-listed, select-more}
+use Rattle.rule_writer.proofs.Pairs.{pairs-length, pairs-append, pairs-size}
+use Rattle.rule_writer.proofs.Placed.{written-none, written-more, written-length, written-two}
+
+module _ (n : ℕ) (marks : Marking) where
+  -- no pairs
+  pub stretch-none : (from : ℕ) → pairsFrom n marks from 0 ≡ []
+  unfolding pairsFrom selectFrom pairBytes
+  stretch-none from = refl
+
+  -- one stretch after another
+  pub stretch-more : (from j k : ℕ) → pairsFrom n marks from (j + k) ≡ pairsFrom n marks from j ++ pairsFrom n marks (from + j) k
+  unfolding pairsFrom
+  stretch-more from j k = ap (pairBytes (sized n)) (select-more (isMarked (sized n) marks) from j k) ∙ pairs-append (sized n) _ _
+
+  -- two bytes at most for each pair
+  pub stretch-short : (from count : ℕ) → length (pairsFrom n marks from count) ≤ 2 * count
+  unfolding pairsFrom
+  stretch-short from count =
+      omega (arith, pairs-length (sized n) (selectFrom count from (isMarked (sized n) marks) (λ i. i)), select-listed (isMarked (sized n) marks) from count .short)
+
+  -- one pair
+  pub stretch-one : (s e : ℕ) → e < n → pairsFrom n marks (s * n + e) 1 ≡ pairIfMarked marks s e
+  unfolding pairsFrom selectFrom pairBytes isMarked pairIfMarked
+  stretch-one s e h = rw (digits-div s h, digits-mod s h) (go (ltb 0 (marks s e)))
+    where
+      go : (b : Bool) → pairBytes (sized n) (cond b ((s * n + e) ∷ []) []) ≡ cond b (s ∷ e ∷ []) []
+      go true = ap₂ (λ (x y : ℕ). x ∷ y ∷ []) (digits-div s h) (digits-mod s h)
+      go false = refl
+
+-- the numbers of the marked pairs depend on the size only
+numbers-are : (m : Morphism) (marks : Marking) (n : ℕ) → m .size ≡ n
+    → markNumbers m marks ≡ selectFrom (n * n) 0 (isMarked (sized n) marks) (λ i. i)
+unfolding markNumbers select isMarked
+numbers-are m marks n e = ap (λ (k : ℕ). selectFrom (k * k) 0 (λ i. ltb 0 (marks (i / k) (i % k))) (λ i. i)) e
+
+-- half of the pairs' bytes are as many as the pairs
+half : (m : Morphism) (xs : List ℕ) → length xs ≡ length (pairBytes m xs) / 2
+half m xs = sym (ap (λ (c : ℕ). c / 2) (pairs-length m xs) ∙ mul-div-right (length xs) (omega arith))
+
+-- all pairs after their count are the marks' section
+pub section-is : (m : Morphism) (marks : Marking) (n : ℕ) → m .size ≡ n
+    → marksBytes m marks
+    ≡ (length (pairsFrom n marks 0 (n * n)) / 2 % 256 ∷ length (pairsFrom n marks 0 (n * n)) / 2 / 256 ∷ pairsFrom n marks 0 (n * n))
+unfolding marksBytes pairsFrom
+section-is m marks n e =
+    ap (λ (xs : List ℕ). length xs % 256 ∷ length xs / 256 ∷ pairBytes m xs) (numbers-are m marks n e)
+    ∙ ap₂ (λ (c : ℕ) (l : List ℕ). c % 256 ∷ c / 256 ∷ l) (half (sized n) _) (pairs-size (sized n) m e _)
+
+module _ (n : ℕ) (marks : Marking) (from : ℕ) {d : List ℕ} {at : ℕ} where
+  -- before the first pair nothing is written
+  pub rows-start : Written d at (pairsFrom n marks from 0) d at
+  rows-start = rw (stretch-none n marks from) (written-none d at)
+
+  module _ {e : List ℕ} {next : ℕ} (j : ℕ) (w : Written d at (pairsFrom n marks from j) e next) where
+    -- where the next pair is written
+    pub rows-next : next ≤ at + 2 * j
+    rows-next = omega (arith, w .ends, stretch-short n marks from j)
+
+    -- the buffer keeps its length
+    pub rows-length : at + 2 * j ≤ length d → length e ≡ length d
+    rows-length h = written-length w (omega (arith, stretch-short n marks from j))
+
+    -- the next stretch is written after what is there
+    pub rows-more : (k : ℕ) {f : List ℕ} {end : ℕ} → Written e next (pairsFrom n marks (from + j) k) f end → at + 2 * (j + k) ≤ length d
+        → Written d at (pairsFrom n marks from (j + k)) f end
+    rows-more k v h =
+        rw (stretch-more n marks from j k) (written-more w v (omega (arith, stretch-short n marks from j, stretch-short n marks (from + j) k)))
+
+    -- room for the stretch that comes next
+    pub rows-room : (k : ℕ) → at + 2 * (j + k) ≤ length d → next + 2 * k ≤ length e
+    rows-room k h = omega (arith, rows-next, rows-length (omega arith))
+
+-- one pair, where it is marked and where it is not
+module _ (marks : List ℕ) (s e : ℕ) (d : List ℕ) (at : ℕ) where
+  pub pair-in : 0 < getD marks (s * 64 + e) 0 → at + 2 ≤ length d
+      → Written d at (pairIfMarked (tableMarks marks) s e) (set (set d at s) (at + 1) e) (at + 2)
+  unfolding pairIfMarked tableMarks
+  pair-in h l = simp (lt-ltb _ _ h) (written-two d at s e l)
+
+  pub pair-out : getD marks (s * 64 + e) 0 ≤ 0 → Written d at (pairIfMarked (tableMarks marks) s e) d at
+  unfolding pairIfMarked tableMarks
+  pair-out h = simp (le-ltb _ _ h) (written-none d at)

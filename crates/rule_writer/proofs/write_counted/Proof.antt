@@ -1,0 +1,27 @@
+-- `rule_writer::write_counted` meets its contract: a store writes the count, and the copy goes on right after it. Assumes nothing.
+use borrow.Author.Needs.{needs}
+use Rattle.rule_writer.proofs.Parts.{counted-place, counted-written, counted-length}
+use Rattle.rule_writer.proofs.write_counted.Statement.{statement}
+use Rattle.rule_writer.proofs.write_counted.Tie as tie
+
+cast-out : tie.Need-cast-out
+cast-out c = search needs
+
+slice-write-out : tie.Need-slice-write-out
+slice-write-out c = search needs
+
+add-copy : tie.Need-add-copy
+add-copy c = search needs
+
+copy-requires : tie.Need-copy-requires
+copy-requires c κs = counted-place (c .before .before .before .pre)
+
+returns : tie.Need-returns
+returns c = counted-written (c .before .before .before .before .before .before .pre) (c .before .before .copy .ensures)
+
+same-length : tie.Need-same-length
+same-length c = counted-length (c .before .before .before .before .before .before .pre) (returns c)
+
+pub write-counted-spec : {M : Type 1} → statement M
+write-counted-spec =
+    tie.close (tie.spec cast-out slice-write-out add-copy copy-requires same-length returns)

@@ -1,0 +1,44 @@
+-- `rule_writer::write_rule` meets its contract: the three sections are written one after the other, and each leaves room for the
+-- next. Assumes nothing.
+use borrow.Author.Needs.{needs}
+use Rattle.rule_writer.proofs.Parts.{rule-elements, rule-letters, rule-marks, rule-written}
+use Rattle.rule_writer.proofs.write_rule.Statement.{statement}
+use Rattle.rule_writer.proofs.write_rule.Tie as tie
+
+mul-write-counted : tie.Need-mul-write-counted
+mul-write-counted c = search needs
+
+write-counted-requires : tie.Need-write-counted-requires
+write-counted-requires c κs = rule-elements (c .before .before .before .before .before .pre)
+
+write-counted-requires-2 : tie.Need-write-counted-requires-2
+write-counted-requires-2 c κs =
+    let elements = c .before .before .before in
+    rule-letters (elements .before .before .before .before .before .before .pre) (elements .write-counted .ensures)
+
+write-marks-requires : tie.Need-write-marks-requires
+write-marks-requires c κs =
+    let letters = c .before .before .before in
+    let elements = letters .before .before .before .before in
+    rule-marks (elements .before .before .before .before .before .before .pre) (elements .write-counted .ensures) (letters .write-counted2 .ensures)
+
+same-length : tie.Need-same-length
+same-length c = search needs
+
+returns : tie.Need-returns
+returns c =
+    let marks = c .before .before in
+    let letters = marks .before .before .before .before in
+    let elements = letters .before .before .before .before in
+    rule-written (elements .before .before .before .before .before .before .pre) (elements .write-counted .ensures) (letters .write-counted2 .ensures) (marks .write-marks .ensures)
+
+pub write-rule-spec : {M : Type 1} → statement M
+write-rule-spec =
+    tie.close
+    (tie.spec
+    mul-write-counted
+    write-counted-requires
+    write-counted-requires-2
+    write-marks-requires
+    same-length
+    returns)

@@ -1,0 +1,102 @@
+-- What the functions of this crate ask for and what they write: bytes put into a lent buffer at a place, with every other byte
+-- as it was. Assumes nothing.
+use Prim.Native.Nat.{ℕ, _+_, _*_, _≤_, _<_}
+use mathlib.Core.Path.{_≡_}
+use mathlib.Core.Bool.{cond}
+use mathlib.Core.List.{List, [], _∷_, _++_}
+use lib.Dec.{ltb}
+use lib.ListN.{length, getD, take, drop}
+use Rattle.finite.specs.Select.{selectFrom}
+use Rattle.theory.specs.Rules.{Morphism, Marking}
+use Rattle.rule_writer.specs.File.{isMarked, pairBytes, marksBytes, fileOf}
+
+-- a buffer with the bytes put in place of its own from a place on
+unfoldable pub placed : List ℕ → ℕ → List ℕ → List ℕ
+placed buffer at bytes = take at buffer ++ (bytes ++ drop (at + length bytes) buffer)
+
+-- the bytes were put there, and `end` is the place after them
+pub record Written (before : List ℕ) (at : ℕ) (bytes after : List ℕ) (end : ℕ) : Type 0 where
+  pub holds : after ≡ placed before at bytes
+  pub ends : end ≡ at + length bytes
+
+-- the morphism of n elements and k letters with the product a·b in byte a·n+b of a table and the image of the letter a in byte
+-- a of another
+abbrev pub tableMorphism : List ℕ → List ℕ → ℕ → ℕ → Morphism
+tableMorphism table images n k =
+    record { size = n; letters = k; product = λ a b. getD table (a * n + b) 0; image = λ a. getD images a 0 }
+
+-- the marking with the number of the pair (s, e) in byte s·64+e
+unfoldable pub tableMarks : List ℕ → Marking
+tableMarks marks s e = getD marks (s * 64 + e) 0
+
+-- the bytes of a pair where it is marked, and none where it is not
+unfoldable pub pairIfMarked : Marking → ℕ → ℕ → List ℕ
+pairIfMarked marks s e = cond (ltb 0 (marks s e)) (s ∷ e ∷ []) []
+
+-- n elements and nothing else: what the pairs of a file look at
+abbrev pub sized : ℕ → Morphism
+sized n = record { size = n; letters = 0; product = λ a b. 0; image = λ a. 0 }
+
+-- the bytes of the marked ones among `count` pairs of n elements, from the pair with the number `from` on
+unfoldable pub pairsFrom : ℕ → Marking → ℕ → ℕ → List ℕ
+pairsFrom n marks from count = pairBytes (sized n) (selectFrom count from (isMarked (sized n) marks) (λ i. i))
+
+-- `count` bytes to copy, and room for them at a place
+pub record CopyPlace (from : List ℕ) (count : ℕ) (out : List ℕ) (at : ℕ) : Type 0 where
+  pub enough : count ≤ length from
+  pub room : at + count ≤ length out
+
+-- entries to write after their count, and room for both
+pub record CountedPlace (entries : List ℕ) (count size : ℕ) (out : List ℕ) (at : ℕ) : Type 0 where
+  pub small : count < 256
+  pub enough : size ≤ length entries
+  pub room : at + (1 + size) ≤ length out
+
+-- a table of marks for up to 64 elements
+pub record MarksTable (marks : List ℕ) (n : ℕ) : Type 0 where
+  pub small : n ≤ 64
+  pub long : 4096 ≤ length marks
+
+-- a pair of elements in a table of marks, and room for its two bytes
+pub record PairPlace (marks : List ℕ) (s e : ℕ) (out : List ℕ) (at : ℕ) : Type 0 where
+  pub long : 4096 ≤ length marks
+  pub start-inside : s < 64
+  pub cycle-inside : e < 64
+  pub room : at + 2 ≤ length out
+
+-- a row of a table of marks, and room for all of its pairs
+pub record RowPlace (marks : List ℕ) (n s : ℕ) (out : List ℕ) (at : ℕ) : Type 0 where
+  pub table : MarksTable marks n
+  pub inside : s < n
+  pub room : at + 2 * n ≤ length out
+
+-- a table of marks, and room for all of its pairs
+pub record PairsPlace (marks : List ℕ) (n : ℕ) (out : List ℕ) (at : ℕ) : Type 0 where
+  pub table : MarksTable marks n
+  pub room : at + 2 * (n * n) ≤ length out
+
+-- a table of marks, and room for the longest marks' section of n elements
+pub record MarksPlace (marks : List ℕ) (n : ℕ) (out : List ℕ) (at : ℕ) : Type 0 where
+  pub table : MarksTable marks n
+  pub room : at + (2 + 2 * (n * n)) ≤ length out
+
+-- the marks' section of any morphism with n elements was written
+pub record MarksWritten (marks : List ℕ) (n : ℕ) (before : List ℕ) (at : ℕ) (after : List ℕ) (end : ℕ) : Type 0 where
+  pub section : (m : Morphism) → m .size ≡ n → Written before at (marksBytes m (tableMarks marks)) after end
+
+-- the tables of a rule within the limits of the format, and room for the longest file
+pub record RulePlace (table images marks : List ℕ) (n k : ℕ) (out : List ℕ) : Type 0 where
+  pub some : 1 ≤ n
+  pub small : n ≤ 64
+  pub letters-some : 1 ≤ k
+  pub letters-small : k ≤ 16
+  pub table-long : n * n ≤ length table
+  pub images-long : k ≤ length images
+  pub marks-long : 4096 ≤ length marks
+  pub room : 12308 ≤ length out
+
+-- the rule of the tables was written to the front of the buffer, `end` bytes long
+pub record RuleWritten (table images marks : List ℕ) (n k : ℕ) (before after : List ℕ) (end : ℕ) : Type 0 where
+  pub ends : end ≡ length (fileOf (tableMorphism table images n k) (tableMarks marks))
+  pub holds : after ≡ fileOf (tableMorphism table images n k) (tableMarks marks)
+      ++ drop (length (fileOf (tableMorphism table images n k) (tableMarks marks))) before

@@ -1,0 +1,97 @@
+// Writing a rule file into a lent buffer: the elements and the letters are copied from tables of bytes, and the marks are
+// written pair by pair. Each function writes at a place, leaves every other byte as it was, and answers the place after what it
+// wrote.
+ghost use mathlib.Core.List.{_∷_};
+ghost use lib.ListN.{take};
+ghost use Prim.Native.Nat.{_*_};
+ghost use Rattle.rule_writer.specs.Writing.{Written, CopyPlace, CountedPlace, PairPlace, RowPlace, PairsPlace, MarksPlace, MarksWritten, RulePlace, RuleWritten, tableMarks, pairIfMarked, pairsFrom};
+
+// Copies the first `count` bytes of a slice.
+pub fn copy(from: &[u8], count: usize, out: &mut [u8], at: usize) -> usize
+    requires { ⌜ CopyPlace (now from) count (now out) at ⌝ }
+    ensures { λ r. ⌜ Written (now (out .entry)) at (take count (now (from .entry))) (now (out .exit)) r ⌝ }
+{
+    for i in 0..count {
+        out[at + i] = from[i];
+    }
+    at + count
+}
+
+// Writes a count of one byte, then the first `size` bytes of a slice.
+pub fn write_counted(entries: &[u8], count: usize, size: usize, out: &mut [u8], at: usize) -> usize
+    requires { ⌜ CountedPlace (now entries) count size (now out) at ⌝ }
+    ensures { λ r. ⌜ Written (now (out .entry)) at (count ∷ take size (now (entries .entry))) (now (out .exit)) r ⌝ }
+{
+    out[at] = count as u8;
+    copy(entries, size, out, at + 1)
+}
+
+// Writes the pair (s, e) where it is marked.
+fn write_pair(marks: &[u8], s: usize, e: usize, out: &mut [u8], at: usize) -> usize
+    requires { ⌜ PairPlace (now marks) s e (now out) at ⌝ }
+    ensures { λ r. ⌜ Written (now (out .entry)) at (pairIfMarked (tableMarks (now (marks .entry))) s e) (now (out .exit)) r ⌝ }
+{
+    let mark = marks[s * 64 + e];
+    if 0 < mark {
+        out[at] = s as u8;
+        out[at + 1] = e as u8;
+        return at + 2;
+    }
+    at
+}
+
+// Writes the marked pairs that begin with s, by e.
+fn write_row(marks: &[u8], n: usize, s: usize, out: &mut [u8], at: usize) -> usize
+    requires { ⌜ RowPlace (now marks) n s (now out) at ⌝ }
+    ensures { λ r. ⌜ Written (now (out .entry)) at (pairsFrom n (tableMarks (now (marks .entry))) (s * n) n) (now (out .exit)) r ⌝ }
+{
+    let mut next = at;
+    for e in 0..n {
+        next = write_pair(marks, s, e, out, next);
+    }
+    next
+}
+
+// Writes the marked pairs, by s, then by e.
+fn write_pairs(marks: &[u8], n: usize, out: &mut [u8], at: usize) -> usize
+    requires { ⌜ PairsPlace (now marks) n (now out) at ⌝ }
+    ensures { λ r. ⌜ Written (now (out .entry)) at (pairsFrom n (tableMarks (now (marks .entry))) 0 (n * n)) (now (out .exit)) r ⌝ }
+{
+    let mut next = at;
+    for s in 0..n {
+        next = write_row(marks, n, s, out, next);
+    }
+    next
+}
+
+// Writes the marks' section of n elements from a table of marks that has a byte for each pair (s, e), at s * 64 + e: the pairs
+// whose byte is not 0, and before them their count, low byte first.
+pub fn write_marks(marks: &[u8], n: usize, out: &mut [u8], at: usize) -> usize
+    requires { ⌜ MarksPlace (now marks) n (now out) at ⌝ }
+    ensures { λ r. ⌜ MarksWritten (now (marks .entry)) n (now (out .entry)) at (now (out .exit)) r ⌝ }
+{
+    let first = at + 2;
+    let end = write_pairs(marks, n, out, first);
+    let count = (end - first) / 2;
+    out[at] = (count % 256) as u8;
+    out[at + 1] = (count / 256) as u8;
+    end
+}
+
+// Writes a rule of n elements and k letters: its products by rows, the element of each letter, and its marks. Answers the file's
+// length.
+pub fn write_rule(
+    table: &[u8],
+    images: &[u8],
+    marks: &[u8],
+    n: usize,
+    k: usize,
+    out: &mut [u8],
+) -> usize
+    requires { ⌜ RulePlace (now table) (now images) (now marks) n k (now out) ⌝ }
+    ensures { λ r. ⌜ RuleWritten (now (table .entry)) (now (images .entry)) (now (marks .entry)) n k (now (out .entry)) (now (out .exit)) r ⌝ }
+{
+    let letters_at = write_counted(table, n, n * n, out, 0);
+    let marks_at = write_counted(images, k, k, out, letters_at);
+    write_marks(marks, n, out, marks_at)
+}

@@ -1,0 +1,86 @@
+// Runs `rules::reduce` over document 01's small rules and over rules of 64 elements, and writes a line for each.
+use rules::Reduced;
+
+// What a reduction wrote: its bytes where they are few, and else how many there are and the number of its elements.
+fn written_line(out: &[u8], length: usize) {
+    example_text::word_and(b"bytes ", length);
+    if length < 32 {
+        example_text::row(b":", out, length);
+    } else {
+        example_text::row(b", elements", out, 1);
+    }
+    example_text::word(b"\n");
+}
+
+fn reduced_line(answer: Reduced, out: &[u8]) {
+    match answer {
+        Reduced::Rule(length) => written_line(out, length),
+        Reduced::Refused {
+            refusal,
+            input,
+            place,
+        } => example_text::refused_line(rules::number(refusal), input, place),
+    }
+}
+
+fn tell(rule: &[u8], scratch: &mut [u8]) {
+    let mut out = [9u8; 12308];
+    reduced_line(rules::reduce(rule, &mut out, scratch), &out);
+}
+
+// How many bytes a reduction wrote, 0 for a refusal.
+fn length_of(answer: Reduced) -> usize {
+    let Reduced::Rule(length) = answer else {
+        return 0;
+    };
+    length
+}
+
+// Reduces what a reduction wrote.
+fn tell_again(rule: &[u8], scratch: &mut [u8]) {
+    let mut out = [9u8; 12308];
+    let length = length_of(rules::reduce(rule, &mut out, scratch));
+    tell(example_text::front(&out, length), scratch);
+}
+
+fn answer(line: &[u8], rule: &[u8], scratch: &mut [u8]) {
+    example_text::label(line);
+    match example_text::command(line) {
+        b'a' => tell_again(rule, scratch),
+        _ => tell(rule, scratch),
+    }
+}
+
+fn run(line: &[u8], scratch: &mut [u8]) {
+    let mut rule = [0u8; 12308];
+    let length = example_text::numbers(line, 2, &mut rule);
+    if example_text::command(line) != 0 {
+        answer(line, &rule[..length], scratch);
+    }
+}
+
+fn run_all(text: &[u8], scratch: &mut [u8]) {
+    for i in 0..text.len() {
+        run(example_text::part(text, b'\n', i), scratch);
+    }
+}
+
+fn main() {
+    let mut scratch = [7u8; 65536];
+    run_all(
+        b"M1 W: reduce: 2 0 0 0 1 2 0 1 1 0 0 0\n\
+        M4 W with all pairs: reduce: 2 0 0 0 1 2 0 1 3 0 0 0 0 1 1 1\n\
+        M6 Z: reduce: 2 0 1 1 0 2 1 0 1 0 0 0\n\
+        M7 Z with letter 0 only: reduce: 2 0 1 1 0 1 1 1 0 0 0\n\
+        # A reduction of a reduction has as many elements.\n\
+        W: reduce: 2 0 0 0 1 2 0 1 1 0 0 0\n\
+        W again: again: 2 0 0 0 1 2 0 1 1 0 0 0\n\
+        # A set of letters occurs again and again, and is accepted where it is even. No two of the 64 sets can stand for each other.\n\
+        64 sets of letters: reduce: 64 unions 16 1 2 4 8 16 32 0 1 2 4 8 16 32 0 1 2 109 1 marks\n\
+        # The remainders by 64 with the mark (0, 0), every letter of image 1, so that every lasso is accepted.\n\
+        64 remainders: reduce: 64 sums 16 16*1 1 3*0\n\
+        # How often letter 0 occurs, up to five times, and accepted from five on. Blocks split one at a time, so three rounds are needed.\n\
+        five times: reduce: 6 0 1 2 3 4 5 1 2 3 4 5 5 2 3 4 5 5 5 3 4 5 5 5 5 4 5 5 5 5 5 5 5 5 5 5 5 2 1 0 2 0 5 0 5 5\n",
+        &mut scratch,
+    );
+}
