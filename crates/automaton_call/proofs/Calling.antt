@@ -10,13 +10,14 @@ use Rattle.answer.proofs.Order.{refused-before, passed-before}
 use Rattle.formats.specs.RuleChecks.{ruleSize}
 use Rattle.formats.proofs.Buffers.{buffer-short, buffer-long}
 use Rattle.rule_check.proofs.Left.{short-left, long-left}
-use Rattle.automaton_format.specs.Format.{statesOf, lettersOf, hasTransition}
+use Rattle.formats.specs.AutomatonFile.{statesOf, lettersOf, hasTransition}
 use Rattle.automaton_file.specs.Answers.{TransitionsLaid, ReadPromise}
 use Rattle.automaton_file.specs.declared.AutomatonRead.the-variants.{Automaton, Refused as Read-refused}
 use Rattle.automaton_file.proofs.Calls.{scratch-long, called-good, zeros-left}
-use Rattle.automaton_call.specs.Promise.{ReadHere, MadePromise, RulePromise}
-use Rattle.automaton_call.specs.declared.Translated.{Translated}
-use Rattle.automaton_call.specs.declared.Translated.the-variants.{Refused}
+use Rattle.automaton_call.specs.Promise.{ReadHere, MadePromise}
+use Rattle.promises.specs.Automaton.{RulePromise}
+use Rattle.promises.specs.declared.Translated.{Translated}
+use Rattle.promises.specs.declared.Translated.the-variants.{Refused}
 
 module _ (bytes out entry : List ℕ) where
   -- a short buffer is refused, and both are left as they came

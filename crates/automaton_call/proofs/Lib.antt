@@ -5,4 +5,3 @@ pub mod Order
 pub mod Made
 pub mod Making
 pub mod Calling
-pub mod OneAnswer

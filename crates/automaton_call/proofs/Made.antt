@@ -21,7 +21,7 @@ use Rattle.automaton_matrix_search.specs.Lists.{matrixAt, ListPlace, StandsHere
 use Rattle.automaton_matrix_search.proofs.Growing.{kept-sym, kept-less, here-kept}
 use Rattle.automaton_matrix_search.proofs.Staying.{matrix-stays}
 use Rattle.automaton_table.specs.Laying.{laidRule, laidMarks, initialStates, StepList, ProductNumber, MarkPlace, RuleLaid}
-use Rattle.rule_first_words.specs.FirstWords.{ByFirstWords}
+use Rattle.formats.specs.FirstWords.{ByFirstWords}
 use Rattle.automaton_call.proofs.Order.{table-by-first-words}
 use Rattle.automaton_table.proofs.Staying.{step-stays, product-number-stays}
 use Rattle.automaton_table.proofs.Marks.{recurs-same}

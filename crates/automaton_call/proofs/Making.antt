@@ -10,11 +10,11 @@ use Rattle.buchi.proofs.AutomatonRule.{elements-reached, marked-linked, rule-ac
 use Rattle.automaton_matrix_search.specs.Lists.{matrixAt, AllListed, TooRich, ListAnswer, MatricesAnswer}
 use Rattle.automaton_matrix_search.specs.declared.MatrixCount.{MatrixCount}
 use Rattle.automaton_matrix_search.specs.declared.MatrixCount.the-variants.{Listed, TooMany}
-use Rattle.rule_writer.proofs.ReadBack.{written-rule}
-use Rattle.automaton_call.specs.Meaning.{automatonOf, richCheck}
+use Rattle.formats.proofs.ReadBack.{written-rule}
+use Rattle.promises.specs.Automaton.{automatonOf, richCheck}
 use Rattle.automaton_table.specs.Laying.{laidRule, laidMarks, StepList, MarkPlace, RuleLaid, WritePlace, LaidWritten}
 use Rattle.automaton_call.specs.Promise.{ReadHere, MadePromise}
-use Rattle.automaton_call.specs.declared.Translated.the-variants.{Rule, Refused}
+use Rattle.promises.specs.declared.Translated.the-variants.{Rule, Refused}
 use Rattle.automaton_call.proofs.Reading.{read-stands, read-place, read-letters}
 use Rattle.automaton_call.proofs.Made.{step-list, mark-place, laid-lawful, laid-matrices, laid-order, laid-marking, not-rich}
 

@@ -11,7 +11,7 @@ use Rattle.buchi.proofs.Products.{product-same, same-refl, same-sym, same-trans
 use Rattle.buchi.proofs.MatrixLists.{Among, step-matrix, FoundInOrder}
 use Rattle.buchi.proofs.MatrixTables.{TableOf, table-lawful}
 use Rattle.rule_reach.specs.Reach.{wordStep}
-use Rattle.rule_first_words.specs.FirstWords.{ByFirstWords}
+use Rattle.formats.specs.FirstWords.{ByFirstWords}
 use Rattle.rule_first_words.proofs.Ordered.{entry, found-by-first-words}
 
 -- what a letter makes of an entry: an element, with the matrix of that step

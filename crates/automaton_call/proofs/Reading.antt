@@ -6,12 +6,12 @@ use mathlib.Core.List.{List}
 use native.Mathlib.Omega.{arith}
 use lib.ListN.{length, getD, take, drop}
 use lib.Dec.{eqb, ltb}
-use Rattle.formats.specs.Format.{oneIf}
-use Rattle.automaton_format.specs.Format.{statesOf, kindAt, isInitial, isFinal, hasTransition, lettersAt, transitionsAt, automatonEnd}
+use Rattle.formats.specs.RuleFile.{oneIf}
+use Rattle.formats.specs.AutomatonFile.{statesOf, kindAt, isInitial, isFinal, hasTransition, lettersAt, transitionsAt, automatonEnd}
 use Rattle.automaton_matrices.specs.Bytes.{initialAt, finalAt, stepAt, Stands}
 use Rattle.automaton_matrix_search.specs.Lists.{ListPlace, StandsHere}
 use Rattle.scratch.proofs.Parts.{part-length, part-byte}
-use Rattle.automaton_call.specs.Meaning.{automatonOf}
+use Rattle.promises.specs.Automaton.{automatonOf}
 use Rattle.automaton_call.specs.Promise.{ReadHere}
 
 -- "0 plain, 1 initial, 2 final, 3 both": the final kinds are those above 1

@@ -7,10 +7,10 @@ use native.Mathlib.Omega.{arith}
 use native.Mathlib.Nat.{mul-le-mul}
 use lib.Dec.{ltb}
 use lib.ListN.{length, getD, take, drop}
-use Rattle.rule_writer.specs.File.{fileOf}
+use Rattle.formats.specs.WrittenFile.{fileOf}
 use Rattle.rule_writer.specs.Writing.{tableMorphism, tableMarks, RulePlace, RuleWritten}
-use Rattle.rule_writer.proofs.Agree.{Agree}
-use Rattle.rule_writer.proofs.Same.{SameMarks, file-same}
+use Rattle.formats.proofs.Agree.{Agree}
+use Rattle.formats.proofs.Same.{SameMarks, file-same}
 use Rattle.scratch.proofs.Parts.{part-length, part-byte}
 use Rattle.automaton_matrix_search.specs.Lists.{stepPlace}
 use Rattle.automaton_table.specs.Laying.{laidRule, laidMarks, WritePlace, LaidWritten}

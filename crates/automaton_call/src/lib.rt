@@ -10,12 +10,14 @@ use automaton_marks::lay_marks;
 use automaton_matrix_list::list_matrices;
 use automaton_matrix_search::MatrixCount;
 use automaton_table::lay_products;
+use promises::Translated;
 use rule_writer::write_rule;
 use sections::zero;
 ghost use Prim.Native.Nat.{_<_};
 ghost use lib.ListN.{length};
 ghost use Rattle.automaton_table.specs.Laying.{StepList, MarkPlace, RuleLaid, WritePlace, LaidWritten};
-ghost use Rattle.automaton_call.specs.Promise.{ReadHere, MadePromise, RulePromise};
+ghost use Rattle.automaton_call.specs.Promise.{ReadHere, MadePromise};
+ghost use Rattle.promises.specs.Automaton.{RulePromise};
 
 // Lays out the rule whose elements are the listed matrices.
 fn lay_rule(kinds: &[u8], n: usize, scratch: &mut [u8], count: usize)
@@ -36,16 +38,6 @@ fn write_laid(scratch: &[u8], count: usize, k: usize, out: &mut [u8]) -> usize
     let images = &scratch[12288..];
     let marks = &scratch[24576..];
     write_rule(table, images, marks, count, k, out)
-}
-
-// The number of bytes that were written.
-pub enum Translated {
-    Rule(usize),
-    Refused {
-        refusal: Refusal,
-        input: usize,
-        place: usize,
-    },
 }
 
 // The rule of an automaton whose transitions stand in scratch, unless it has too many matrices.

@@ -8,10 +8,10 @@ use Rattle.answer.specs.declared.Refusal.{Refusal}
 use Rattle.answer.specs.Checks.{passed, FirstFailure}
 use Rattle.answer.proofs.Order.{passes-head, passes-tail}
 use Rattle.formats.specs.RuleChecks.{scratchSize}
-use Rattle.rule_check.specs.Answers.{afterCall}
+use Rattle.formats.specs.Calls.{afterCall}
 use Rattle.rule_check.proofs.Promise.{zeros-after}
-use Rattle.automaton_format.specs.AutomatonChecks.{readChecks}
-use Rattle.automaton_format.specs.GoodAutomaton.{GoodAutomaton}
+use Rattle.formats.specs.AutomatonChecks.{readChecks}
+use Rattle.formats.proofs.GoodAutomaton.{GoodAutomaton}
 use Rattle.automaton_file.specs.declared.AutomatonRead.{AutomatonRead}
 use Rattle.automaton_file.specs.declared.AutomatonRead.the-variants.{Automaton, Refused}
 use Rattle.automaton_file.specs.Answers.{ReadPromise}

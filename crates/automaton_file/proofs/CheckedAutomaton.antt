@@ -6,9 +6,9 @@ use native.Mathlib.Omega.{arith}
 use lib.ListN.{length}
 use Rattle.answer.specs.Checks.{passed, FirstFailure}
 use Rattle.answer.proofs.Order.{passed-first, passed-last, passes-head, passes-tail}
-use Rattle.automaton_format.specs.Format.{transitionsOf, automatonEnd}
-use Rattle.automaton_format.specs.AutomatonChecks.{layoutChecks, contentChecks, automatonChecks}
-use Rattle.automaton_format.specs.GoodAutomaton.{GoodSections, GoodAutomaton}
+use Rattle.formats.specs.AutomatonFile.{transitionsOf, automatonEnd}
+use Rattle.formats.specs.AutomatonChecks.{layoutChecks, contentChecks, automatonChecks}
+use Rattle.formats.proofs.GoodAutomaton.{GoodSections, GoodAutomaton}
 use Rattle.automaton_file.proofs.Passed.{good-sections}
 use Rattle.automaton_file.proofs.RepeatedOrder.{AllFresh, passed-fresh}
 

@@ -11,9 +11,9 @@ use Rattle.formats.specs.RuleChecks.{trailingCheck}
 use Rattle.rule_marks.specs.declared.Fault.{Fault}
 use Rattle.rule_marks.specs.declared.Fault.the-variants.{Nothing, Refused}
 use Rattle.rule_marks.specs.Faults.{FaultAnswer}
-use Rattle.automaton_format.specs.Format.{lettersAt, transitionsAt, transitionsOf, automatonEnd}
-use Rattle.automaton_format.specs.AutomatonChecks.{repeatedChecks, contentChecks}
-use Rattle.automaton_format.specs.GoodAutomaton.{GoodSections}
+use Rattle.formats.specs.AutomatonFile.{lettersAt, transitionsAt, transitionsOf, automatonEnd}
+use Rattle.formats.specs.AutomatonChecks.{repeatedChecks, contentChecks}
+use Rattle.formats.proofs.GoodAutomaton.{GoodSections}
 use Rattle.automaton_sections.specs.declared.Counts.{Counts}
 use Rattle.automaton_sections.specs.Sections.{LayoutPassed}
 use Rattle.automaton_file.specs.Answers.{TransitionsPlace}

@@ -6,4 +6,3 @@ pub mod Content
 pub mod Promise
 pub mod CheckedAutomaton
 pub mod Calls
-pub mod OneVerdict

@@ -7,11 +7,11 @@ use lib.ListN.{length, getD, length-drop}
 use lib.Seq.{getD-drop}
 use Rattle.answer.specs.Checks.{passed, FirstFailure}
 use Rattle.answer.proofs.Order.{passed-first, passed-last}
-use Rattle.sections.specs.Sections.{sectionChecks}
-use Rattle.sections.proofs.Laws.{SectionGood, passed-good}
-use Rattle.automaton_format.specs.Format.{statesOf, kindAt, lettersAt, lettersOf, transitionsAt, transitionsOf, transitionAt, fromOf, letterOf, toOf, automatonEnd, statesSection, lettersSection, tripleBound, transitionsSection}
-use Rattle.automaton_format.specs.AutomatonChecks.{layoutChecks}
-use Rattle.automaton_format.specs.GoodAutomaton.{GoodSections}
+use Rattle.formats.specs.Sections.{sectionChecks}
+use Rattle.formats.proofs.Sections.{SectionGood, passed-good}
+use Rattle.formats.specs.AutomatonFile.{statesOf, kindAt, lettersAt, lettersOf, transitionsAt, transitionsOf, transitionAt, fromOf, letterOf, toOf, automatonEnd, statesSection, lettersSection, tripleBound, transitionsSection}
+use Rattle.formats.specs.AutomatonChecks.{layoutChecks}
+use Rattle.formats.proofs.GoodAutomaton.{GoodSections}
 use Rattle.automaton_sections.proofs.TripleBytes.{bound-from, bound-letter, bound-to}
 use Rattle.automaton_sections.proofs.Rows.{lettersRest, transitionsRest, letters-counted, transitions-counted}
 

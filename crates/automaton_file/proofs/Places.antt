@@ -7,8 +7,8 @@ use native.Mathlib.Omega.{arith}
 use lib.ListN.{length, getD, set}
 use Rattle.answer.specs.declared.Refusal.the-variants.{Duplicate}
 use Rattle.answer.specs.Checks.{passed, refused, FirstFailure}
-use Rattle.automaton_format.specs.Format.{statesOf, lettersOf, transitionsOf, transitionAt, fromOf, letterOf, toOf, hasTransition, automatonEnd}
-use Rattle.automaton_format.specs.AutomatonChecks.{repeatedChecks}
+use Rattle.formats.specs.AutomatonFile.{statesOf, lettersOf, transitionsOf, transitionAt, fromOf, letterOf, toOf, hasTransition, automatonEnd}
+use Rattle.formats.specs.AutomatonChecks.{repeatedChecks}
 use Rattle.automaton_file.specs.Answers.{indexOf, TransitionsPlace, TransitionsLaid}
 use Rattle.automaton_file.proofs.RepeatedOrder.{Stood, Fresh, AllFresh, repeated-first, fresh-all}
 use Rattle.automaton_file.proofs.Laid.{amongFirst, index-below, index-in, index-seen, index-new, laid-next, laid-all}

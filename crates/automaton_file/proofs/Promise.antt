@@ -14,10 +14,10 @@ use Rattle.formats.specs.RuleChecks.{scratchSize}
 use Rattle.rule_marks.specs.declared.Fault.{Fault}
 use Rattle.rule_marks.specs.declared.Fault.the-variants.{Nothing, Refused as Fault-refused}
 use Rattle.sections.specs.Answers.{PartZeroed}
-use Rattle.rule_check.specs.Answers.{afterCall}
+use Rattle.formats.specs.Calls.{afterCall}
 use Rattle.rule_check.proofs.Promise.{zeros-after}
-use Rattle.automaton_format.specs.Format.{statesOf, lettersOf, hasTransition}
-use Rattle.automaton_format.specs.AutomatonChecks.{layoutChecks, contentChecks, automatonChecks}
+use Rattle.formats.specs.AutomatonFile.{statesOf, lettersOf, hasTransition}
+use Rattle.formats.specs.AutomatonChecks.{layoutChecks, contentChecks, automatonChecks}
 use Rattle.automaton_sections.specs.declared.Counts.{Counts}
 use Rattle.automaton_sections.specs.declared.Layout.{Layout}
 use Rattle.automaton_sections.specs.declared.Layout.the-variants.{Read, Refused as Layout-refused}

@@ -10,8 +10,8 @@ use Rattle.answer.specs.declared.Refusal.the-variants.{Duplicate}
 use Rattle.answer.specs.Checks.{Verdict, passed, refused, FirstFailure}
 use Rattle.answer.proofs.Order.{first-passes, first-fails, none-left, passes-head, passes-tail}
 use Rattle.finite.proofs.Numbers.{le-or-lt}
-use Rattle.automaton_format.specs.Format.{transitionAt, fromOf, letterOf, toOf}
-use Rattle.automaton_format.specs.AutomatonChecks.{RepeatedAt, repeatedChecks}
+use Rattle.formats.specs.AutomatonFile.{transitionAt, fromOf, letterOf, toOf}
+use Rattle.formats.specs.AutomatonChecks.{RepeatedAt, repeatedChecks}
 
 -- the i-th and the j-th transition are the same triple
 pub record SameTransition (bytes : List ℕ) (i j : ℕ) : Type 0 where

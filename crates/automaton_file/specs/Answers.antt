@@ -5,13 +5,13 @@ use mathlib.Core.Bool.{Bool}
 use mathlib.Core.List.{List}
 use lib.ListN.{length, getD}
 use Rattle.answer.specs.Checks.{Verdict, passed, refused, FirstFailure}
-use Rattle.formats.specs.Format.{oneIf}
+use Rattle.formats.specs.RuleFile.{oneIf}
 use Rattle.rule_marks.specs.declared.Fault.{Fault}
 use Rattle.rule_marks.specs.declared.Fault.the-variants.{Nothing, Refused as Fault-refused}
-use Rattle.rule_check.specs.Answers.{afterCall}
-use Rattle.automaton_format.specs.Format.{statesOf, lettersOf, transitionsAt, transitionsOf, fromOf, letterOf, toOf, hasTransition}
-use Rattle.automaton_format.specs.AutomatonChecks.{readChecks}
-use Rattle.automaton_format.specs.GoodAutomaton.{GoodSections}
+use Rattle.formats.specs.Calls.{afterCall}
+use Rattle.formats.specs.AutomatonFile.{statesOf, lettersOf, transitionsAt, transitionsOf, fromOf, letterOf, toOf, hasTransition}
+use Rattle.formats.specs.AutomatonChecks.{readChecks}
+use Rattle.formats.proofs.GoodAutomaton.{GoodSections}
 use Rattle.automaton_file.specs.declared.AutomatonRead.{AutomatonRead}
 use Rattle.automaton_file.specs.declared.AutomatonRead.the-variants.{Automaton, Refused as Read-refused}
 use Rattle.automaton_sections.specs.Sections.{CountsAre}

@@ -11,8 +11,8 @@ use sections::zero_part;
 ghost use mathlib.Core.Path.{_≡_};
 ghost use Prim.Native.Nat.{_+_, _*_, _<_};
 ghost use Rattle.rule_marks.specs.Faults.{FaultAnswer};
-ghost use Rattle.automaton_format.specs.Format.{transitionsOf};
-ghost use Rattle.automaton_format.specs.AutomatonChecks.{repeatedChecks, contentChecks};
+ghost use Rattle.formats.specs.AutomatonFile.{transitionsOf};
+ghost use Rattle.formats.specs.AutomatonChecks.{repeatedChecks, contentChecks};
 ghost use Rattle.automaton_sections.specs.Sections.{LayoutPassed};
 ghost use Rattle.automaton_file.specs.Answers.{indexOf, TransitionsPlace, BlankRoom, LaidAnswer, ReadPromise};
 

@@ -8,13 +8,13 @@ use lib.ListN.{length, getD, take, drop, length-drop}
 use lib.Seq.{drop-drop, getD-drop}
 use Rattle.answer.specs.Checks.{numbered, FirstFailure}
 use Rattle.answer.proofs.Order.{refused-before, passed-before}
-use Rattle.sections.specs.Sections.{Section, twoBytes, sectionChecks}
+use Rattle.formats.specs.Sections.{Section, twoBytes, sectionChecks}
 use Rattle.sections.specs.declared.Counted.{Counted}
-use Rattle.sections.proofs.Laws.{SectionGood, passed-good}
+use Rattle.formats.proofs.Sections.{SectionGood, passed-good}
 use Rattle.rule_layout.specs.Answers.{SectionAnswer, SectionPassed}
 use Rattle.rule_layout.proofs.Rows.{rest-of}
-use Rattle.automaton_format.specs.Format.{statesOf, lettersAt, lettersOf, transitionsAt, transitionsOf, statesSection, lettersSection, transitionsSection}
-use Rattle.automaton_format.specs.AutomatonChecks.{layoutChecks}
+use Rattle.formats.specs.AutomatonFile.{statesOf, lettersAt, lettersOf, transitionsAt, transitionsOf, statesSection, lettersSection, transitionsSection}
+use Rattle.formats.specs.AutomatonChecks.{layoutChecks}
 use Rattle.automaton_sections.specs.declared.Counts.{Counts}
 use Rattle.automaton_sections.specs.Sections.{LayoutPassed}
 

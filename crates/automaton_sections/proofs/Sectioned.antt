@@ -8,11 +8,11 @@ use Rattle.answer.specs.declared.Refusal.{Refusal}
 use Rattle.answer.specs.Checks.{passed, refused, FirstFailure}
 use Rattle.sections.specs.declared.Counted.{Counted}
 use Rattle.sections.specs.declared.Counted.the-variants.{Read, Refused}
-use Rattle.sections.specs.Sections.{Section, one-byte, two-byte, sectionChecks}
-use Rattle.sections.specs.Answers.{CountGood, CountAnswer}
-use Rattle.sections.proofs.Laws.{section-count-refused, section-entries-refused, good-passes}
+use Rattle.formats.specs.Sections.{Section, one-byte, two-byte, sectionChecks}
+use Rattle.formats.proofs.Sections.{CountGood, section-count-refused, section-entries-refused, good-passes}
+use Rattle.sections.specs.Answers.{CountAnswer}
 use Rattle.rule_layout.specs.Answers.{SectionAnswer, SectionPassed}
-use Rattle.automaton_format.specs.Format.{lettersSection, transitionsSection, tripleBound, transitionWidth}
+use Rattle.formats.specs.AutomatonFile.{lettersSection, transitionsSection, tripleBound, transitionWidth}
 use Rattle.automaton_sections.specs.Sections.{TriplesAnswer, TriplesRead}
 
 module _ (at : ℕ) (rest : List ℕ) where

@@ -11,11 +11,11 @@ use lib.Dec.{eqb}
 use Rattle.answer.specs.declared.Refusal.the-variants.{Truncated, EntryOutOfRange}
 use Rattle.answer.specs.Checks.{refused, FirstFailure}
 use Rattle.answer.proofs.Order.{first-passes, first-fails}
-use Rattle.sections.specs.Sections.{TruncatedAt, EntryOutAt, entryChecks}
+use Rattle.formats.specs.Sections.{TruncatedAt, EntryOutAt, entryChecks}
 use Rattle.sections.specs.declared.Found.{Found}
 use Rattle.sections.specs.declared.Found.the-variants.{At, Nothing}
-use Rattle.sections.proofs.Laws.{long-passes}
-use Rattle.automaton_format.specs.Format.{tripleBound, transitionWidth}
+use Rattle.formats.proofs.Sections.{long-passes}
+use Rattle.formats.specs.AutomatonFile.{tripleBound, transitionWidth}
 use Rattle.automaton_sections.specs.Sections.{TriplesBelow, FirstBeyond, BeyondAnswer}
 
 -- the bounds of a triple

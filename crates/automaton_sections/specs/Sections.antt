@@ -4,13 +4,13 @@ use mathlib.Core.Path.{_≡_}
 use mathlib.Core.List.{List}
 use lib.ListN.{length, getD}
 use Rattle.answer.specs.Checks.{passed, refused, FirstFailure}
-use Rattle.sections.specs.Sections.{entryChecks}
+use Rattle.formats.specs.Sections.{entryChecks}
 use Rattle.sections.specs.declared.Found.{Found}
 use Rattle.sections.specs.declared.Found.the-variants.{At, Nothing as None-found}
 use Rattle.sections.specs.declared.Counted.{Counted}
 use Rattle.sections.specs.declared.Counted.the-variants.{Read, Refused}
-use Rattle.automaton_format.specs.Format.{statesOf, lettersOf, transitionsOf, tripleBound, transitionWidth}
-use Rattle.automaton_format.specs.AutomatonChecks.{layoutChecks}
+use Rattle.formats.specs.AutomatonFile.{statesOf, lettersOf, transitionsOf, tripleBound, transitionWidth}
+use Rattle.formats.specs.AutomatonChecks.{layoutChecks}
 use Rattle.automaton_sections.specs.declared.Counts.{Counts}
 use Rattle.automaton_sections.specs.declared.Layout.{Layout}
 use Rattle.automaton_sections.specs.declared.Layout.the-variants.{Read as Layout-read, Refused as Layout-refused}

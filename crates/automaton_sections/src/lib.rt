@@ -8,7 +8,7 @@ use sections::wide_count;
 ghost use Prim.Native.Nat.{_+_, _*_, _≤_, _<_, _^_};
 ghost use lib.ListN.{length};
 ghost use Rattle.rule_layout.specs.Answers.{SectionAnswer};
-ghost use Rattle.automaton_format.specs.Format.{statesSection, lettersSection, transitionsSection};
+ghost use Rattle.formats.specs.AutomatonFile.{statesSection, lettersSection, transitionsSection};
 ghost use Rattle.automaton_sections.specs.Sections.{BeyondAnswer, TriplesAnswer, LayoutAnswer};
 
 // The states' section, at the front of the file: a kind is 0, 1, 2 or 3.

@@ -13,7 +13,7 @@ use Rattle.buchi.specs.Rule.{Recurs}
 use Rattle.buchi.proofs.Products.{product}
 use Rattle.automaton_matrices.specs.Bytes.{initialAt, finalAt}
 use Rattle.automaton_matrix_search.specs.Lists.{matrixAt, nextAt, parentAt, letterAt, MatrixList, KeptBelow, Recorded}
-use Rattle.rule_writer.specs.File.{fileOf}
+use Rattle.formats.specs.WrittenFile.{fileOf}
 
 -- ---- bytes that stay, and bytes that are filled
 

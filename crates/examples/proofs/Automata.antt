@@ -22,16 +22,16 @@ use Rattle.theory.specs.Rules.{Rule, Lawful, Marking, level, marked, join}
 use Rattle.theory.specs.Acceptance.{RuleStrong}
 use Rattle.theory.specs.Smallest.{SameLassos}
 use Rattle.theory.proofs.Computing.{computing}
-use Rattle.sections.specs.Sections.{Section}
-use Rattle.sections.proofs.Laws.{good-passes}
-use Rattle.formats.specs.Format.{morphismOf, oneIf}
+use Rattle.formats.specs.Sections.{Section}
+use Rattle.formats.proofs.Sections.{good-passes}
+use Rattle.formats.specs.RuleFile.{morphismOf, oneIf}
 use Rattle.formats.proofs.Buffers.{buffer-long}
 use Rattle.formats.specs.RuleChecks.{ruleSize, scratchSize}
 use Rattle.rule_check.specs.GoodRule.{GoodRule}
 use Rattle.rule_check.proofs.CheckedRule.{good-rule}
-use Rattle.automaton_format.specs.Format.{statesOf, kindAt, isInitial, isFinal, lettersAt, lettersOf, transitionsAt, transitionsOf, transitionAt, fromOf, letterOf, toOf, isTransition, hasTransition, automatonEnd, tripleBound, statesSection, lettersSection, transitionsSection}
-use Rattle.rule_check.specs.Answers.{scratchLeft}
-use Rattle.automaton_format.specs.AutomatonChecks.{automatonChecks, readChecks}
+use Rattle.formats.specs.AutomatonFile.{statesOf, kindAt, isInitial, isFinal, lettersAt, lettersOf, transitionsAt, transitionsOf, transitionAt, fromOf, letterOf, toOf, isTransition, hasTransition, automatonEnd, tripleBound, statesSection, lettersSection, transitionsSection}
+use Rattle.formats.specs.Calls.{scratchLeft}
+use Rattle.formats.specs.AutomatonChecks.{automatonChecks, readChecks}
 use Rattle.automaton_file.proofs.RepeatedOrder.{Fresh, fresh-all}
 use Rattle.buchi.specs.Automata.{Automaton}
 use Rattle.buchi.specs.Rule.{MatricesOf, MarkedBy, AcceptsRuns, MoreMatrices}
@@ -41,16 +41,15 @@ use Rattle.buchi.proofs.TableTest.{matrices-elim}
 use Rattle.buchi.proofs.Numberings.{more-matrices}
 use Rattle.buchi.proofs.ExampleRule.{M10-table, M10-matrix, M10-lawful, M10-reached}
 use Rattle.rule_reach.specs.Reach.{wordStep}
-use Rattle.rule_first_words.specs.FirstWords.{ByFirstWords}
+use Rattle.formats.specs.FirstWords.{ByFirstWords}
 use Rattle.rule_first_words.proofs.Ordered.{entry, found-by-first-words}
-use Rattle.rule_writer.specs.File.{fileOf}
-use Rattle.rule_writer.proofs.ReadBack.{written-rule}
-use Rattle.reduce_call.specs.Promise.{ruleOf}
-use Rattle.automaton_call.specs.declared.Translated.{Translated}
-use Rattle.automaton_call.specs.declared.Translated.the-variants.{Rule as Is-translated, Refused}
-use Rattle.automaton_call.specs.Meaning.{automatonOf}
-use Rattle.automaton_call.specs.Promise.{RuleOf, ruleVerdict, RuleAnswer, translateChecks, RulePromise}
-use Rattle.automaton_call.proofs.OneAnswer.{rule-one-verdict}
+use Rattle.formats.specs.WrittenFile.{fileOf}
+use Rattle.formats.proofs.ReadBack.{written-rule}
+use Rattle.promises.specs.Reduce.{ruleOf}
+use Rattle.promises.specs.declared.Translated.{Translated}
+use Rattle.promises.specs.declared.Translated.the-variants.{Rule as Is-translated, Refused}
+use Rattle.promises.specs.Automaton.{automatonOf, RuleOf, ruleVerdict, RuleAnswer, translateChecks, RulePromise}
+use Rattle.promises.proofs.OneTranslation.{rule-one-verdict}
 use Rattle.examples.specs.Files.{automaton}
 use Rattle.examples.specs.Examples.{FileStrong, RuleReducesTo, ReducesTo, Translation, TranslatedTo, AutomatonReducesTo}
 use Rattle.examples.proofs.Passing.{section-test, section-elim, checks-to}

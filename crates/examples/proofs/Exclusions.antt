@@ -12,8 +12,8 @@ use Rattle.theory.specs.Words.{Over, over-cons}
 use Rattle.theory.specs.Pairs.{Classes, ClassCounts}
 use Rattle.theory.proofs.Closure.{linked-elim, closure-test, closure-intro}
 use Rattle.theory.proofs.TableTests.{all-pairs-elim, counted-same}
-use Rattle.formats.specs.Format.{morphismOf, pairsOf}
-use Rattle.reduce_call.specs.declared.Reduced.the-variants.{Rule as Is-rule}
+use Rattle.formats.specs.RuleFile.{morphismOf, pairsOf}
+use Rattle.promises.specs.declared.Reduced.the-variants.{Rule as Is-rule}
 use Rattle.formats.specs.RuleChecks.{ruleSize, scratchSize}
 use Rattle.examples.specs.Files.{W, W-all, one-element, Z, Z₀, not-associative, unreached, automaton}
 use Rattle.examples.specs.Examples.{ChecksTo, RefusesLasso, ConjugateToMark, NotClosed, MarksLinked, ReducesTo, HandsBack, ReducesToBytes, AutomatonReducesTo}

@@ -16,14 +16,14 @@ use Rattle.theory.specs.Smallest.{Reduction, LinkedAccepted}
 use Rattle.theory.proofs.EveryLasso.{AcceptsEvery, one, one-lawful}
 use Rattle.theory.proofs.SmallReductions.{one-marks, every-reduction}
 use Rattle.rule_reach.specs.Reach.{wordStep}
-use Rattle.rule_first_words.specs.FirstWords.{ByFirstWords}
+use Rattle.formats.specs.FirstWords.{ByFirstWords}
 use Rattle.rule_first_words.proofs.Ordered.{entry, found-by-first-words}
-use Rattle.rule_writer.specs.File.{fileOf}
-use Rattle.rule_writer.specs.ReadBack.{WrittenRule}
-use Rattle.rule_writer.proofs.Agree.{Agree}
-use Rattle.rule_writer.proofs.Same.{SameMarks, file-same}
-use Rattle.rule_writer.proofs.ReadBack.{written-rule}
-use Rattle.reduce_call.proofs.SameReductions.{reductions-size}
+use Rattle.formats.specs.WrittenFile.{fileOf}
+use Rattle.formats.specs.ReadBack.{WrittenRule}
+use Rattle.formats.proofs.Agree.{Agree}
+use Rattle.formats.proofs.Same.{SameMarks, file-same}
+use Rattle.formats.proofs.ReadBack.{written-rule}
+use Rattle.promises.proofs.SameReductions.{reductions-size}
 use Rattle.examples.proofs.Reductions.{same-self}
 
 -- every pair is marked

@@ -14,14 +14,14 @@ use Rattle.theory.specs.Rules.{Lawful}
 use Rattle.theory.proofs.Closure.{linked-test, linked-elim}
 use Rattle.theory.proofs.ShortWords.{unreached}
 use Rattle.theory.proofs.TableTests.{lawful-test, lawful-elim, reached-all}
-use Rattle.rule_table.proofs.Facts.{all-associate-none}
-use Rattle.sections.specs.Sections.{Section, countBytes, countAt}
-use Rattle.sections.proofs.Laws.{SectionGood, good-passes}
-use Rattle.formats.specs.Format.{elementsOf, lettersAt, marksAt, marksOf, ruleEnd, morphismOf, markStart, markCycle, elementsSection, lettersSection, marksSection}
+use Rattle.formats.proofs.Tables.{all-associate-none}
+use Rattle.formats.specs.Sections.{Section, countBytes, countAt}
+use Rattle.formats.proofs.Sections.{SectionGood, good-passes}
+use Rattle.formats.specs.RuleFile.{elementsOf, lettersAt, marksAt, marksOf, ruleEnd, morphismOf, markStart, markCycle, elementsSection, lettersSection, marksSection}
 use Rattle.formats.specs.RuleChecks.{tableChecks, markChecks, powerChecks, ruleChecks}
 use Rattle.rule_marks.proofs.MarkOrder.{GoodMark, marks-pass}
 use Rattle.rule_check.proofs.TablePassed.{lawful-powers-pass}
-use Rattle.rule_check.proofs.OneVerdict.{rule-single}
+use Rattle.formats.proofs.OneVerdict.{rule-single}
 use Rattle.examples.specs.Examples.{ChecksTo}
 
 -- ---- sections

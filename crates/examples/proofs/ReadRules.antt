@@ -9,10 +9,10 @@ use Rattle.theory.specs.Words.{Over, Lasso}
 use Rattle.theory.specs.Rules.{Morphism, Marking, Lawful, Pairs, level, marked}
 use Rattle.theory.specs.Acceptance.{Accepts, Strong}
 use Rattle.theory.proofs.Values.{inside-of}
-use Rattle.formats.specs.Format.{morphismOf, oneIf, pairsOf}
-use Rattle.rule_writer.specs.ReadBack.{ReadsBack}
-use Rattle.rule_writer.proofs.Agree.{Agree, below-first, letter-first, agree-value, agree-lawful}
-use Rattle.rule_writer.proofs.ReadBack.{reads-agree}
+use Rattle.formats.specs.RuleFile.{morphismOf, oneIf, pairsOf}
+use Rattle.formats.specs.ReadBack.{ReadsBack}
+use Rattle.formats.proofs.Agree.{Agree, below-first, letter-first, agree-value, agree-lawful}
+use Rattle.formats.proofs.ReadBack.{reads-agree}
 
 agree-back : {m m′ : Morphism} → Agree m m′ → Agree m′ m
 agree-back g = record {

@@ -2,9 +2,9 @@
 -- computed. Assumes nothing.
 use mathlib.Core.Bool.{Bool, true}
 use Rattle.theory.proofs.Computing.{computing}
-use Rattle.rule_table.specs.Table.{productAt, imageAt}
-use Rattle.sections.specs.Sections.{twoBytes}
-use Rattle.formats.specs.Format.{lettersAt, lettersOf, marksAt, marksOf, ruleEnd, markStart, markCycle, isMark, marksIn}
+use Rattle.formats.specs.Table.{productAt, imageAt}
+use Rattle.formats.specs.Sections.{twoBytes}
+use Rattle.formats.specs.RuleFile.{lettersAt, lettersOf, marksAt, marksOf, ruleEnd, markStart, markCycle, isMark, marksIn}
 use Rattle.examples.proofs.Passing.{section-test, layout-test, same-marks, mark-test, rule-test}
 
 -- opens all of these

@@ -13,9 +13,9 @@ use Rattle.minimality.proofs.Blocks.{tabFrom, leastOf, sameTest, productsTest, 
 use Rattle.minimality.proofs.Settle.{unchanged, settleFrom, settle}
 use Rattle.minimality.proofs.ReduceModel.{heads, headsOf, finalBlocks, reduced-size, reduce-model-right}
 use Rattle.rule_check.specs.GoodRule.{GoodRule}
-use Rattle.reduce_call.specs.Promise.{ruleOf}
-use Rattle.reduce_call.proofs.SameReductions.{reductions-size}
-use Rattle.formats.specs.Format.{morphismOf, pairsOf}
+use Rattle.promises.specs.Reduce.{ruleOf}
+use Rattle.promises.proofs.SameReductions.{reductions-size}
+use Rattle.formats.specs.RuleFile.{morphismOf, pairsOf}
 use Rattle.examples.specs.Files.{W, Z₀}
 use Rattle.examples.specs.Examples.{FileStrong, RuleReducesTo, ReducesTo}
 use Rattle.examples.proofs.Reading.{reading}

@@ -9,9 +9,9 @@ use Rattle.answer.proofs.Order.{first-passes, first-fails}
 use Rattle.theory.specs.Rules.{Lawful}
 use Rattle.theory.proofs.ShortWords.{reached-intro, unreached-first}
 use Rattle.theory.proofs.TableTests.{lawful-elim}
-use Rattle.rule_table.specs.TableChecks.{Associates, TripleBefore, by-a, by-b, by-c, NotAssociativeAt, UnreachedAt}
-use Rattle.rule_table.proofs.Facts.{all-associate-none}
-use Rattle.formats.specs.Format.{morphismOf}
+use Rattle.formats.specs.TableChecks.{Associates, TripleBefore, by-a, by-b, by-c, NotAssociativeAt, UnreachedAt}
+use Rattle.formats.proofs.Tables.{all-associate-none}
+use Rattle.formats.specs.RuleFile.{morphismOf}
 use Rattle.formats.specs.RuleChecks.{ruleChecks}
 use Rattle.examples.specs.Files.{not-associative, unreached}
 use Rattle.examples.proofs.Passing.{after-layout}

@@ -11,7 +11,7 @@ use Rattle.theory.proofs.Included.{strong-test-elim, strong-test-intro}
 use Rattle.theory.proofs.Closure.{linked-test, linked-intro}
 use Rattle.theory.proofs.TableTests.{counts-by, all-pairs-elim, conjugate-elim}
 use Rattle.theory.proofs.Computing.{lasso-elim, accepts-by, refuses-by}
-use Rattle.formats.specs.Format.{morphismOf, pairsOf}
+use Rattle.formats.specs.RuleFile.{morphismOf, pairsOf}
 use Rattle.formats.specs.RuleChecks.{ruleChecks}
 use Rattle.rule_check.specs.GoodRule.{GoodRule}
 use Rattle.rule_check.proofs.CheckedRule.{good-rule}

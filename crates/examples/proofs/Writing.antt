@@ -12,15 +12,15 @@ use Rattle.theory.specs.Rules.{Rule, Lawful}
 use Rattle.theory.specs.Smallest.{Reduction}
 use Rattle.theory.proofs.EveryLasso.{AcceptsEvery, every-test, every-elim, one, one-rule}
 use Rattle.theory.proofs.SmallReductions.{every-reduction}
-use Rattle.formats.specs.Format.{morphismOf, pairsOf}
+use Rattle.formats.specs.RuleFile.{morphismOf, pairsOf}
 use Rattle.formats.proofs.Buffers.{buffer-long}
 use Rattle.formats.specs.RuleChecks.{ruleSize, scratchSize}
-use Rattle.rule_check.specs.Answers.{checkedChecks, afterCall, scratchLeft}
-use Rattle.rule_writer.specs.File.{tabulate, elementsBytes, lettersBytes, isMarked, markNumbers, pairBytes, marksBytes, fileOf}
-use Rattle.reduce_call.specs.declared.Reduced.{Reduced}
-use Rattle.reduce_call.specs.declared.Reduced.the-variants.{Rule as Is-rule, Refused}
-use Rattle.reduce_call.specs.Promise.{ruleOf, reduceChecks, reducedVerdict, ReducedTo, ReducedAnswer, ReducePromise}
-use Rattle.mark_strong.proofs.OneAnswer.{strong-rule-single}
+use Rattle.formats.specs.Calls.{checkedChecks, afterCall, scratchLeft}
+use Rattle.formats.specs.WrittenFile.{tabulate, elementsBytes, lettersBytes, isMarked, markNumbers, pairBytes, marksBytes, fileOf}
+use Rattle.promises.specs.declared.Reduced.{Reduced}
+use Rattle.promises.specs.declared.Reduced.the-variants.{Rule as Is-rule, Refused}
+use Rattle.promises.specs.Reduce.{ruleOf, reduceChecks, reducedVerdict, ReducedTo, ReducedAnswer, ReducePromise}
+use Rattle.promises.proofs.OneStrength.{strong-rule-single}
 use Rattle.examples.specs.Files.{W-all, one-element}
 use Rattle.examples.specs.Examples.{StandsIn, HandsBack, ReducesToBytes}
 use Rattle.examples.proofs.Reading.{reading}

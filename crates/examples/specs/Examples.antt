@@ -12,16 +12,15 @@ use Rattle.theory.specs.Rules.{Rule, Lawful, element, value}
 use Rattle.theory.specs.Acceptance.{Accepts, Strong}
 use Rattle.theory.specs.Pairs.{Linked, Conjugate, ClassCounts}
 use Rattle.theory.specs.Smallest.{Reduction}
-use Rattle.formats.specs.Format.{elementsOf, lettersOf, morphismOf, pairsOf}
+use Rattle.formats.specs.RuleFile.{elementsOf, lettersOf, morphismOf, pairsOf}
 use Rattle.formats.specs.RuleChecks.{ruleChecks, ruleSize, scratchSize}
-use Rattle.reduce_call.specs.declared.Reduced.{Reduced}
-use Rattle.reduce_call.specs.declared.Reduced.the-variants.{Rule as Is-rule}
-use Rattle.reduce_call.specs.Promise.{ruleOf, ReducePromise}
+use Rattle.promises.specs.declared.Reduced.{Reduced}
+use Rattle.promises.specs.declared.Reduced.the-variants.{Rule as Is-rule}
+use Rattle.promises.specs.Reduce.{ruleOf, ReducePromise}
 use Rattle.buchi.specs.Rule.{MoreMatrices}
-use Rattle.automaton_call.specs.declared.Translated.{Translated}
-use Rattle.automaton_call.specs.declared.Translated.the-variants.{Rule as Is-translated}
-use Rattle.automaton_call.specs.Meaning.{automatonOf}
-use Rattle.automaton_call.specs.Promise.{translateChecks, RulePromise}
+use Rattle.promises.specs.declared.Translated.{Translated}
+use Rattle.promises.specs.declared.Translated.the-variants.{Rule as Is-translated}
+use Rattle.promises.specs.Automaton.{automatonOf, translateChecks, RulePromise}
 use Rattle.examples.specs.Files.{W, W-all, one-element, Z, Z₀, not-associative, unreached, automaton}
 
 -- the checks of the rule file come to this verdict and to no other

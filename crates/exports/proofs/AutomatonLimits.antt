@@ -5,14 +5,14 @@ use native.Mathlib.Omega.{arith}
 use lib.ListN.{drop}
 use Rattle.answer.specs.Checks.{passed, FirstFailure}
 use Rattle.answer.proofs.Limits.{Limited, limited-nil, limited-cons, limited-append}
-use Rattle.sections.specs.Sections.{sectionChecks}
-use Rattle.sections.proofs.Laws.{passed-good}
+use Rattle.formats.specs.Sections.{sectionChecks}
+use Rattle.formats.proofs.Sections.{passed-good}
 use Rattle.sections.proofs.Limits.{section-limited}
 use Rattle.formats.specs.RuleChecks.{TrailingAt}
-use Rattle.automaton_format.specs.Format.{lettersAt, transitionsAt, transitionsOf, transitionAt, automatonEnd, statesSection, lettersSection}
-use Rattle.automaton_format.specs.AutomatonChecks.{RepeatedAt, repeatedChecks, layoutChecks, contentChecks, automatonChecks, readChecks}
+use Rattle.formats.specs.AutomatonFile.{lettersAt, transitionsAt, transitionsOf, transitionAt, automatonEnd, statesSection, lettersSection}
+use Rattle.formats.specs.AutomatonChecks.{RepeatedAt, repeatedChecks, layoutChecks, contentChecks, automatonChecks, readChecks}
 use Rattle.automaton_file.proofs.Passed.{good-sections}
-use Rattle.automaton_call.specs.Meaning.{RichAt, richCheck}
+use Rattle.promises.specs.Automaton.{RichAt, richCheck}
 use Rattle.exports.proofs.Limits.{Near, near, at-zero, buffer-limited}
 
 module _ (bytes : List ℕ) where

@@ -12,16 +12,16 @@ use Rattle.answer.specs.Refusals.{numberOf}
 use Rattle.answer.specs.Checks.{Check, passed, refused, FirstFailure}
 use Rattle.answer.proofs.Limits.{Limited, limited-nil, limited-cons, limited-append, number-range}
 use Rattle.theory.specs.Rules.{Morphism}
-use Rattle.rule_table.specs.TableChecks.{NotAssociativeAt, UnreachedAt, UnsettledAt}
-use Rattle.sections.specs.Sections.{twoBytes, sectionChecks}
-use Rattle.sections.proofs.Laws.{passed-good}
+use Rattle.formats.specs.TableChecks.{NotAssociativeAt, UnreachedAt, UnsettledAt}
+use Rattle.formats.specs.Sections.{twoBytes, sectionChecks}
+use Rattle.formats.proofs.Sections.{passed-good}
 use Rattle.sections.proofs.Limits.{section-limited}
-use Rattle.formats.specs.Format.{elementsOf, lettersAt, lettersOf, marksAt, marksOf, ruleEnd, morphismOf, elementsSection, lettersSection, marksSection}
+use Rattle.formats.specs.RuleFile.{elementsOf, lettersAt, lettersOf, marksAt, marksOf, ruleEnd, morphismOf, elementsSection, lettersSection, marksSection}
 use Rattle.formats.specs.RuleChecks.{TrailingAt, UnlinkedAt, RepeatedAt, ShortAt, markChecks, layoutChecks, tableChecks, contentChecks, ruleChecks, secondMarksChecks, bufferCheck}
 use Rattle.automaton_sections.proofs.Rows.{first-byte}
-use Rattle.rule_check.specs.Answers.{checkedChecks}
+use Rattle.formats.specs.Calls.{checkedChecks}
 use Rattle.rule_check.proofs.Passed.{size-small, letters-small, marks-small}
-use Rattle.lasso_words.specs.WordChecks.{longestWord, LengthOutAt, ForeignAt, lassoChecks}
+use Rattle.formats.specs.WordChecks.{longestWord, LengthOutAt, ForeignAt, lassoChecks}
 use Rattle.packing.proofs.ReadBack.{RefusalFits}
 
 -- where refusals lie: in input 1 or 2, and below 2 to the power 18, which the place of the last triple is just below

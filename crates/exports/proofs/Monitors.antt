@@ -8,16 +8,15 @@ use Rattle.answer.specs.Checks.{passed, FirstFailure}
 use Rattle.answer.proofs.Order.{passed-first, passed-last, passes-head}
 use Rattle.theory.specs.Rules.{Morphism, Value, join}
 use Rattle.theory.proofs.Values.{Inside, inside-none, inside-element, join-inside}
-use Rattle.formats.specs.Format.{elementsOf, lettersOf, morphismOf}
+use Rattle.formats.specs.RuleFile.{elementsOf, lettersOf, morphismOf}
 use Rattle.rule_check.specs.GoodRule.{GoodRule}
-use Rattle.rule_check.specs.Answers.{checkedChecks}
+use Rattle.formats.specs.Calls.{checkedChecks}
 use Rattle.rule_check.proofs.Calls.{called-good}
-use Rattle.monitor_state.specs.declared.Monitor.{Monitor}
-use Rattle.monitor_state.specs.Monitor.{valueOf, numberFor, IsStray}
-use Rattle.monitor_state.specs.Ready.{GoodNumber, monitorChecks}
+use Rattle.promises.specs.declared.Monitor.{Monitor}
+use Rattle.promises.specs.Monitor.{valueOf, numberFor, IsStray, monitorChecks}
+use Rattle.monitor_state.specs.Ready.{GoodNumber}
 use Rattle.monitor_state.proofs.Numbers.{value-none, value-element, not-stray}
-use Rattle.monitor_moves.specs.Moves.{afterEvent, afterMark}
-use Rattle.monitor_moves.specs.Promises.{eventChecks}
+use Rattle.promises.specs.Moves.{afterEvent, afterMark, eventChecks}
 use Rattle.packing.specs.Packing.{monitorContents}
 use Rattle.packing.proofs.ReadBack.{Fits}
 

@@ -10,44 +10,42 @@ use Rattle.answer.proofs.Order.{passed-first, passes-tail}
 use Rattle.answer.proofs.Limits.{Limited, limited-nil, limited-cons, limited-append}
 use Rattle.theory.specs.Rules.{Morphism, Marking}
 use Rattle.theory.specs.Pairs.{LinkedPairs, Classes}
-use Rattle.formats.specs.Format.{elementsOf, lettersOf}
+use Rattle.formats.specs.RuleFile.{elementsOf, lettersOf}
 use Rattle.formats.specs.RuleChecks.{ruleSize, bufferCheck}
-use Rattle.rule_check.specs.Answers.{checkedChecks}
+use Rattle.formats.specs.Calls.{checkedChecks}
 use Rattle.rule_check.proofs.Calls.{called-good}
-use Rattle.rule_writer.specs.ReadBack.{WrittenRule}
-use Rattle.mark_strong.specs.Weak.{WeakAt, weakCheck}
-use Rattle.monitor_state.specs.declared.Monitor.{Monitor}
-use Rattle.monitor_state.specs.Monitor.{freshMonitor, StrayAt}
-use Rattle.monitor_state.specs.Ready.{monitorChecks}
-use Rattle.monitor_moves.specs.Moves.{LoneForeignAt}
-use Rattle.monitor_moves.specs.Promises.{EventPromise, MarkPromise}
-use Rattle.monitor_verdict.specs.Promise.{NoneAt, VerdictPromise}
-use Rattle.automaton_call.specs.declared.Translated.{Translated}
-use Rattle.automaton_call.specs.declared.Translated.the-variants.{Rule as Automaton-rule, Refused as Not-translated}
-use Rattle.automaton_call.specs.Promise.{RulePromise}
-use Rattle.mark_classes.specs.declared.Listed.{Listed}
-use Rattle.mark_classes.specs.declared.Listed.the-variants.{Counts, Refused as Not-listed}
-use Rattle.mark_classes.specs.Promise.{ListPromise}
+use Rattle.formats.specs.ReadBack.{WrittenRule}
+use Rattle.promises.specs.Weak.{WeakAt, weakCheck}
+use Rattle.promises.specs.declared.Monitor.{Monitor}
+use Rattle.promises.specs.Monitor.{freshMonitor, StrayAt, monitorChecks}
+use Rattle.promises.specs.Moves.{LoneForeignAt, EventPromise, MarkPromise}
+use Rattle.promises.specs.Verdict.{NoneAt, VerdictPromise}
+use Rattle.promises.specs.declared.Translated.{Translated}
+use Rattle.promises.specs.declared.Translated.the-variants.{Rule as Automaton-rule, Refused as Not-translated}
+use Rattle.promises.specs.Automaton.{RulePromise}
+use Rattle.promises.specs.declared.Listed.{Listed}
+use Rattle.promises.specs.declared.Listed.the-variants.{Counts, Refused as Not-listed}
+use Rattle.promises.specs.Classes.{ListPromise}
 use Rattle.mark_classes.proofs.Counting.{counted-le}
-use Rattle.mark_complement.specs.declared.Complemented.{Complemented}
-use Rattle.mark_complement.specs.declared.Complemented.the-variants.{Rule as Complement-rule, Refused as Not-complemented}
-use Rattle.mark_complement.specs.Promise.{ComplementPromise}
-use Rattle.mark_comparison.specs.declared.Inclusion.{Inclusion}
-use Rattle.mark_comparison.specs.declared.Inclusion.the-variants.{Included, NotIncluded, Refused as Not-compared}
-use Rattle.mark_inclusion.specs.Promise.{InclusionPromise}
-use Rattle.lasso_member.specs.declared.Membership.{Membership}
-use Rattle.lasso_member.specs.declared.Membership.the-variants.{Accepted, NotAccepted, Refused as Not-a-member}
-use Rattle.lasso_member.specs.Promise.{MemberPromise}
-use Rattle.monitor_moves.specs.declared.Moved.{Moved}
-use Rattle.monitor_moves.specs.declared.Moved.the-variants.{To, Refused as Not-moved}
-use Rattle.reduce_call.specs.declared.Reduced.{Reduced}
-use Rattle.reduce_call.specs.declared.Reduced.the-variants.{Rule as Reduced-rule, Refused as Not-reduced}
-use Rattle.reduce_call.specs.Promise.{ReducePromise}
-use Rattle.mark_strong.specs.declared.Strength.{Strength}
-use Rattle.mark_strong.specs.declared.Strength.the-variants.{Strong, Weak, Refused as Not-decided}
-use Rattle.mark_strong.specs.Promise.{StrongPromise}
-use Rattle.monitor_judging.specs.declared.Judged.{Judged}
-use Rattle.monitor_judging.specs.declared.Judged.the-variants.{Accepted as Judged-accepted, NotAccepted as Judged-not-accepted, Refused as Not-judged}
+use Rattle.promises.specs.declared.Complemented.{Complemented}
+use Rattle.promises.specs.declared.Complemented.the-variants.{Rule as Complement-rule, Refused as Not-complemented}
+use Rattle.promises.specs.Complement.{ComplementPromise}
+use Rattle.promises.specs.declared.Inclusion.{Inclusion}
+use Rattle.promises.specs.declared.Inclusion.the-variants.{Included, NotIncluded, Refused as Not-compared}
+use Rattle.promises.specs.Inclusion.{InclusionPromise}
+use Rattle.promises.specs.declared.Membership.{Membership}
+use Rattle.promises.specs.declared.Membership.the-variants.{Accepted, NotAccepted, Refused as Not-a-member}
+use Rattle.promises.specs.Member.{MemberPromise}
+use Rattle.promises.specs.declared.Moved.{Moved}
+use Rattle.promises.specs.declared.Moved.the-variants.{To, Refused as Not-moved}
+use Rattle.promises.specs.declared.Reduced.{Reduced}
+use Rattle.promises.specs.declared.Reduced.the-variants.{Rule as Reduced-rule, Refused as Not-reduced}
+use Rattle.promises.specs.Reduce.{ReducePromise}
+use Rattle.promises.specs.declared.Strength.{Strength}
+use Rattle.promises.specs.declared.Strength.the-variants.{Strong, Weak, Refused as Not-decided}
+use Rattle.promises.specs.Strong.{StrongPromise}
+use Rattle.promises.specs.declared.Judged.{Judged}
+use Rattle.promises.specs.declared.Judged.the-variants.{Accepted as Judged-accepted, NotAccepted as Judged-not-accepted, Refused as Not-judged}
 use Rattle.packing.specs.Packing.{unpack, listedContents, strengthContents, membershipContents, complementedContents, reducedContents, translatedContents, inclusionContents, monitorContents, movedContents, judgedContents, packMonitor}
 use Rattle.packing.proofs.ReadBack.{FieldsFit, Fits, read-back}
 use Rattle.packing.proofs.Contents.{listed-told, strength-told, membership-told, complemented-told, reduced-told, translated-told, inclusion-told, judged-told, moved-told}

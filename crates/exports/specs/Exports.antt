@@ -2,25 +2,25 @@
 use Prim.Native.Nat.{ℕ}
 use mathlib.Core.Path.{_≡_}
 use mathlib.Core.List.{List}
-use Rattle.automaton_call.specs.declared.Translated.{Translated}
-use Rattle.automaton_call.specs.Promise.{RulePromise}
-use Rattle.mark_classes.specs.declared.Listed.{Listed}
-use Rattle.mark_classes.specs.Promise.{ListPromise}
-use Rattle.mark_complement.specs.declared.Complemented.{Complemented}
-use Rattle.mark_complement.specs.Promise.{ComplementPromise}
-use Rattle.mark_comparison.specs.declared.Inclusion.{Inclusion}
-use Rattle.mark_inclusion.specs.Promise.{InclusionPromise}
-use Rattle.lasso_member.specs.declared.Membership.{Membership}
-use Rattle.lasso_member.specs.Promise.{MemberPromise}
-use Rattle.monitor_state.specs.declared.Monitor.{Monitor}
-use Rattle.monitor_moves.specs.declared.Moved.{Moved}
-use Rattle.monitor_moves.specs.Promises.{EventPromise, MarkPromise}
-use Rattle.reduce_call.specs.declared.Reduced.{Reduced}
-use Rattle.reduce_call.specs.Promise.{ReducePromise}
-use Rattle.mark_strong.specs.declared.Strength.{Strength}
-use Rattle.mark_strong.specs.Promise.{StrongPromise}
-use Rattle.monitor_judging.specs.declared.Judged.{Judged}
-use Rattle.monitor_verdict.specs.Promise.{VerdictPromise}
+use Rattle.promises.specs.declared.Translated.{Translated}
+use Rattle.promises.specs.Automaton.{RulePromise}
+use Rattle.promises.specs.declared.Listed.{Listed}
+use Rattle.promises.specs.Classes.{ListPromise}
+use Rattle.promises.specs.declared.Complemented.{Complemented}
+use Rattle.promises.specs.Complement.{ComplementPromise}
+use Rattle.promises.specs.declared.Inclusion.{Inclusion}
+use Rattle.promises.specs.Inclusion.{InclusionPromise}
+use Rattle.promises.specs.declared.Membership.{Membership}
+use Rattle.promises.specs.Member.{MemberPromise}
+use Rattle.promises.specs.declared.Monitor.{Monitor}
+use Rattle.promises.specs.declared.Moved.{Moved}
+use Rattle.promises.specs.Moves.{EventPromise, MarkPromise}
+use Rattle.promises.specs.declared.Reduced.{Reduced}
+use Rattle.promises.specs.Reduce.{ReducePromise}
+use Rattle.promises.specs.declared.Strength.{Strength}
+use Rattle.promises.specs.Strong.{StrongPromise}
+use Rattle.promises.specs.declared.Judged.{Judged}
+use Rattle.promises.specs.Verdict.{VerdictPromise}
 use Rattle.packing.specs.Packing.{packListed, packStrength, packMembership, packComplemented, packReduced, packTranslated, packInclusion, packMoved, packJudged}
 
 pub record ExportedClasses (bytes out-entry out-exit entry exit : List ℕ) (r : ℕ) : Type 0 where

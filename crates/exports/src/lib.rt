@@ -1,7 +1,6 @@
 // The library's calls for C and Rust: one function a call, slices as pointer and length, and one number back, packed as
 // packing/specs/Packing says. A caller in another language owes what Rust's references owe: each pointer is good for its length, and a
 // buffer that is written overlaps no other.
-use monitor_state::Monitor;
 use packing::pack_complemented;
 use packing::pack_fields;
 use packing::pack_inclusion;
@@ -12,8 +11,9 @@ use packing::pack_moved;
 use packing::pack_reduced;
 use packing::pack_strength;
 use packing::pack_translated;
+use promises::Monitor;
 ghost use mathlib.Core.Path.{_≡_};
-ghost use Rattle.monitor_state.specs.Monitor.{freshMonitor};
+ghost use Rattle.promises.specs.Monitor.{freshMonitor};
 ghost use Rattle.packing.specs.Packing.{packMonitor};
 ghost use Rattle.exports.specs.Exports.{ExportedClasses, ExportedStrength, ExportedMember, ExportedComplement, ExportedInclusion, ExportedEvent, ExportedMark, ExportedReduction, ExportedAutomaton, ExportedVerdict};
 

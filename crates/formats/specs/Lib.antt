@@ -1,2 +1,12 @@
-pub mod Format
+pub mod RuleFile
 pub mod RuleChecks
+pub mod AutomatonFile
+pub mod AutomatonChecks
+pub mod Calls
+pub mod WrittenFile
+pub mod FirstWords
+pub mod ReadBack
+pub mod Sections
+pub mod Table
+pub mod TableChecks
+pub mod WordChecks

@@ -8,9 +8,9 @@ use Rattle.answer.specs.declared.Refusal.the-variants.{TrailingBytes, NotAssoci
 use Rattle.answer.specs.Checks.{Check}
 use Rattle.theory.specs.Rules.{Morphism}
 use Rattle.theory.specs.Pairs.{Linked}
-use Rattle.rule_table.specs.TableChecks.{NotAssociativeAt, UnreachedAt, UnsettledAt}
-use Rattle.sections.specs.Sections.{twoBytes, sectionChecks}
-use Rattle.formats.specs.Format.{elementsOf, lettersAt, marksAt, marksOf, ruleEnd, morphismOf, markStart, markCycle, markWidth, elementsSection, lettersSection, marksSection}
+use Rattle.formats.specs.TableChecks.{NotAssociativeAt, UnreachedAt, UnsettledAt}
+use Rattle.formats.specs.Sections.{twoBytes, sectionChecks}
+use Rattle.formats.specs.RuleFile.{elementsOf, lettersAt, marksAt, marksOf, ruleEnd, morphismOf, markStart, markCycle, markWidth, elementsSection, lettersSection, marksSection}
 
 -- 4 "bytes follow the last section"; place "first such byte"
 pub record TrailingAt (end : ℕ) (bytes : List ℕ) (place : ℕ) : Type 0 where

@@ -10,7 +10,8 @@ use Rattle.theory.specs.Rules.{Lawful, Pairs}
 use Rattle.theory.specs.Pairs.{LinkedOnly}
 use Rattle.theory.specs.Acceptance.{Accepts}
 use Rattle.theory.proofs.Membership.{accepts-test, accepts-test-intro, accepts-test-elim}
-use Rattle.rule_table.specs.Table.{Table, morphismAt}
+use Rattle.rule_table.specs.Table.{Table}
+use Rattle.formats.specs.Table.{morphismAt}
 use Rattle.lasso_cuts.specs.WordValues.{CallWord}
 use Rattle.lasso_turns.specs.Cuts.{markedIn}
 pub use Rattle.lasso_turns.proofs.Agreement.{Agrees}

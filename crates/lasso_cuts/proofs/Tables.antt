@@ -7,7 +7,7 @@ use native.Mathlib.Omega.{arith}
 use native.Mathlib.Numerals.{add-one}
 use lib.ListN.{length, getD, set, take, drop, length-set}
 use Rattle.theory.specs.Rules.{element, value}
-use Rattle.rule_table.specs.Table.{productAt, imageAt, morphismAt}
+use Rattle.formats.specs.Table.{productAt, imageAt, morphismAt}
 use Rattle.lasso_turns.specs.Cuts.{Beginnings, Ends, KeptAround}
 use Rattle.lasso_cuts.proofs.Passes.{Reading, Begun, begun-start, begun-next, begun-inside, Ended, ended-start, ended-next, ended-inside}
 use Rattle.lasso_cuts.proofs.Stores.{Stored, stored-start, stored-up, stored-down, stored-kept, stored-here, kept-store}

@@ -14,23 +14,25 @@ use Rattle.theory.specs.Acceptance.{Accepts}
 use Rattle.theory.specs.Pairs.{LinkedOnly}
 use Rattle.theory.proofs.Words.{over-from}
 use Rattle.theory.proofs.Membership.{accepts-test}
-use Rattle.rule_table.specs.Table.{Table, morphismAt}
-use Rattle.formats.specs.Format.{elementsOf, lettersOf, morphismOf, pairsOf, markingOf}
+use Rattle.rule_table.specs.Table.{Table}
+use Rattle.formats.specs.Table.{morphismAt}
+use Rattle.formats.specs.RuleFile.{elementsOf, lettersOf, morphismOf, pairsOf, markingOf}
 use Rattle.formats.specs.RuleChecks.{scratchSize}
 use Rattle.rule_layout.specs.declared.Shape.{Shape}
 use Rattle.rule_check.specs.declared.Checked.the-variants.{Rule, Refused as Checked-refused}
-use Rattle.rule_check.specs.Answers.{CheckPromise, afterCall}
+use Rattle.rule_check.specs.Answers.{CheckPromise}
+use Rattle.formats.specs.Calls.{afterCall}
 use Rattle.rule_check.specs.GoodRule.{GoodRule}
 use Rattle.rule_check.proofs.Calls.{scratch-long, called-good, zeros-left, checked-length, shape-morphism, shape-table}
 use Rattle.lasso_words.specs.declared.LassoFault.{LassoFault}
 use Rattle.lasso_words.specs.declared.LassoFault.the-variants.{Nothing, Refused as Lasso-refused}
-use Rattle.lasso_words.specs.WordChecks.{lassoChecks}
+use Rattle.formats.specs.WordChecks.{lassoChecks}
 use Rattle.lasso_words.specs.Answers.{GoodWord, GoodLasso, LassoAnswer}
 use Rattle.lasso_cuts.specs.WordValues.{CallWord}
 use Rattle.lasso_turns.specs.Cuts.{markedIn}
 use Rattle.lasso_cuts.proofs.Accepted.{Agrees, accepted, not-accepted}
-use Rattle.lasso_member.specs.declared.Membership.the-variants.{Accepted, NotAccepted, Refused}
-use Rattle.lasso_member.specs.Promise.{MemberPromise}
+use Rattle.promises.specs.declared.Membership.the-variants.{Accepted, NotAccepted, Refused}
+use Rattle.promises.specs.Member.{MemberPromise}
 
 -- the words' answer, known by its case
 module _ (k : ℕ) (u v : List ℕ) (answer : LassoFault) (known : LassoAnswer k u v answer) where

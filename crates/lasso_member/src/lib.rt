@@ -3,20 +3,11 @@ use answer::Refusal;
 use lasso_cuts::accepts;
 use lasso_words::LassoFault;
 use lasso_words::lasso_fault;
+use promises::Membership;
 use rule_check::Checked;
 use rule_check::check;
 use sections::zero;
-ghost use Rattle.lasso_member.specs.Promise.{MemberPromise};
-
-pub enum Membership {
-    Accepted,
-    NotAccepted,
-    Refused {
-        refusal: Refusal,
-        input: usize,
-        place: usize,
-    },
-}
+ghost use Rattle.promises.specs.Member.{MemberPromise};
 
 pub fn member(rule: &[u8], u: &[u8], v: &[u8], scratch: &mut [u8]) -> Membership
     ensures { λ r. ⌜ MemberPromise (now (rule .entry)) (now (u .entry)) (now (v .entry)) (now (scratch .entry)) (now (scratch .exit)) r ⌝ }

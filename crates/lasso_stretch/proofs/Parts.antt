@@ -10,8 +10,8 @@ use lib.ListN.{length, take, drop, length-drop}
 use lib.Seq.{take-all}
 use denote.Ref.{RefT}
 use denote.Slice.{slice-vals}
-use Rattle.lasso_stretch.specs.Stretch.{wordFits, unread, stretchOf, Pointer, unreadPlace, stretchPlace}
-use Rattle.lasso_words.specs.WordChecks.{longestWord}
+use Rattle.promises.specs.Stretch.{wordFits, unread, stretchOf, Pointer, unreadPlace, stretchPlace}
+use Rattle.formats.specs.WordChecks.{longestWord}
 
 -- a length that refusal 11 names
 pub data Unfit (w : List ℕ) : Type 0 where

@@ -1,6 +1,6 @@
 // The part of a lasso's word that is left to read at a position (document 01: stretch).
 ghost use mathlib.Core.Path.{_≡_};
-ghost use Rattle.lasso_stretch.specs.Stretch.{stretchOf, stretchPlace};
+ghost use Rattle.promises.specs.Stretch.{stretchOf, stretchPlace};
 
 // What is left of u, or of the turn of v that the position lies in: a part of the word itself, which `place` tells. Words that are no
 // words of a call have nothing left, and the answer is the empty part of u.

@@ -7,7 +7,8 @@ use native.Mathlib.Omega.{arith}
 use lib.ListN.{getD}
 use Rattle.theory.specs.Rules.{Lawful}
 use Rattle.theory.proofs.Membership.{turn-test}
-use Rattle.rule_table.specs.Table.{Table, productAt, morphismAt}
+use Rattle.rule_table.specs.Table.{Table}
+use Rattle.formats.specs.Table.{productAt, morphismAt}
 use Rattle.rule_table.proofs.Facts.{product-below}
 use Rattle.lasso_turns.specs.Cuts.{markedIn, CutValues, turnValue, cutAt, someCut}
 use Rattle.lasso_turns.proofs.Looks.{NoneBelow, none-start, none-next, any-true, any-false}

@@ -14,8 +14,10 @@ use Rattle.theory.proofs.Powers.{times, idempotent-of, settling}
 use Rattle.theory.proofs.Membership.{turn-look, turn-test, past-mod}
 use Rattle.rule_table.specs.declared.Power.{Power}
 use Rattle.rule_table.specs.declared.Power.the-variants.{Idempotent as Idempotent-power, Nothing as No-power}
-use Rattle.rule_table.specs.Table.{Table, productAt, morphismAt}
-use Rattle.rule_table.specs.Answers.{LeastPower, NoPower, PowerAnswer}
+use Rattle.rule_table.specs.Table.{Table}
+use Rattle.formats.specs.Table.{productAt, morphismAt}
+use Rattle.formats.proofs.Tables.{LeastPower, NoPower}
+use Rattle.rule_table.specs.Answers.{PowerAnswer}
 use Rattle.rule_table.proofs.Facts.{product-below, least-power-is}
 use Rattle.lasso_turns.proofs.Looks.{NoneBelow, none-start, none-next, any-true, any-false}
 

@@ -7,8 +7,9 @@ ghost use Prim.Native.Nat.{_+_, _≤_, _<_};
 ghost use lib.ListN.{length};
 ghost use Rattle.theory.specs.Rules.{Lawful, element, value};
 ghost use Rattle.theory.proofs.Membership.{turn-test};
-ghost use Rattle.rule_table.specs.Table.{Table, morphismAt};
-ghost use Rattle.rule_table.specs.Answers.{LeastPower};
+ghost use Rattle.rule_table.specs.Table.{Table};
+ghost use Rattle.formats.specs.Table.{morphismAt};
+ghost use Rattle.formats.proofs.Tables.{LeastPower};
 ghost use Rattle.lasso_turns.specs.Cuts.{markedIn, CutValues, someCut};
 
 // Whether a pair (p·e·r^j, e) is marked, e the idempotent power of r. They come again after as many as the exponent of e.

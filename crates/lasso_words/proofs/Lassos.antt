@@ -8,11 +8,12 @@ use native.Mathlib.Nat.{zero-add}
 use lib.ListN.{length, getD}
 use Rattle.answer.specs.declared.Refusal.the-variants.{UnknownLetter, WordLength}
 use Rattle.answer.specs.Checks.{Check, refused, FirstFailure}
-use Rattle.answer.proofs.Order.{first-passes, first-fails, none-left, Single, AllSingle, single-nil, single-at, single-cons}
+use Rattle.answer.proofs.Order.{first-passes, first-fails, none-left}
 use Rattle.sections.specs.declared.Found.{Found}
 use Rattle.sections.specs.declared.Found.the-variants.{At, Nothing}
-use Rattle.sections.specs.Answers.{FoundOut, FirstOut}
-use Rattle.lasso_words.specs.WordChecks.{shortestWord, longestWord, LengthOutAt, ForeignAt, lassoChecks}
+use Rattle.sections.specs.Answers.{FoundOut}
+use Rattle.formats.proofs.Sections.{FirstOut}
+use Rattle.formats.specs.WordChecks.{shortestWord, longestWord, LengthOutAt, ForeignAt, lassoChecks}
 use Rattle.lasso_words.specs.Answers.{GoodLasso}
 
 -- a length in the range
@@ -79,19 +80,3 @@ module _ (k : ℕ) (u v : List ℕ) where
             first-passes (record { nowhere = length-passes gu }) (first-passes (record { nowhere = length-passes gv })
             (first-passes (record { nowhere = letters-pass lu }) (first-passes (record { nowhere = letters-pass lv }) none-left)));
       }
-
-length-single : (input : ℕ) (w : List ℕ) → Single (record { refusal = WordLength; input = input; Fails = LengthOutAt w })
-length-single input w = single-at (λ place a. a .is-place)
-
-foreign-single : (input k : ℕ) (w : List ℕ) → Single (record { refusal = UnknownLetter; input = input; Fails = ForeignAt k w })
-foreign-single input k w = record {
-  one-place = λ p q a b.
-      (let f : p < q → ⊥ = λ h. omega (arith, b .first p h, a .foreign) in
-      let g : q < p → ⊥ = λ h. omega (arith, a .first q h, b .foreign) in
-      omega arith);
-}
-
--- each check fails at one place at most
-pub lasso-single : (k : ℕ) (u v : List ℕ) → AllSingle (lassoChecks k u v)
-lasso-single k u v =
-    single-cons (length-single 1 u) (single-cons (length-single 2 v) (single-cons (foreign-single 1 k u) (single-cons (foreign-single 2 k v) single-nil)))

@@ -5,7 +5,7 @@ use lib.ListN.{length, getD}
 use Rattle.answer.specs.Checks.{passed, refused, FirstFailure}
 use Rattle.lasso_words.specs.declared.LassoFault.{LassoFault}
 use Rattle.lasso_words.specs.declared.LassoFault.the-variants.{Nothing, Refused}
-use Rattle.lasso_words.specs.WordChecks.{shortestWord, longestWord, lassoChecks}
+use Rattle.formats.specs.WordChecks.{shortestWord, longestWord, lassoChecks}
 
 -- a word that the calls take: its length in the range, its letters below k
 pub record GoodWord (k : ℕ) (w : List ℕ) : Type 0 where

@@ -1,2 +1,1 @@
-pub mod WordChecks
 pub mod Answers

@@ -9,7 +9,7 @@ use native.Mathlib.Nat.{mul-le-mul}
 use lib.ListN.{length, getD, set, length-set}
 use lib.Seq.{getD-set-same, getD-set-other}
 use lib.Arith.{digits-lt, digits-div, digits-mod}
-use Rattle.sections.specs.Sections.{twoBytes}
+use Rattle.formats.specs.Sections.{twoBytes}
 use Rattle.mark_class_numbers.specs.Cells.{Stored, Kept}
 
 -- a table of n elements has at most 4,096 pairs

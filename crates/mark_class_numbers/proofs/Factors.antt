@@ -10,7 +10,7 @@ use Rattle.finite.proofs.Numbers.{below-cases}
 use Rattle.theory.specs.Rules.{Morphism, Lawful}
 use Rattle.theory.specs.Pairs.{Idempotent, Linked, Conjugate, pair-number}
 use Rattle.theory.proofs.Conjugacy.{conjugate-refl}
-use Rattle.mark_class_numbers.specs.Classes.{ClassNumber, least-conjugate, not-linked}
+use Rattle.promises.specs.Classes.{ClassNumber, least-conjugate, not-linked}
 use Rattle.mark_class_numbers.specs.Cells.{NoneLess, Numbered, of-conjugate, of-none, Lowest, lowered, as-it-was}
 use Rattle.mark_class_numbers.proofs.Bytes.{pairs-small, pair-same}
 

@@ -13,8 +13,8 @@ use lib.Arith.{digits-lt, digits-div, digits-mod}
 use Rattle.finite.proofs.Numbers.{le-or-lt}
 use Rattle.theory.specs.Rules.{Morphism, Lawful}
 use Rattle.theory.specs.Pairs.{Idempotent}
-use Rattle.sections.specs.Sections.{twoBytes}
-use Rattle.mark_class_numbers.specs.Classes.{ClassNumber, ClassesWritten, classPlace}
+use Rattle.formats.specs.Sections.{twoBytes}
+use Rattle.promises.specs.Classes.{ClassNumber, ClassesWritten, classPlace}
 use Rattle.mark_class_numbers.specs.Cells.{Stored, Numbered, Begun, Classed, Advanced, Lowest, Lowered}
 use Rattle.mark_class_numbers.proofs.Bytes.{pair-same, two-kept, stored-other, kept-none, kept-both}
 use Rattle.mark_class_numbers.proofs.Factors.{numbered-more, numbered-lowest, numbered-all}

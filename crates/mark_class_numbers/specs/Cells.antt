@@ -6,8 +6,8 @@ use mathlib.Core.List.{List}
 use lib.ListN.{length, getD}
 use Rattle.theory.specs.Rules.{Morphism}
 use Rattle.theory.specs.Pairs.{Idempotent, Linked, Conjugate, pair-number, Counted}
-use Rattle.sections.specs.Sections.{twoBytes}
-use Rattle.mark_class_numbers.specs.Classes.{noClass}
+use Rattle.formats.specs.Sections.{twoBytes}
+use Rattle.promises.specs.Classes.{noClass}
 
 -- a two-byte number that was read
 pub record Loaded (bytes : List ℕ) (at number : ℕ) : Type 0 where

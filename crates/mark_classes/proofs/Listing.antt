@@ -7,7 +7,8 @@ use lib.ListN.{length, replicate}
 use Rattle.answer.specs.declared.Refusal.{Refusal}
 use Rattle.answer.specs.declared.Refusal.the-variants.{BufferTooShort}
 use Rattle.theory.specs.Rules.{Morphism, Lawful}
-use Rattle.rule_table.specs.Table.{Table, morphismAt}
+use Rattle.rule_table.specs.Table.{Table}
+use Rattle.formats.specs.Table.{morphismAt}
 use Rattle.formats.proofs.Buffers.{buffer-short, buffer-long}
 use Rattle.rule_layout.specs.declared.Shape.{Shape}
 use Rattle.rule_check.specs.declared.Checked.{Checked}
@@ -15,11 +16,10 @@ use Rattle.rule_check.specs.declared.Checked.the-variants.{Rule, Refused as Che
 use Rattle.rule_check.specs.Answers.{CheckPromise}
 use Rattle.rule_check.proofs.Left.{short-left, long-left}
 use Rattle.rule_check.proofs.Calls.{called-good, zeros-left, checked-rule, checked-refused, checked-length, shape-morphism, shape-table}
-use Rattle.mark_classes.specs.declared.Listed.the-variants.{Counts, Refused}
+use Rattle.promises.specs.declared.Listed.the-variants.{Counts, Refused}
 use Rattle.theory.specs.Pairs.{ClassCounts}
-use Rattle.mark_class_numbers.specs.Classes.{ClassesWritten}
+use Rattle.promises.specs.Classes.{ClassesWritten, classesSize, ListPromise}
 use Rattle.mark_class_numbers.specs.Cells.{CellCounts}
-use Rattle.mark_classes.specs.Promise.{classesSize, ListPromise}
 use Rattle.mark_classes.proofs.Counting.{class-counts}
 
 -- a short buffer is refused, and both are left as they came

@@ -5,6 +5,7 @@ use answer::Refusal;
 use mark_class_numbers::begin;
 use mark_class_numbers::load;
 use mark_class_numbers::lower_row;
+use promises::Listed;
 use rule_check::Checked;
 use rule_check::check;
 use rule_marks::linked;
@@ -12,10 +13,10 @@ use sections::zero;
 ghost use Prim.Native.Nat.{_+_, _*_, _≤_, _<_};
 ghost use lib.ListN.{length};
 ghost use Rattle.theory.specs.Rules.{Lawful};
-ghost use Rattle.rule_table.specs.Table.{Table, morphismAt};
-ghost use Rattle.mark_class_numbers.specs.Classes.{ClassesWritten};
+ghost use Rattle.rule_table.specs.Table.{Table};
+ghost use Rattle.formats.specs.Table.{morphismAt};
+ghost use Rattle.promises.specs.Classes.{ClassesWritten, ListPromise};
 ghost use Rattle.mark_class_numbers.specs.Cells.{CellCounts};
-ghost use Rattle.mark_classes.specs.Promise.{ListPromise};
 
 // Writes the class of every pair: once all x and y were tried, each number is the least of a conjugate.
 pub fn write_classes(rule: &[u8], n: usize, k: usize, out: &mut [u8])
@@ -53,20 +54,6 @@ fn count(out: &[u8], pairs: usize) -> ClassNumbers
         }
     }
     ClassNumbers { linked, classes }
-}
-
-// The linked pairs, the classes, and the joins, which are the first less the second.
-pub enum Listed {
-    Counts {
-        linked: usize,
-        classes: usize,
-        joins: usize,
-    },
-    Refused {
-        refusal: Refusal,
-        input: usize,
-        place: usize,
-    },
 }
 
 // Checks a rule, writes its classes and counts them, or refuses it. Scratch ends as zeros, but where a buffer is too short.

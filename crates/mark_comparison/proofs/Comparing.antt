@@ -6,11 +6,13 @@ use native.Mathlib.Omega.{arith}
 use lib.ListN.{length, replicate}
 use Rattle.theory.specs.Rules.{Morphism, Pairs}
 use Rattle.theory.proofs.Included.{none-included, escape-witness}
-use Rattle.rule_table.specs.Table.{Table, morphismAt}
+use Rattle.rule_table.specs.Table.{Table}
+use Rattle.formats.specs.Table.{morphismAt}
 use Rattle.rule_reach.specs.Reach.{placeAt, Empty, WordOrder}
 use Rattle.rule_reach.proofs.Words.{wordAt, found-word, reached-found}
 use Rattle.scratch.specs.Map.{pairsFrom}
-use Rattle.mark_spelling.specs.Spelling.{SpellPlace, WordWritten}
+use Rattle.mark_spelling.specs.Spelling.{SpellPlace}
+use Rattle.promises.specs.Inclusion.{WordWritten}
 use Rattle.mark_spelling.proofs.Entries.{spell-place}
 use Rattle.mark_search.specs.Search.{Stands, EscapePlace, EscapeAnswer, EscapedAt, Escaped}
 use Rattle.mark_search.specs.declared.Escape.{Escape}
@@ -18,7 +20,7 @@ use Rattle.mark_search.specs.declared.Escape.the-variants.{At, Nothing as No-es
 use Rattle.mark_cycles.specs.Cycles.{CyclePlace, CycleWritten}
 use Rattle.mark_cycles.proofs.Spelled.{cycle-place, spelled-escapes, ended-short}
 use Rattle.mark_comparison.specs.Comparison.{StartPlace, StartWritten, ComparePlace, answered-included, answered-apart, Compared}
-use Rattle.mark_comparison.specs.declared.Inclusion.the-variants.{Included as Is-included, NotIncluded}
+use Rattle.promises.specs.declared.Inclusion.the-variants.{Included as Is-included, NotIncluded}
 
 -- the first word of an element
 module _ {bytes : List ℕ} {n k : ℕ} {before queue : List ℕ} {count s : ℕ} {out : List ℕ} (table : Table bytes n k) (place : StartPlace (morphismAt bytes n k) s out)

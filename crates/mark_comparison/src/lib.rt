@@ -5,11 +5,13 @@ use mark_cycles::write_cycle;
 use mark_search::Escape;
 use mark_search::first_escape;
 use mark_spelling::write_first_word;
+use promises::Inclusion;
 use rule_reach::reach;
 use sections::zero;
 ghost use Prim.Native.Nat.{_≤_};
 ghost use lib.ListN.{length};
-ghost use Rattle.rule_table.specs.Table.{Table, morphismAt};
+ghost use Rattle.rule_table.specs.Table.{Table};
+ghost use Rattle.formats.specs.Table.{morphismAt};
 ghost use Rattle.mark_comparison.specs.Comparison.{StartPlace, StartWritten, ComparePlace, Compared};
 
 // Writes the first word of an element, and answers how many letters it has.
@@ -21,19 +23,6 @@ fn write_start(rule: &[u8], n: usize, k: usize, s: usize, out: &mut [u8]) -> usi
     let mut queue = [0u8; 256];
     reach(rule, n, k, &mut queue);
     write_first_word(&queue, n, s, out)
-}
-
-pub enum Inclusion {
-    Included,
-    NotIncluded {
-        u: usize,
-        v: usize,
-    },
-    Refused {
-        refusal: Refusal,
-        input: usize,
-        place: usize,
-    },
 }
 
 // Compares the two markings in scratch, and clears it.

@@ -11,24 +11,26 @@ use Rattle.answer.specs.Checks.{refused}
 use Rattle.answer.proofs.Order.{first-passes, first-fails, none-left, refused-before, passed-before}
 use Rattle.theory.specs.Rules.{Morphism, marked, level}
 use Rattle.theory.specs.Acceptance.{Strong}
-use Rattle.rule_table.specs.Table.{morphismAt}
-use Rattle.formats.specs.Format.{morphismOf, pairsOf}
+use Rattle.formats.specs.Table.{morphismAt}
+use Rattle.formats.specs.RuleFile.{morphismOf, pairsOf}
 use Rattle.formats.specs.RuleChecks.{ruleSize}
 use Rattle.formats.proofs.Buffers.{buffer-short, buffer-long}
 use Rattle.rule_layout.specs.declared.Shape.{Shape}
 use Rattle.rule_check.specs.declared.Checked.the-variants.{Rule as Checked-rule, Refused as Checked-refused}
-use Rattle.rule_check.specs.Answers.{CheckPromise, scratchLeft}
+use Rattle.rule_check.specs.Answers.{CheckPromise}
+use Rattle.formats.specs.Calls.{scratchLeft}
 use Rattle.rule_check.proofs.Left.{short-left, long-left}
 use Rattle.rule_check.proofs.Calls.{called-good, zeros-left, checked-length, shape-morphism}
-use Rattle.rule_writer.specs.ReadBack.{WrittenRule}
-use Rattle.rule_writer.proofs.ReadBack.{written-rule}
+use Rattle.formats.specs.ReadBack.{WrittenRule}
+use Rattle.formats.proofs.ReadBack.{written-rule}
 use Rattle.scratch.specs.Map.{pairsFrom}
 use Rattle.mark_strong.specs.Deciding.{StrongIf, Decided}
-use Rattle.mark_strong.specs.Weak.{weakCheck}
+use Rattle.promises.specs.Weak.{weakCheck}
 use Rattle.mark_strong.proofs.Calling.{checked-table, checked-lawful, checked-reached, checked-linked, marks-stand, checked-room, decided-file}
-use Rattle.mark_complement_marks.specs.Complement.{ComplementMarks, ComplementLaid}
-use Rattle.mark_complement.specs.Promise.{WritePlace, secondMarking, TablesWritten, ComplementPromise}
-use Rattle.mark_complement.specs.declared.Complemented.the-variants.{Rule, Refused}
+use Rattle.promises.specs.Complement.{ComplementMarks, ComplementPromise}
+use Rattle.mark_complement_marks.specs.Complement.{ComplementLaid}
+use Rattle.mark_complement.specs.Promise.{WritePlace, secondMarking, TablesWritten}
+use Rattle.promises.specs.declared.Complemented.the-variants.{Rule, Refused}
 use Rattle.mark_complement.proofs.Complements.{laid-complement}
 
 not-not : (b : Bool) → not (not b) ≡ b

@@ -18,7 +18,8 @@ use Rattle.minimality.proofs.Saturation.{saturated}
 use Rattle.minimality.proofs.Complements.{refusal, complement-marks, complement-saturates, complement-accepts, complement-strong, complement-right}
 use Rattle.scratch.specs.Map.{pairsFrom}
 use Rattle.mark_closure.proofs.Agreement.{SameOn, linked-agrees, accepts-agrees, strong-agrees}
-use Rattle.mark_complement_marks.specs.Complement.{linkedOutside, ComplementMarks, ComplementLaid}
+use Rattle.mark_complement_marks.specs.Complement.{linkedOutside, ComplementLaid}
+use Rattle.promises.specs.Complement.{ComplementMarks}
 
 -- the values of a linked pair are settled
 settled-same : {m : Morphism} {s e : ℕ} → Lawful m → Linked m s e → (settled-start m s e ≡ s) × (settled-cycle m e ≡ e)

@@ -1,4 +1,3 @@
 pub mod Complements
 pub mod Writing
 pub mod Calling
-pub mod OneAnswer

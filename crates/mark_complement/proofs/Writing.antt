@@ -8,11 +8,12 @@ use lib.Arith.{digits-lt}
 use lib.Dec.{ltb}
 use lib.ListN.{length, getD, take, drop}
 use Rattle.theory.specs.Rules.{Morphism}
-use Rattle.rule_table.specs.Table.{Table, productAt, imageAt, morphismAt}
-use Rattle.rule_writer.specs.File.{fileOf}
+use Rattle.rule_table.specs.Table.{Table}
+use Rattle.formats.specs.Table.{productAt, imageAt, morphismAt}
+use Rattle.formats.specs.WrittenFile.{fileOf}
 use Rattle.rule_writer.specs.Writing.{tableMorphism, tableMarks, RulePlace, RuleWritten}
-use Rattle.rule_writer.proofs.Agree.{Agree}
-use Rattle.rule_writer.proofs.Same.{SameMarks, file-same}
+use Rattle.formats.proofs.Agree.{Agree}
+use Rattle.formats.proofs.Same.{SameMarks, file-same}
 use Rattle.scratch.proofs.Parts.{part-length, part-byte}
 use Rattle.mark_complement.specs.Promise.{WritePlace, secondMarking, TablesWritten}
 

@@ -3,14 +3,17 @@
 use answer::Refusal;
 use mark_complement_marks::complement_marks;
 use mark_strong::decide;
+use promises::Complemented;
 use rule_check::Checked;
 use rule_check::check;
 use rule_writer::write_rule;
 use sections::zero;
 ghost use Prim.Native.Nat.{_<_};
 ghost use lib.ListN.{length};
-ghost use Rattle.rule_table.specs.Table.{Table, morphismAt};
-ghost use Rattle.mark_complement.specs.Promise.{WritePlace, TablesWritten, ComplementPromise};
+ghost use Rattle.rule_table.specs.Table.{Table};
+ghost use Rattle.formats.specs.Table.{morphismAt};
+ghost use Rattle.mark_complement.specs.Promise.{WritePlace, TablesWritten};
+ghost use Rattle.promises.specs.Complement.{ComplementPromise};
 
 // Writes the rule with the marks of the second table, and answers how many bytes it has.
 fn write_marked(rule: &[u8], n: usize, k: usize, scratch: &[u8], out: &mut [u8]) -> usize
@@ -22,16 +25,6 @@ fn write_marked(rule: &[u8], n: usize, k: usize, scratch: &[u8], out: &mut [u8])
     let images = &rule[2 + n * n..];
     let marks = &scratch[4096..];
     write_rule(table, images, marks, n, k, out)
-}
-
-// The number of bytes that were written.
-pub enum Complemented {
-    Rule(usize),
-    Refused {
-        refusal: Refusal,
-        input: usize,
-        place: usize,
-    },
 }
 
 // Checks a rule and writes its complement, or refuses it. Scratch ends as zeros, but where a buffer is too short.

@@ -2,15 +2,10 @@
 use Prim.Native.Nat.{ℕ, _+_, _*_, _≤_, _<_}
 use mathlib.Core.Path.{_≡_}
 use mathlib.Core.Bool.{not, _&&_}
-use mathlib.Core.Logic.{_↔_}
 use mathlib.Core.List.{List}
 use lib.ListN.{length, getD}
 use lib.Dec.{ltb}
-use Rattle.theory.specs.Words.{Lasso}
 use Rattle.theory.specs.Rules.{Morphism, Pairs}
-use Rattle.theory.specs.Acceptance.{Accepts, Strong}
-use Rattle.theory.specs.Pairs.{LinkedOnly}
-use Rattle.theory.specs.Smallest.{Complement}
 use Rattle.theory.proofs.Closure.{linked-test}
 use Rattle.scratch.specs.Map.{pairsFrom}
 use Rattle.mark_closure.specs.Closing.{place}
@@ -18,13 +13,6 @@ use Rattle.mark_closure.specs.Closing.{place}
 -- the linked pairs that are not in P
 abbrev pub linkedOutside : Morphism → Pairs → Pairs
 linkedOutside m P s e = linked-test m s e && not (P s e)
-
--- marks of the complement: they accept a lasso exactly if P does not, and are strong, and linked
-pub record ComplementMarks (m : Morphism) (P P′ : Pairs) : Type 0 where
-  pub complement : Complement m P P′
-  pub strong : Strong m P′
-  pub linked : LinkedOnly m P′
-  pub accepts : (u v : List ℕ) → Lasso (m .letters) u v → Accepts m P′ u v ↔ (Accepts m P u v → ⊥)
 
 -- the second table has the linked pairs that it did not have; no byte has changed but those of pairs of elements there
 pub record ComplementLaid (m : Morphism) (entry exit : List ℕ) : Type 0 where

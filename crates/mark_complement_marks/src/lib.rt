@@ -2,7 +2,8 @@
 use rule_marks::linked;
 ghost use Prim.Native.Nat.{_≤_, _<_};
 ghost use lib.ListN.{length};
-ghost use Rattle.rule_table.specs.Table.{Table, morphismAt};
+ghost use Rattle.rule_table.specs.Table.{Table};
+ghost use Rattle.formats.specs.Table.{morphismAt};
 ghost use Rattle.mark_complement_marks.specs.Complement.{ComplementLaid, ByteTurned, RowTurned};
 
 // The byte of (s, e): 1 where the pair is linked and not in the second table, else 0.

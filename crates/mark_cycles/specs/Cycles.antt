@@ -4,7 +4,7 @@ use Prim.Native.Nat.{ℕ, _+_, _≤_, _<_}
 use mathlib.Core.Path.{_≡_}
 use mathlib.Core.List.{List, [], _∷_}
 use lib.ListN.{length}
-use Rattle.mark_spelling.specs.Spelling.{WordWritten}
+use Rattle.promises.specs.Inclusion.{WordWritten}
 use Rattle.mark_search_list.specs.Queue.{backAt, letterAt, parentAt}
 
 -- the letters from entry i back to a start

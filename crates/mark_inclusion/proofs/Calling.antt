@@ -12,9 +12,9 @@ use Rattle.answer.specs.Checks.{Verdict, passed, refused, FirstFailure}
 use Rattle.answer.proofs.Order.{refused-before, passed-before, passed-last, passes-tail}
 use Rattle.theory.specs.Rules.{Morphism, marked, level}
 use Rattle.theory.specs.Pairs.{LinkedOnly}
-use Rattle.sections.specs.Sections.{twoBytes, sectionChecks}
-use Rattle.rule_table.specs.Table.{morphismAt}
-use Rattle.formats.specs.Format.{elementsOf, morphismOf, pairsOf, markWidth, marksSection}
+use Rattle.formats.specs.Sections.{twoBytes, sectionChecks}
+use Rattle.formats.specs.Table.{morphismAt}
+use Rattle.formats.specs.RuleFile.{elementsOf, morphismOf, pairsOf, markWidth, marksSection}
 use Rattle.formats.proofs.Buffers.{buffer-short, buffer-long}
 use Rattle.formats.specs.RuleChecks.{scratchSize, trailingCheck, markChecks, secondMarksChecks}
 use Rattle.rule_layout.specs.declared.Shape.{Shape}
@@ -22,17 +22,18 @@ use Rattle.rule_check.specs.declared.Checked.the-variants.{Rule, Refused as Che
 use Rattle.rule_marks.specs.declared.Fault.{Fault}
 use Rattle.rule_marks.specs.declared.Fault.the-variants.{Nothing, Refused as Fault-refused}
 use Rattle.rule_marks.specs.Faults.{FaultAnswer}
-use Rattle.rule_check.specs.Answers.{CheckPromise, checkedChecks, afterCall}
+use Rattle.rule_check.specs.Answers.{CheckPromise}
+use Rattle.formats.specs.Calls.{checkedChecks, afterCall}
 use Rattle.rule_check.proofs.Calls.{zeros-left, checked-length, shape-morphism}
 use Rattle.rule_check.proofs.MarksPassed.{passed-marks, marking-linked}
 use Rattle.scratch.specs.Map.{pairsFrom}
 use Rattle.mark_search.specs.Search.{Stands}
 use Rattle.mark_strong.proofs.Calling.{checked-table, checked-lawful, checked-reached, checked-linked, marks-stand, checked-room}
 use Rattle.mark_inclusion.specs.Laying.{SecondLaid, LaidAnswer}
-use Rattle.mark_comparison.specs.Comparison.{ComparePlace, InclusionAnswer, Answered, answered-included, answered-apart, Compared}
-use Rattle.mark_inclusion.specs.Promise.{startSize, cycleSize, secondPairs, inclusionChecks, inclusionVerdict, inclusionLeft, InclusionPromise}
-use Rattle.mark_comparison.specs.declared.Inclusion.{Inclusion}
-use Rattle.mark_comparison.specs.declared.Inclusion.the-variants.{Refused}
+use Rattle.mark_comparison.specs.Comparison.{ComparePlace, Answered, answered-included, answered-apart, Compared}
+use Rattle.promises.specs.Inclusion.{InclusionAnswer, startSize, cycleSize, secondPairs, inclusionChecks, inclusionVerdict, inclusionLeft, InclusionPromise}
+use Rattle.promises.specs.declared.Inclusion.{Inclusion}
+use Rattle.promises.specs.declared.Inclusion.the-variants.{Refused}
 use Rattle.mark_inclusion.proofs.Laying.{moved-marks}
 
 module _ (bytes second u v entry : List ℕ) where

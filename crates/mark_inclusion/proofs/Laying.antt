@@ -9,7 +9,7 @@ use lib.Dec.{ltb}
 use borrow.Rule.Slice.PartMut.{putMid, same-len-mid}
 use Rattle.finite.proofs.Numbers.{le-or-lt}
 use Rattle.theory.specs.Rules.{Pairs}
-use Rattle.formats.specs.Format.{marksIn}
+use Rattle.formats.specs.RuleFile.{marksIn}
 use Rattle.formats.specs.RuleChecks.{scratchSize}
 use Rattle.rule_marks.specs.declared.Fault.{Fault}
 use Rattle.rule_marks.specs.declared.Fault.the-variants.{Nothing, Refused as Fault-refused}

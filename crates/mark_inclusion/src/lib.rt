@@ -1,8 +1,8 @@
 // Whether each lasso that a rule accepts is accepted under a second marking of its table too; if not, a lasso that tells the two
 // markings apart is written. Weak markings are compared like others.
 use answer::Refusal;
-use mark_comparison::Inclusion;
 use mark_comparison::compare;
+use promises::Inclusion;
 use rule_check::Checked;
 use rule_check::check;
 use rule_marks::Fault;
@@ -13,11 +13,11 @@ ghost use mathlib.Core.Path.{_≡_};
 ghost use Prim.Native.Nat.{_≤_};
 ghost use lib.ListN.{length};
 ghost use Rattle.rule_table.specs.Table.{Table};
-ghost use Rattle.formats.specs.Format.{elementsOf, lettersOf};
+ghost use Rattle.formats.specs.RuleFile.{elementsOf, lettersOf};
 ghost use Rattle.formats.specs.RuleChecks.{scratchSize, secondMarksChecks};
 ghost use Rattle.rule_marks.specs.Faults.{FaultAnswer};
 ghost use Rattle.mark_inclusion.specs.Laying.{LaidAnswer};
-ghost use Rattle.mark_inclusion.specs.Promise.{InclusionPromise};
+ghost use Rattle.promises.specs.Inclusion.{InclusionPromise};
 
 // Checks the second marks and lays them out behind the first.
 fn lay_second(rule: &[u8], n: usize, k: usize, second: &[u8], scratch: &mut [u8]) -> Fault

@@ -6,7 +6,8 @@ use rule_table::image;
 use rule_table::product;
 ghost use mathlib.Core.Path.{_≡_};
 ghost use Prim.Native.Nat.{_+_, _<_};
-ghost use Rattle.rule_table.specs.Table.{Table, morphismAt};
+ghost use Rattle.rule_table.specs.Table.{Table};
+ghost use Rattle.formats.specs.Table.{morphismAt};
 ghost use Rattle.scratch.specs.Preimages.{afterLetter, PreimagesRoom, PreimagesListed};
 ghost use Rattle.mark_preimages.specs.Listing.{ValuePlace, ValueListed, LetterRoom, LetterListed};
 

@@ -14,7 +14,8 @@ use Rattle.theory.specs.Rules.{Morphism, Lawful}
 use Rattle.theory.proofs.Codes.{value-at}
 use Rattle.theory.proofs.Turns.{turned}
 use Rattle.theory.proofs.Splits.{turn-square}
-use Rattle.rule_table.specs.Table.{Table, ProductPlace, productAt, imageAt, morphismAt}
+use Rattle.rule_table.specs.Table.{Table, ProductPlace}
+use Rattle.formats.specs.Table.{productAt, imageAt, morphismAt}
 use Rattle.scratch.specs.Map.{pairsFrom}
 use Rattle.mark_search_list.specs.Steps.{beforeLetter, splitMarked}
 

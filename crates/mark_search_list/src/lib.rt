@@ -5,7 +5,8 @@ use rule_table::image;
 use rule_table::product;
 ghost use mathlib.Core.Path.{_≡_};
 ghost use Prim.Native.Nat.{_≤_, _<_};
-ghost use Rattle.rule_table.specs.Table.{Table, morphismAt};
+ghost use Rattle.rule_table.specs.Table.{Table};
+ghost use Rattle.formats.specs.Table.{morphismAt};
 ghost use Rattle.scratch.specs.Map.{pairsFrom};
 ghost use Rattle.mark_search_list.specs.Steps.{StorePlace, Stored, AddPlace, Added, BeginPlace, BegunWith, Begun, beforeLetter, ExpandPlace, Taken, Expanded};
 

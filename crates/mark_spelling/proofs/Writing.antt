@@ -8,7 +8,8 @@ use lib.ListN.{length, getD, take, drop, set, length-set, take-append-drop, leng
 use lib.Seq.{length-take-le, take-suc, set-at}
 use Rattle.finite.proofs.Shortlex.{snoc, length-snoc}
 use Rattle.rule_reach.proofs.Words.{wordAt}
-use Rattle.mark_spelling.specs.Spelling.{EntryPlace, WordWritten}
+use Rattle.mark_spelling.specs.Spelling.{EntryPlace}
+use Rattle.promises.specs.Inclusion.{WordWritten}
 use Rattle.mark_spelling.proofs.Entries.{entry-first, entry-step}
 
 -- the word is its front, of `left` letters, and the rest, which was written behind the room for the front

@@ -5,7 +5,7 @@ use mathlib.Core.List.{List}
 use native.Mathlib.Omega.{arith}
 use lib.ListN.{length, getD, take, drop, length-append, length-drop, List·getD-append}
 use lib.Seq.{take-append-seam, drop-append-seam, getD-drop}
-use Rattle.mark_spelling.specs.Spelling.{WordWritten}
+use Rattle.promises.specs.Inclusion.{WordWritten}
 
 module _ {word entry exit : List ℕ} {r : ℕ} (w : WordWritten word entry exit r) where
   -- the buffer keeps its length

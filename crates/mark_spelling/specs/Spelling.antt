@@ -1,8 +1,7 @@
 -- Where the first word of an element is read, and what it is to have a word written. Assumes nothing.
 use Prim.Native.Nat.{ℕ, _≤_, _<_}
-use mathlib.Core.Path.{_≡_}
-use mathlib.Core.List.{List, _++_}
-use lib.ListN.{length, drop}
+use mathlib.Core.List.{List}
+use lib.ListN.{length}
 use Rattle.rule_reach.specs.Reach.{placeAt, WordOrder}
 
 -- the worklist that a search of the words of some table with n elements left
@@ -27,8 +26,3 @@ pub record SpellPlace (queue : List ℕ) (n s : ℕ) (out : List ℕ) : Type 0 w
   pub inside : s < n
   pub found : 0 < placeAt queue s
   pub long : n ≤ length out
-
--- a word stands at the front of a buffer, the rest is as it was, and r is the number of its letters
-pub record WordWritten (word entry exit : List ℕ) (r : ℕ) : Type 0 where
-  pub holds : exit ≡ word ++ drop (length word) entry
-  pub counts : r ≡ length word

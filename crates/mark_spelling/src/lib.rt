@@ -6,7 +6,8 @@ ghost use Prim.Native.Nat.{_≤_};
 ghost use lib.ListN.{length};
 ghost use Rattle.rule_reach.specs.Reach.{placeAt};
 ghost use Rattle.rule_reach.proofs.Words.{wordAt};
-ghost use Rattle.mark_spelling.specs.Spelling.{EntryPlace, SpellPlace, WordWritten};
+ghost use Rattle.mark_spelling.specs.Spelling.{EntryPlace, SpellPlace};
+ghost use Rattle.promises.specs.Inclusion.{WordWritten};
 
 // How many letters the word of an entry has.
 fn count_letters(queue: &[u8], at: usize) -> usize

@@ -11,19 +11,21 @@ use Rattle.answer.specs.Checks.{passed, refused, FirstFailure}
 use Rattle.theory.specs.Rules.{Morphism, Lawful, Pairs, AllReached, marked, level}
 use Rattle.theory.specs.Acceptance.{Strong}
 use Rattle.theory.specs.Pairs.{LinkedOnly}
-use Rattle.rule_table.specs.Table.{Table, morphismAt}
-use Rattle.formats.specs.Format.{elementsOf, lettersOf, morphismOf, pairsOf, markingOf}
+use Rattle.rule_table.specs.Table.{Table}
+use Rattle.formats.specs.Table.{morphismAt}
+use Rattle.formats.specs.RuleFile.{elementsOf, lettersOf, morphismOf, pairsOf, markingOf}
 use Rattle.rule_layout.specs.declared.Shape.{Shape}
 use Rattle.rule_check.specs.declared.Checked.the-variants.{Rule, Refused as Checked-refused}
-use Rattle.rule_check.specs.Answers.{CheckPromise, afterCall}
+use Rattle.rule_check.specs.Answers.{CheckPromise}
+use Rattle.formats.specs.Calls.{afterCall}
 use Rattle.rule_check.specs.GoodRule.{GoodRule}
 use Rattle.rule_check.proofs.Calls.{scratch-long, called-good, zeros-left, checked-length, shape-morphism, shape-table}
 use Rattle.scratch.specs.Map.{pairsFrom}
 use Rattle.mark_closure.proofs.Agreement.{linked-agrees}
 use Rattle.mark_search.specs.Search.{Stands}
 use Rattle.mark_strong.specs.Deciding.{DecidePlace, StrongIf, Decided}
-use Rattle.mark_strong.specs.Promise.{StrongPromise}
-use Rattle.mark_strong.specs.declared.Strength.the-variants.{Strong as Is-strong, Weak, Refused}
+use Rattle.promises.specs.Strong.{StrongPromise}
+use Rattle.promises.specs.declared.Strength.the-variants.{Strong as Is-strong, Weak, Refused}
 
 module _ (input : ℕ) (bytes entry : List ℕ) {shape : Shape} {mid : List ℕ} (p : CheckPromise input bytes entry mid (Rule shape)) where
   good : GoodRule bytes

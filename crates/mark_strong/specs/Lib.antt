@@ -1,3 +1,1 @@
 pub mod Deciding
-pub mod Promise
-pub mod Weak

@@ -4,13 +4,15 @@ use answer::Refusal;
 use mark_closure::close;
 use mark_search::Escape;
 use mark_search::first_escape;
+use promises::Strength;
 use rule_check::Checked;
 use rule_check::check;
 use sections::zero;
 use sections::zero_part;
-ghost use Rattle.rule_table.specs.Table.{Table, morphismAt};
+ghost use Rattle.rule_table.specs.Table.{Table};
+ghost use Rattle.formats.specs.Table.{morphismAt};
 ghost use Rattle.mark_strong.specs.Deciding.{DecidePlace, Decided};
-ghost use Rattle.mark_strong.specs.Promise.{StrongPromise};
+ghost use Rattle.promises.specs.Strong.{StrongPromise};
 
 // Decides strength from the marks in scratch, and leaves their closure behind them. The bytes from 61440 on are kept.
 pub fn decide(rule: &[u8], n: usize, k: usize, scratch: &mut [u8]) -> bool
@@ -27,16 +29,6 @@ pub fn decide(rule: &[u8], n: usize, k: usize, scratch: &mut [u8]) -> bool
         Escape::At { start: _, entry: _ } => false,
         Escape::Nothing => true,
     }
-}
-
-pub enum Strength {
-    Strong,
-    Weak,
-    Refused {
-        refusal: Refusal,
-        input: usize,
-        place: usize,
-    },
 }
 
 // Checks a rule and says whether it is strong. Scratch ends as zeros, but where it is too short.

@@ -9,15 +9,13 @@ use Rattle.theory.specs.Words.{Over, over-nil, over-cons}
 use Rattle.theory.specs.Rules.{Morphism, Lawful, Value, element, join, value}
 use Rattle.theory.proofs.Words.{over-append}
 use Rattle.theory.proofs.Values.{Inside, inside-none, inside-element, join-none, join-inside, value-inside, value-append}
-use Rattle.formats.specs.Format.{elementsOf, lettersOf, morphismOf}
-use Rattle.rule_check.specs.Answers.{checkedChecks}
+use Rattle.formats.specs.RuleFile.{elementsOf, lettersOf, morphismOf}
+use Rattle.formats.specs.Calls.{checkedChecks}
 use Rattle.rule_check.proofs.Calls.{called-good}
-use Rattle.monitor_state.specs.declared.Monitor.{Monitor}
-use Rattle.monitor_moves.specs.Moves.{afterEvent, afterMark}
-use Rattle.monitor_state.specs.Monitor.{noValue, valueOf, numberFor, freshMonitor}
-use Rattle.monitor_state.specs.Ready.{monitorChecks}
-use Rattle.monitor_moves.specs.Promises.{eventChecks}
-use Rattle.monitor_histories.specs.Histories.{Action, event, mark, sinceWord, beforeWord, Run, begun, moved-by-event, moved-by-mark, moved-in-place, event-refused, mark-refused, refused-in-place, Follows}
+use Rattle.promises.specs.declared.Monitor.{Monitor}
+use Rattle.promises.specs.Moves.{afterEvent, afterMark, eventChecks}
+use Rattle.promises.specs.Monitor.{noValue, valueOf, numberFor, freshMonitor, monitorChecks}
+use Rattle.promises.specs.Histories.{Action, event, mark, sinceWord, beforeWord, Run, begun, moved-by-event, moved-by-mark, moved-in-place, event-refused, mark-refused, refused-in-place, Follows}
 use Rattle.monitor_state.proofs.Numbers.{value-none, value-element, number-of-value}
 
 -- a value of a rule with at most 64 elements is that of its number

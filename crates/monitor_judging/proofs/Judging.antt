@@ -16,8 +16,8 @@ use Rattle.theory.proofs.Closure.{closure-test, acceptance-passes, strong-accep
 use Rattle.scratch.specs.Map.{pairsFrom}
 use Rattle.mark_search.specs.Search.{Stands}
 use Rattle.mark_strong.specs.Deciding.{DecidePlace, StrongIf, Decided}
-use Rattle.monitor_judging.specs.declared.Judged.the-variants.{Accepted, NotAccepted, Refused}
-use Rattle.monitor_judging.specs.Lassos.{LassoWith, LassosAccepted, LassosNotAccepted}
+use Rattle.promises.specs.declared.Judged.the-variants.{Accepted, NotAccepted, Refused}
+use Rattle.promises.specs.Verdict.{LassoWith, LassosAccepted, LassosNotAccepted}
 use Rattle.monitor_judging.specs.Judges.{Judges}
 
 module _ {m : Morphism} (law : Lawful m) (reached : AllReached m) {before since : ℕ} (hb : before < m .size) (hs : since < m .size)

@@ -12,8 +12,10 @@ use Rattle.theory.proofs.Conjugacy.{semigroup}
 use Rattle.theory.proofs.Strength.{settled-start, settled-cycle}
 use Rattle.rule_table.specs.declared.Power.{Power}
 use Rattle.rule_table.specs.declared.Power.the-variants.{Idempotent as Idempotent-power, Nothing as No-power}
-use Rattle.rule_table.specs.Table.{Table, productAt, morphismAt}
-use Rattle.rule_table.specs.Answers.{LeastPower, PowerAnswer}
+use Rattle.rule_table.specs.Table.{Table}
+use Rattle.formats.specs.Table.{productAt, morphismAt}
+use Rattle.formats.proofs.Tables.{LeastPower}
+use Rattle.rule_table.specs.Answers.{PowerAnswer}
 use Rattle.rule_table.proofs.Facts.{least-power-is, no-power-absurd, product-below}
 use Rattle.scratch.specs.Map.{pairsFrom}
 

@@ -9,9 +9,9 @@ use Rattle.theory.specs.Rules.{Morphism, Pairs}
 use Rattle.theory.specs.Acceptance.{Strong}
 use Rattle.theory.specs.Pairs.{LinkedOnly}
 use Rattle.mark_search.specs.Search.{Stands}
-use Rattle.monitor_judging.specs.declared.Judged.{Judged}
-use Rattle.monitor_judging.specs.declared.Judged.the-variants.{Accepted, NotAccepted, Refused}
-use Rattle.monitor_judging.specs.Lassos.{LassosAccepted, LassosNotAccepted}
+use Rattle.promises.specs.declared.Judged.{Judged}
+use Rattle.promises.specs.declared.Judged.the-variants.{Accepted, NotAccepted, Refused}
+use Rattle.promises.specs.Verdict.{LassosAccepted, LassosNotAccepted}
 
 -- a strong marking with the answer for the values (before, since), or one that is not strong and 12
 abbrev pub JudgedBy : Morphism → Pairs → ℕ → ℕ → Judged → Type 0

@@ -1,2 +1,1 @@
-pub mod Lassos
 pub mod Judges

@@ -1,6 +1,7 @@
 // The verdict on two values of a strong rule, below the checks: whether the lassos with these values are accepted.
 use answer::Refusal;
 use mark_strong::decide;
+use promises::Judged;
 use rule_table::Power;
 use rule_table::idempotent_power;
 use rule_table::product;
@@ -10,20 +11,11 @@ ghost use Prim.Native.Nat.{_≤_, _<_};
 ghost use lib.ListN.{length};
 ghost use Rattle.theory.specs.Rules.{Lawful};
 ghost use Rattle.theory.proofs.Strength.{settled-start, settled-cycle};
-ghost use Rattle.rule_table.specs.Table.{Table, morphismAt};
+ghost use Rattle.rule_table.specs.Table.{Table};
+ghost use Rattle.formats.specs.Table.{morphismAt};
 ghost use Rattle.scratch.specs.Map.{pairsFrom};
 ghost use Rattle.mark_strong.specs.Deciding.{DecidePlace};
 ghost use Rattle.monitor_judging.specs.Judges.{Judges};
-
-pub enum Judged {
-    Accepted,
-    NotAccepted,
-    Refused {
-        refusal: Refusal,
-        input: usize,
-        place: usize,
-    },
-}
 
 // Whether the table of marks from 4096 has the pair (before·f, f), f the idempotent power of since: the values of the same endless
 // words written with more turns in their start and their cycle.

@@ -2,13 +2,13 @@
 use Prim.Native.Nat.{ℕ}
 use mathlib.Core.Path.{_≡_, sym, subst}
 use mathlib.Core.List.{List}
-use Rattle.monitor_state.specs.declared.Monitor.{Monitor}
-use Rattle.monitor_moves.specs.declared.Moved.{Moved}
-use Rattle.monitor_moves.specs.declared.Moved.the-variants.{To, Refused}
-use Rattle.monitor_lent.specs.declared.Told.{Told}
-use Rattle.monitor_moves.specs.Moves.{afterEvent}
-use Rattle.monitor_moves.specs.Promises.{EventPromise}
-use Rattle.monitor_lent.specs.InPlace.{sinceOf, toldOf, EventInPlace}
+use Rattle.promises.specs.declared.Monitor.{Monitor}
+use Rattle.promises.specs.declared.Moved.{Moved}
+use Rattle.promises.specs.declared.Moved.the-variants.{To, Refused}
+use Rattle.promises.specs.declared.Told.{Told}
+use Rattle.promises.specs.Moves.{afterEvent, EventPromise}
+use Rattle.monitor_lent.specs.InPlace.{sinceOf, toldOf}
+use Rattle.promises.specs.InPlace.{EventInPlace}
 
 -- the lent monitor with another since
 abbrev pub withSince : Monitor → ℕ → Monitor

@@ -1,20 +1,12 @@
 // An event on a monitor that is lent: the new since is stored in it.
 use answer::Refusal;
-use monitor_moves::Moved;
 use monitor_moves::event;
-use monitor_state::Monitor;
+use promises::Monitor;
+use promises::Moved;
+use promises::Told;
 ghost use mathlib.Core.Path.{_≡_};
-ghost use Rattle.monitor_lent.specs.InPlace.{sinceOf, toldOf, EventInPlace};
-
-// What a call that is lent a monitor answers: the monitor has moved, or the refusal.
-pub enum Told {
-    Done,
-    Refused {
-        refusal: Refusal,
-        input: usize,
-        place: usize,
-    },
-}
+ghost use Rattle.monitor_lent.specs.InPlace.{sinceOf, toldOf};
+ghost use Rattle.promises.specs.InPlace.{EventInPlace};
 
 // The number since of the monitor that a call hands back.
 fn since_of(moved: Moved) -> usize

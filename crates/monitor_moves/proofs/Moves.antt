@@ -9,17 +9,17 @@ use Rattle.answer.specs.declared.Refusal.the-variants.{UnknownLetter}
 use Rattle.answer.specs.Checks.{Check, passed, refused, FirstFailure}
 use Rattle.answer.proofs.Order.{first-passes, first-fails, none-left, refused-before, passed-before}
 use Rattle.theory.specs.Rules.{Morphism, Value, element, join}
-use Rattle.rule_table.specs.Table.{Table, morphismAt, imageAt}
-use Rattle.formats.specs.Format.{elementsOf, lettersOf, morphismOf}
+use Rattle.rule_table.specs.Table.{Table}
+use Rattle.formats.specs.Table.{morphismAt, imageAt}
+use Rattle.formats.specs.RuleFile.{elementsOf, lettersOf, morphismOf}
 use Rattle.rule_layout.specs.declared.Shape.{Shape}
 use Rattle.rule_check.proofs.Calls.{shape-morphism}
-use Rattle.monitor_state.specs.declared.Monitor.{Monitor}
+use Rattle.promises.specs.declared.Monitor.{Monitor}
 use Rattle.monitor_state.specs.declared.Ready.the-variants.{Rule, Refused as Not-ready}
-use Rattle.monitor_moves.specs.declared.Moved.the-variants.{To, Refused}
-use Rattle.monitor_moves.specs.Moves.{LoneForeignAt, afterEvent, afterMark}
-use Rattle.monitor_state.specs.Monitor.{noValue, valueOf, numberFor}
-use Rattle.monitor_state.specs.Ready.{GoodNumber, joinAt, monitorChecks, ReadyPromise}
-use Rattle.monitor_moves.specs.Promises.{EventPromise, MarkPromise}
+use Rattle.promises.specs.declared.Moved.the-variants.{To, Refused}
+use Rattle.promises.specs.Moves.{LoneForeignAt, afterEvent, afterMark, EventPromise, MarkPromise}
+use Rattle.promises.specs.Monitor.{noValue, valueOf, numberFor, monitorChecks}
+use Rattle.monitor_state.specs.Ready.{GoodNumber, joinAt, ReadyPromise}
 use Rattle.monitor_state.proofs.Numbers.{value-element}
 use Rattle.monitor_state.proofs.Prepared.{ready-table}
 

@@ -1,24 +1,14 @@
 // The monitor (document 01: follower) of a station: it keeps the value of the letters before the last mark and of those since.
 // It holds two values and no count, so its state has the same few forms after years. Every call checks the whole rule.
 use answer::Refusal;
-use monitor_state::Monitor;
 use monitor_state::Ready;
 use monitor_state::join;
 use monitor_state::prepare;
+use promises::Monitor;
+use promises::Moved;
 use rule_table::image;
 ghost use Prim.Native.Nat.{_<_};
-ghost use Rattle.monitor_moves.specs.Promises.{EventPromise, MarkPromise};
-
-// What a call makes of a monitor; a refused call hands it back as it was.
-pub enum Moved {
-    To(Monitor),
-    Refused {
-        monitor: Monitor,
-        refusal: Refusal,
-        input: usize,
-        place: usize,
-    },
-}
+ghost use Rattle.promises.specs.Moves.{EventPromise, MarkPromise};
 
 // An event: since times the letter's element.
 pub fn event(rule: &[u8], m: Monitor, letter: u8, scratch: &mut [u8]) -> Moved

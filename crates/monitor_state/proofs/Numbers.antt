@@ -11,8 +11,8 @@ use lib.Dec.{eqb}
 use Rattle.finite.proofs.Numbers.{le-or-lt}
 use Rattle.theory.specs.Rules.{Morphism, Value, none, element, join}
 use Rattle.theory.proofs.Values.{Inside, inside-none, inside-element, join-none}
-use Rattle.rule_table.specs.Table.{morphismAt, productAt}
-use Rattle.monitor_state.specs.Monitor.{noValue, valueOf, numberFor, IsStray}
+use Rattle.formats.specs.Table.{morphismAt, productAt}
+use Rattle.promises.specs.Monitor.{noValue, valueOf, numberFor, IsStray}
 use Rattle.monitor_state.specs.Ready.{GoodNumber, joinAt}
 
 pub value-none : {s : ℕ} → s ≡ noValue → valueOf s ≡ none

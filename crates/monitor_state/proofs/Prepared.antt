@@ -11,16 +11,17 @@ use Rattle.answer.specs.declared.Refusal.the-variants.{EntryOutOfRange, Unknown
 use Rattle.answer.specs.Checks.{Check, passed, refused, FirstFailure}
 use Rattle.answer.proofs.Order.{first-passes, first-fails, none-left, refused-before, passed-before, passed-first, passed-last, passes-head, passes-tail}
 use Rattle.rule_table.specs.Table.{Table}
-use Rattle.formats.specs.Format.{elementsOf, lettersOf}
+use Rattle.formats.specs.RuleFile.{elementsOf, lettersOf}
 use Rattle.rule_layout.specs.declared.Shape.{Shape}
 use Rattle.rule_check.specs.declared.Checked.the-variants.{Rule, Refused}
-use Rattle.rule_check.specs.Answers.{CheckPromise, checkedChecks, afterCall}
+use Rattle.rule_check.specs.Answers.{CheckPromise}
+use Rattle.formats.specs.Calls.{checkedChecks, afterCall}
 use Rattle.rule_check.proofs.Calls.{zeros-left, checked-length, called-good, shape-table}
-use Rattle.monitor_state.specs.declared.Monitor.{Monitor}
+use Rattle.promises.specs.declared.Monitor.{Monitor}
 use Rattle.monitor_state.specs.declared.Ready.{Ready}
 use Rattle.monitor_state.specs.declared.Ready.the-variants.{Rule as Ready-rule, Refused as Not-ready}
-use Rattle.monitor_state.specs.Monitor.{IsStray}
-use Rattle.monitor_state.specs.Ready.{GoodNumber, StrayAnswer, strayCheck, monitorChecks, ReadyPromise}
+use Rattle.promises.specs.Monitor.{IsStray, strayCheck, monitorChecks}
+use Rattle.monitor_state.specs.Ready.{GoodNumber, StrayAnswer, ReadyPromise}
 use Rattle.monitor_state.proofs.Numbers.{not-stray, good-not-stray}
 
 module _ (bytes : List ℕ) (f : Monitor) (entry : List ℕ) where

@@ -1,2 +1,1 @@
-pub mod Monitor
 pub mod Ready

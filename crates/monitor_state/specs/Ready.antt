@@ -3,18 +3,16 @@ use Prim.Native.Nat.{ℕ, _<_}
 use mathlib.Core.Path.{_≡_}
 use mathlib.Core.Bool.{Bool, true, false}
 use mathlib.Core.Logic.{_⊎_}
-use mathlib.Core.List.{List, [], _∷_, _++_}
-use Rattle.answer.specs.declared.Refusal.the-variants.{EntryOutOfRange}
-use Rattle.answer.specs.Checks.{Check, Verdict, passed, refused, FirstFailure}
+use mathlib.Core.List.{List}
+use Rattle.answer.specs.Checks.{Verdict, passed, refused, FirstFailure}
 use Rattle.theory.specs.Rules.{join}
-use Rattle.rule_table.specs.Table.{morphismAt}
-use Rattle.formats.specs.Format.{elementsOf}
+use Rattle.formats.specs.Table.{morphismAt}
 use Rattle.rule_layout.specs.Answers.{IsShape}
-use Rattle.rule_check.specs.Answers.{checkedChecks, afterCall}
-use Rattle.monitor_state.specs.declared.Monitor.{Monitor}
+use Rattle.formats.specs.Calls.{afterCall}
+use Rattle.promises.specs.declared.Monitor.{Monitor}
 use Rattle.monitor_state.specs.declared.Ready.{Ready}
 use Rattle.monitor_state.specs.declared.Ready.the-variants.{Rule, Refused as Not-ready}
-use Rattle.monitor_state.specs.Monitor.{noValue, valueOf, numberFor, IsStray, StrayAt}
+use Rattle.promises.specs.Monitor.{noValue, valueOf, numberFor, IsStray, monitorChecks}
 
 -- an element or none
 abbrev pub GoodNumber : ℕ → ℕ → Type 0
@@ -27,14 +25,6 @@ joinAt bytes n k a b = numberFor (join (morphismAt bytes n k) (valueOf a) (value
 abbrev pub StrayAnswer : ℕ → ℕ → Bool → Type 0
 StrayAnswer n s true = IsStray n s
 StrayAnswer n s false = GoodNumber n s
-
--- 3 for the values of a monitor of a rule with n elements, which is the input of the given number
-abbrev pub strayCheck : ℕ → ℕ → Monitor → Check
-strayCheck input n f = record { refusal = EntryOutOfRange; input = input; Fails = StrayAt n f }
-
--- "Then 3 for a follower's values": after the rule's own checks
-abbrev pub monitorChecks : List ℕ → Monitor → List ℕ → List Check
-monitorChecks bytes f scratch = checkedChecks 1 bytes scratch ++ strayCheck 1 (elementsOf bytes) f ∷ []
 
 abbrev pub readyVerdict : Ready → Verdict
 readyVerdict (Rule shape) = passed

@@ -1,6 +1,7 @@
 // The state of a monitor (document 01: follower): two values, a fresh one, the product of two values, and the check of a rule with a
 // monitor's values before a call moves it.
 use answer::Refusal;
+use promises::Monitor;
 use rule_check::Checked;
 use rule_check::check;
 use rule_layout::Shape;
@@ -9,14 +10,8 @@ use sections::zero;
 ghost use mathlib.Core.Path.{_≡_};
 ghost use Prim.Native.Nat.{_<_};
 ghost use Rattle.rule_table.specs.Table.{Table};
-ghost use Rattle.monitor_state.specs.Monitor.{freshMonitor};
+ghost use Rattle.promises.specs.Monitor.{freshMonitor};
 ghost use Rattle.monitor_state.specs.Ready.{GoodNumber, joinAt, StrayAnswer, ReadyPromise};
-
-// Each an element, or 64 for none.
-pub struct Monitor {
-    pub before: usize,
-    pub since: usize,
-}
 
 // A monitor that has seen nothing.
 pub fn fresh() -> Monitor

@@ -7,16 +7,14 @@ use mathlib.Core.List.{List}
 use Rattle.answer.specs.Checks.{passed, FirstFailure}
 use Rattle.answer.proofs.Order.{passed-last, passes-head}
 use Rattle.theory.specs.Acceptance.{Accepts}
-use Rattle.formats.specs.Format.{morphismOf, pairsOf}
-use Rattle.monitor_state.specs.declared.Monitor.{Monitor}
-use Rattle.monitor_state.specs.Monitor.{noValue}
-use Rattle.monitor_state.specs.Ready.{monitorChecks}
-use Rattle.monitor_histories.specs.Histories.{Action, sinceWord, beforeWord, Run}
+use Rattle.formats.specs.RuleFile.{morphismOf, pairsOf}
+use Rattle.promises.specs.declared.Monitor.{Monitor}
+use Rattle.promises.specs.Monitor.{noValue, monitorChecks}
+use Rattle.promises.specs.Histories.{Action, sinceWord, beforeWord, Run}
 use Rattle.monitor_state.proofs.Numbers.{value-element}
 use Rattle.monitor_histories.proofs.Histories.{run-follows}
-use Rattle.monitor_judging.specs.declared.Judged.the-variants.{Accepted, NotAccepted}
-use Rattle.monitor_judging.specs.Lassos.{LassoWith}
-use Rattle.monitor_verdict.specs.Promise.{verdictChecks, VerdictPromise}
+use Rattle.promises.specs.declared.Judged.the-variants.{Accepted, NotAccepted}
+use Rattle.promises.specs.Verdict.{LassoWith, verdictChecks, VerdictPromise}
 
 module _ {bytes : List ℕ} {f : Monitor} {history : List Action} (run : Run bytes f history) where
   -- neither value is none, and they are those of the history's words

@@ -1,4 +1,3 @@
 pub mod Values
 pub mod Ways
-pub mod OneAnswer
 pub mod Histories

@@ -8,11 +8,11 @@ use Rattle.answer.specs.Checks.{Check, refused, FirstFailure}
 use Rattle.answer.proofs.Order.{first-passes, first-fails}
 use Rattle.rule_marks.specs.declared.Fault.{Fault}
 use Rattle.rule_marks.specs.declared.Fault.the-variants.{Nothing, Refused}
-use Rattle.monitor_state.specs.declared.Monitor.{Monitor}
-use Rattle.monitor_state.specs.Monitor.{noValue, IsStray}
-use Rattle.monitor_state.specs.Ready.{GoodNumber, strayCheck}
+use Rattle.promises.specs.declared.Monitor.{Monitor}
+use Rattle.promises.specs.Monitor.{noValue, IsStray, strayCheck}
+use Rattle.monitor_state.specs.Ready.{GoodNumber}
 use Rattle.monitor_state.proofs.Numbers.{good-not-stray, good-element}
-use Rattle.monitor_verdict.specs.Promise.{noneCheck}
+use Rattle.promises.specs.Verdict.{noneCheck}
 use Rattle.monitor_verdict.specs.Judging.{valueChecks, BothElements, ValuesAnswer}
 
 module _ (n : ℕ) (f : Monitor) where

@@ -9,19 +9,20 @@ use Rattle.answer.specs.declared.Refusal.{Refusal}
 use Rattle.answer.specs.Checks.{Verdict, refused, FirstFailure}
 use Rattle.answer.proofs.Order.{first-passes, first-fails, none-left, refused-before, passed-before}
 use Rattle.theory.specs.Rules.{Morphism}
-use Rattle.rule_table.specs.Table.{morphismAt}
-use Rattle.formats.specs.Format.{elementsOf, morphismOf, pairsOf}
+use Rattle.formats.specs.Table.{morphismAt}
+use Rattle.formats.specs.RuleFile.{elementsOf, morphismOf, pairsOf}
 use Rattle.rule_layout.specs.declared.Shape.{Shape}
 use Rattle.rule_check.specs.declared.Checked.the-variants.{Rule, Refused as Checked-refused}
-use Rattle.rule_check.specs.Answers.{CheckPromise, checkedChecks, afterCall}
+use Rattle.rule_check.specs.Answers.{CheckPromise}
+use Rattle.formats.specs.Calls.{checkedChecks, afterCall}
 use Rattle.rule_check.proofs.Calls.{zeros-left, checked-length, shape-morphism}
-use Rattle.mark_strong.specs.Weak.{weakCheck}
+use Rattle.promises.specs.Weak.{weakCheck}
 use Rattle.mark_strong.proofs.Calling.{checked-linked, marks-stand}
-use Rattle.monitor_state.specs.declared.Monitor.{Monitor}
-use Rattle.monitor_state.specs.Monitor.{IsStray}
-use Rattle.monitor_judging.specs.declared.Judged.{Judged}
-use Rattle.monitor_judging.specs.declared.Judged.the-variants.{Accepted, NotAccepted, Refused}
-use Rattle.monitor_verdict.specs.Promise.{verdictChecks, VerdictPromise}
+use Rattle.promises.specs.declared.Monitor.{Monitor}
+use Rattle.promises.specs.Monitor.{IsStray}
+use Rattle.promises.specs.declared.Judged.{Judged}
+use Rattle.promises.specs.declared.Judged.the-variants.{Accepted, NotAccepted, Refused}
+use Rattle.promises.specs.Verdict.{verdictChecks, VerdictPromise}
 use Rattle.monitor_judging.specs.Judges.{JudgedBy, Judges}
 use Rattle.monitor_verdict.specs.Judging.{valueChecks, BothElements}
 

@@ -5,10 +5,9 @@ use mathlib.Core.List.{List, [], _∷_}
 use Rattle.answer.specs.Checks.{Check, refused, FirstFailure}
 use Rattle.rule_marks.specs.declared.Fault.{Fault}
 use Rattle.rule_marks.specs.declared.Fault.the-variants.{Nothing, Refused as Fault-refused}
-use Rattle.monitor_state.specs.declared.Monitor.{Monitor}
-use Rattle.monitor_state.specs.Monitor.{noValue}
-use Rattle.monitor_state.specs.Ready.{strayCheck}
-use Rattle.monitor_verdict.specs.Promise.{noneCheck}
+use Rattle.promises.specs.declared.Monitor.{Monitor}
+use Rattle.promises.specs.Monitor.{noValue, strayCheck}
+use Rattle.promises.specs.Verdict.{noneCheck}
 
 -- 3 for the values of a monitor, then 11
 abbrev pub valueChecks : ℕ → Monitor → List Check

@@ -1,16 +1,16 @@
 // The verdict of a monitor (document 01: follower's verdict): whether the rule accepts the lassos whose start has the value before
 // and whose cycle has the value since. It is for strong rules only, where those lassos are all accepted or all not.
 use answer::Refusal;
-use monitor_judging::Judged;
 use monitor_judging::judge;
-use monitor_state::Monitor;
+use promises::Judged;
+use promises::Monitor;
 use rule_check::Checked;
 use rule_check::check;
 use rule_marks::Fault;
 use sections::zero;
 ghost use Prim.Native.Nat.{_<_};
 ghost use Rattle.monitor_verdict.specs.Judging.{ValuesAnswer};
-ghost use Rattle.monitor_verdict.specs.Promise.{VerdictPromise};
+ghost use Rattle.promises.specs.Verdict.{VerdictPromise};
 
 // Whether both values of a monitor are elements. A number that is neither an element nor 64 comes before one that is 64.
 fn values_fault(n: usize, monitor: Monitor) -> Fault

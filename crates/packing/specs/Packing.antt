@@ -7,25 +7,25 @@ use Prim.Native.Nat.{ℕ, _+_, _*_, _/_, _%_}
 use mathlib.Core.Bool.{cond}
 use lib.Dec.{eqb}
 use Rattle.answer.specs.Refusals.{numberOf}
-use Rattle.automaton_call.specs.declared.Translated.{Translated}
-use Rattle.automaton_call.specs.declared.Translated.the-variants.{Rule as Automaton-rule, Refused as Not-translated}
-use Rattle.mark_classes.specs.declared.Listed.{Listed}
-use Rattle.mark_classes.specs.declared.Listed.the-variants.{Counts, Refused as Not-listed}
-use Rattle.mark_complement.specs.declared.Complemented.{Complemented}
-use Rattle.mark_complement.specs.declared.Complemented.the-variants.{Rule as Complement-rule, Refused as Not-complemented}
-use Rattle.mark_comparison.specs.declared.Inclusion.{Inclusion}
-use Rattle.mark_comparison.specs.declared.Inclusion.the-variants.{Included, NotIncluded, Refused as Not-compared}
-use Rattle.lasso_member.specs.declared.Membership.{Membership}
-use Rattle.lasso_member.specs.declared.Membership.the-variants.{Accepted, NotAccepted, Refused as Not-a-member}
-use Rattle.monitor_state.specs.declared.Monitor.{Monitor}
-use Rattle.monitor_moves.specs.declared.Moved.{Moved}
-use Rattle.monitor_moves.specs.declared.Moved.the-variants.{To, Refused as Not-moved}
-use Rattle.reduce_call.specs.declared.Reduced.{Reduced}
-use Rattle.reduce_call.specs.declared.Reduced.the-variants.{Rule as Reduced-rule, Refused as Not-reduced}
-use Rattle.mark_strong.specs.declared.Strength.{Strength}
-use Rattle.mark_strong.specs.declared.Strength.the-variants.{Strong, Weak, Refused as Not-decided}
-use Rattle.monitor_judging.specs.declared.Judged.{Judged}
-use Rattle.monitor_judging.specs.declared.Judged.the-variants.{Accepted as Judged-accepted, NotAccepted as Judged-not-accepted, Refused as Not-judged}
+use Rattle.promises.specs.declared.Translated.{Translated}
+use Rattle.promises.specs.declared.Translated.the-variants.{Rule as Automaton-rule, Refused as Not-translated}
+use Rattle.promises.specs.declared.Listed.{Listed}
+use Rattle.promises.specs.declared.Listed.the-variants.{Counts, Refused as Not-listed}
+use Rattle.promises.specs.declared.Complemented.{Complemented}
+use Rattle.promises.specs.declared.Complemented.the-variants.{Rule as Complement-rule, Refused as Not-complemented}
+use Rattle.promises.specs.declared.Inclusion.{Inclusion}
+use Rattle.promises.specs.declared.Inclusion.the-variants.{Included, NotIncluded, Refused as Not-compared}
+use Rattle.promises.specs.declared.Membership.{Membership}
+use Rattle.promises.specs.declared.Membership.the-variants.{Accepted, NotAccepted, Refused as Not-a-member}
+use Rattle.promises.specs.declared.Monitor.{Monitor}
+use Rattle.promises.specs.declared.Moved.{Moved}
+use Rattle.promises.specs.declared.Moved.the-variants.{To, Refused as Not-moved}
+use Rattle.promises.specs.declared.Reduced.{Reduced}
+use Rattle.promises.specs.declared.Reduced.the-variants.{Rule as Reduced-rule, Refused as Not-reduced}
+use Rattle.promises.specs.declared.Strength.{Strength}
+use Rattle.promises.specs.declared.Strength.the-variants.{Strong, Weak, Refused as Not-decided}
+use Rattle.promises.specs.declared.Judged.{Judged}
+use Rattle.promises.specs.declared.Judged.the-variants.{Accepted as Judged-accepted, NotAccepted as Judged-not-accepted, Refused as Not-judged}
 
 -- a refusal: its number, its input, its place
 unfoldable pub packRefusal : ℕ → ℕ → ℕ → ℕ

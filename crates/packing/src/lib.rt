@@ -1,15 +1,15 @@
 // Answers packed into one number of 64 bits, as specs/Packing says.
 use answer::Refusal;
 use answer::number;
-use automaton_call::Translated;
-use lasso_member::Membership;
-use mark_classes::Listed;
-use mark_comparison::Inclusion;
-use mark_complement::Complemented;
-use mark_strong::Strength;
-use monitor_judging::Judged;
-use monitor_moves::Moved;
-use reduce_call::Reduced;
+use promises::Complemented;
+use promises::Inclusion;
+use promises::Judged;
+use promises::Listed;
+use promises::Membership;
+use promises::Moved;
+use promises::Reduced;
+use promises::Strength;
+use promises::Translated;
 ghost use mathlib.Core.Path.{_≡_};
 ghost use Rattle.answer.specs.Refusals.{numberOf};
 ghost use Rattle.packing.specs.Packing.{packRefusal, packFields, packListed, packStrength, packMembership, packComplemented, packInclusion, packMoved, packReduced, packTranslated, packJudged};

@@ -12,23 +12,24 @@ use Rattle.answer.proofs.Order.{first-passes, first-fails, none-left, passed-be
 use Rattle.theory.specs.Rules.{Morphism}
 use Rattle.theory.specs.Acceptance.{Strong}
 use Rattle.theory.proofs.Closure.{closure-test}
-use Rattle.rule_table.specs.Table.{morphismAt}
-use Rattle.formats.specs.Format.{elementsOf, morphismOf, pairsOf}
+use Rattle.formats.specs.Table.{morphismAt}
+use Rattle.formats.specs.RuleFile.{elementsOf, morphismOf, pairsOf}
 use Rattle.formats.specs.RuleChecks.{ruleSize}
 use Rattle.formats.proofs.Buffers.{buffer-short, buffer-long}
 use Rattle.rule_layout.specs.declared.Shape.{Shape}
 use Rattle.rule_check.specs.declared.Checked.the-variants.{Rule as Checked-rule, Refused as Checked-refused}
-use Rattle.rule_check.specs.Answers.{CheckPromise, checkedChecks}
+use Rattle.rule_check.specs.Answers.{CheckPromise}
+use Rattle.formats.specs.Calls.{checkedChecks}
 use Rattle.rule_check.specs.GoodRule.{GoodRule}
 use Rattle.rule_check.proofs.Left.{short-left, long-left}
 use Rattle.rule_check.proofs.Calls.{called-good, shape-morphism}
 use Rattle.mark_search.specs.Search.{Stands}
 use Rattle.mark_strong.specs.Deciding.{StrongIf, Decided}
 use Rattle.mark_strong.proofs.Calling.{checked-lawful, checked-reached, checked-linked, checked-room, marks-stand, decided-file, decided-left}
-use Rattle.reduce_call.specs.declared.Reduced.the-variants.{Rule as Is-rule, Refused}
+use Rattle.promises.specs.declared.Reduced.the-variants.{Rule as Is-rule, Refused}
 use Rattle.reduce_rule.specs.Steps.{ReducePlace, ReducedWritten}
-use Rattle.mark_strong.specs.Weak.{weakCheck}
-use Rattle.reduce_call.specs.Promise.{ruleOf, ReducedTo, ReducePromise}
+use Rattle.promises.specs.Weak.{weakCheck}
+use Rattle.promises.specs.Reduce.{ruleOf, ReducedTo, ReducePromise}
 use Rattle.reduce_call.proofs.Reducing.{reduces}
 
 -- a short buffer is refused, and both are left as they came

@@ -1,5 +1,3 @@
 pub mod Order
 pub mod Reducing
 pub mod Calling
-pub mod SameReductions
-pub mod OneAnswer

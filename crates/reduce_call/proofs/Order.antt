@@ -7,7 +7,7 @@ use Rattle.theory.specs.Words.{Over}
 use Rattle.theory.specs.Rules.{Morphism, Lawful, Value, element, value}
 use Rattle.theory.proofs.Values.{Inside, inside-none, inside-element, element-same, element-apart, value-inside}
 use Rattle.minimality.proofs.Quotient.{quotient, renamed, quotient-value}
-use Rattle.rule_first_words.specs.FirstWords.{ByFirstWords}
+use Rattle.formats.specs.FirstWords.{ByFirstWords}
 use Rattle.reduce_numbering.specs.Numbering.{NumberedAs, WordsInOrder}
 
 module _ {m : Morphism} {acc : ℕ → ℕ → ℕ} {c : ℕ} {scratch : List ℕ} (law : Lawful m) (b : NumberedAs m acc c scratch) (o : WordsInOrder m c scratch) where

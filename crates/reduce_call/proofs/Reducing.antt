@@ -21,13 +21,13 @@ use Rattle.reduce_first_round.proofs.OutcomeBytes.{outcome-below, outcome-accep
 use Rattle.reduce_first_round.proofs.Comparing.{same-outcomes-carry}
 use Rattle.mark_search.specs.Search.{Stands}
 use Rattle.reduce_numbering.specs.Steps.{leaderAt}
-use Rattle.rule_first_words.specs.FirstWords.{ByFirstWords}
+use Rattle.formats.specs.FirstWords.{ByFirstWords}
 use Rattle.reduce_numbering.specs.Numbering.{NumberedAs, BlocksNumbered}
-use Rattle.rule_writer.specs.File.{FitsFormat}
-use Rattle.rule_writer.proofs.Agree.{Agree}
-use Rattle.rule_writer.proofs.Same.{SameMarks, file-same}
-use Rattle.rule_writer.proofs.ReadBack.{written-rule}
-use Rattle.rule_writer.specs.ReadBack.{WrittenRule}
+use Rattle.formats.specs.WrittenFile.{FitsFormat}
+use Rattle.formats.proofs.Agree.{Agree}
+use Rattle.formats.proofs.Same.{SameMarks, file-same}
+use Rattle.formats.proofs.ReadBack.{written-rule}
+use Rattle.formats.specs.ReadBack.{WrittenRule}
 use Rattle.reduce_rule.specs.Written.{FileWritten}
 use Rattle.reduce_rule.specs.Steps.{QuotientPlace, QuotientWritten, ReducePlace, ReducedWritten}
 use Rattle.reduce_call.proofs.Order.{quotient-by-first-words}

@@ -4,6 +4,7 @@
 // says.
 use answer::Refusal;
 use mark_strong::decide;
+use promises::Reduced;
 use reduce_numbering::number_blocks;
 use reduce_rounds::settle;
 use reduce_rule::write_quotient;
@@ -12,9 +13,10 @@ use rule_check::check;
 use sections::zero;
 ghost use Prim.Native.Nat.{_<_};
 ghost use lib.ListN.{length};
-ghost use Rattle.rule_table.specs.Table.{Table, morphismAt};
+ghost use Rattle.rule_table.specs.Table.{Table};
+ghost use Rattle.formats.specs.Table.{morphismAt};
 ghost use Rattle.reduce_rule.specs.Steps.{ReducePlace, ReducedWritten};
-ghost use Rattle.reduce_call.specs.Promise.{ReducePromise};
+ghost use Rattle.promises.specs.Reduce.{ReducePromise};
 
 // Writes the reduction of a strong rule, from the closure of its marks in scratch.
 fn write_reduced(rule: &[u8], n: usize, k: usize, scratch: &mut [u8], out: &mut [u8]) -> usize
@@ -25,16 +27,6 @@ fn write_reduced(rule: &[u8], n: usize, k: usize, scratch: &mut [u8], out: &mut 
     settle(rule, n, k, scratch);
     let c = number_blocks(rule, n, k, scratch);
     write_quotient(rule, n, k, c, scratch, out)
-}
-
-// A reduced rule's length, or a refusal.
-pub enum Reduced {
-    Rule(usize),
-    Refused {
-        refusal: Refusal,
-        input: usize,
-        place: usize,
-    },
 }
 
 // Checks a rule and writes its reduction, or refuses it. Scratch ends as zeros, but where a buffer is too short.

@@ -19,8 +19,9 @@ use Rattle.theory.proofs.Strength.{settled-start, settled-cycle}
 use Rattle.theory.proofs.Closure.{closure-test, acceptance}
 use Rattle.rule_table.specs.declared.Power.{Power}
 use Rattle.rule_table.specs.declared.Power.the-variants.{Idempotent as Idempotent-power, Nothing as No-power}
-use Rattle.rule_table.specs.Table.{morphismAt}
-use Rattle.rule_table.specs.Answers.{LeastPower, PowerAnswer}
+use Rattle.formats.specs.Table.{morphismAt}
+use Rattle.formats.proofs.Tables.{LeastPower}
+use Rattle.rule_table.specs.Answers.{PowerAnswer}
 use Rattle.rule_table.proofs.Facts.{least-power-is, no-power-absurd}
 use Rattle.scratch.specs.Map.{pairsFrom}
 use Rattle.reduce_first_round.specs.Map.{outcomeOf, outcomeAt, KeptOutside}

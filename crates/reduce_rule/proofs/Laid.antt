@@ -13,15 +13,16 @@ use borrow.Author.Tests.{lt-ltb}
 use Rattle.finite.proofs.Search.{bit}
 use Rattle.theory.specs.Rules.{Morphism, Marking}
 use Rattle.theory.proofs.Closure.{linked-test}
-use Rattle.rule_table.specs.Table.{Table, morphismAt}
+use Rattle.rule_table.specs.Table.{Table}
+use Rattle.formats.specs.Table.{morphismAt}
 use Rattle.rule_layout.proofs.Rows.{rest-of}
 use Rattle.minimality.proofs.Quotient.{quotient, quotient-acc}
 use Rattle.minimality.proofs.Saturation.{saturated}
 use Rattle.reduce_first_round.specs.Map.{outcomeAt}
-use Rattle.rule_writer.specs.File.{fileOf}
+use Rattle.formats.specs.WrittenFile.{fileOf}
 use Rattle.rule_writer.specs.Writing.{tableMorphism, tableMarks, RulePlace, RuleWritten}
-use Rattle.rule_writer.proofs.Agree.{Agree}
-use Rattle.rule_writer.proofs.Same.{SameMarks, file-same}
+use Rattle.formats.proofs.Agree.{Agree}
+use Rattle.formats.proofs.Same.{SameMarks, file-same}
 use Rattle.reduce_numbering.specs.Steps.{numberAt, leaderAt}
 use Rattle.reduce_numbering.specs.Numbering.{NumberedAs}
 use Rattle.reduce_table.specs.Layout.{BlocksPlace, blockProduct, blockImage, laidProduct, blockOutcome, blockMark, Filled, Grid}

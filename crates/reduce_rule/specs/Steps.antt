@@ -5,7 +5,7 @@ use mathlib.Core.List.{List}
 use lib.ListN.{length, getD}
 use lib.Dec.{ltb}
 use Rattle.theory.specs.Rules.{Morphism, Marking, Lawful, AllReached}
-use Rattle.rule_first_words.specs.FirstWords.{ByFirstWords}
+use Rattle.formats.specs.FirstWords.{ByFirstWords}
 use Rattle.minimality.proofs.Quotient.{Numbering, quotient, quotient-acc}
 use Rattle.minimality.proofs.Saturation.{saturated}
 use Rattle.reduce_first_round.specs.Map.{outcomeOf, outcomeAt}

@@ -4,7 +4,8 @@ use reduce_table::lay_images;
 use reduce_table::lay_table;
 use rule_writer::write_rule;
 ghost use lib.ListN.{length};
-ghost use Rattle.rule_table.specs.Table.{Table, morphismAt};
+ghost use Rattle.rule_table.specs.Table.{Table};
+ghost use Rattle.formats.specs.Table.{morphismAt};
 ghost use Rattle.reduce_rule.specs.Steps.{LaidPlace, LaidWritten, QuotientPlace, QuotientWritten};
 
 // Writes the rule whose tables stand in scratch.

@@ -10,7 +10,8 @@ use borrow.Author.Tests.{eq-eqb, ne-eqb, lt-ltb, le-ltb}
 use lib.Dec.{eqb, ltb}
 use lib.ListN.{length, getD}
 use Rattle.finite.proofs.Search.{bit}
-use Rattle.rule_table.specs.Table.{Table, productAt, imageAt}
+use Rattle.rule_table.specs.Table.{Table}
+use Rattle.formats.specs.Table.{productAt, imageAt}
 use Rattle.reduce_first_round.specs.Map.{outcomeAt, KeptOutside}
 use Rattle.reduce_first_round.proofs.Bytes.{kept-room}
 use Rattle.reduce_numbering.specs.Steps.{numberAt, leaderAt}

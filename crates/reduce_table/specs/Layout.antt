@@ -12,7 +12,7 @@ use mathlib.Core.List.{List}
 use lib.ListN.{length, getD}
 use lib.Dec.{eqb, ltb}
 use Rattle.finite.proofs.Search.{bit}
-use Rattle.rule_table.specs.Table.{productAt, imageAt}
+use Rattle.formats.specs.Table.{productAt, imageAt}
 use Rattle.reduce_first_round.specs.Map.{outcomeAt, KeptOutside}
 use Rattle.reduce_numbering.specs.Steps.{numberAt, leaderAt}
 

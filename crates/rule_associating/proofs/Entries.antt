@@ -14,8 +14,9 @@ use Rattle.finite.proofs.FirstWords.{Sooner, sooner-parent, sooner-letter}
 use Rattle.theory.specs.Rules.{Morphism, none, element, join}
 use Rattle.theory.proofs.Values.{element-apart, element-same}
 use Rattle.theory.proofs.Associating.{ByLetters, one, more, LettersAssociate, letters-associate}
-use Rattle.rule_table.specs.Table.{Table, productAt, imageAt, morphismAt}
-use Rattle.rule_table.specs.Answers.{AllAssociate}
+use Rattle.rule_table.specs.Table.{Table}
+use Rattle.formats.specs.Table.{productAt, imageAt, morphismAt}
+use Rattle.formats.proofs.Tables.{AllAssociate}
 use Rattle.rule_reach.specs.Reach.{entryAt, parentAt, letterAt, placeAt, wordStep}
 use Rattle.rule_associating.specs.Tests.{AllFound, LetterEntries, WordsAlong, LettersBetween, WordsAnswer, LettersAnswer, AssociatesAnswer}
 use Rattle.rule_associating.proofs.Passed.{true-apart}

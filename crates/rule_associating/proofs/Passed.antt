@@ -8,7 +8,8 @@ use native.Mathlib.Omega.{arith}
 use native.Mathlib.Nat.{eq-or-lt-of-le}
 use borrow.Author.Count.{below-more}
 use lib.ListN.{getD}
-use Rattle.rule_table.specs.Table.{Table, productAt, imageAt, morphismAt}
+use Rattle.rule_table.specs.Table.{Table}
+use Rattle.formats.specs.Table.{productAt, imageAt, morphismAt}
 use Rattle.rule_associating.specs.Tests.{LetterEntries, Along, AlongAnswer, WordAlong, WordsAlong, Between, BetweenAnswer, LettersBetween}
 
 pub true-apart : not false ≡ false → ⊥

@@ -6,8 +6,8 @@ use mathlib.Core.List.{List}
 use lib.ListN.{length, getD}
 use Rattle.finite.proofs.FirstWords.{FirstOrder}
 use Rattle.theory.specs.Rules.{Morphism, none}
-use Rattle.rule_table.specs.Table.{morphismAt, imageAt}
-use Rattle.rule_table.specs.Answers.{AllAssociate}
+use Rattle.formats.specs.Table.{morphismAt, imageAt}
+use Rattle.formats.proofs.Tables.{AllAssociate}
 use Rattle.rule_reach.specs.Reach.{entryAt, parentAt, letterAt, placeAt, wordStep, Places}
 
 -- the worklist of words holds every element

@@ -3,7 +3,8 @@
 use rule_table::image;
 use rule_table::product;
 ghost use Prim.Native.Nat.{_<_};
-ghost use Rattle.rule_table.specs.Table.{Table, morphismAt};
+ghost use Rattle.rule_table.specs.Table.{Table};
+ghost use Rattle.formats.specs.Table.{morphismAt};
 ghost use Rattle.rule_associating.specs.Tests.{AllFound, LetterEntries, AlongAnswer, WordsAnswer, BetweenAnswer, LettersAnswer, AssociatesAnswer};
 
 // How many entries are letters' elements: those that were found from entry 0, which stand first, each once.

@@ -7,15 +7,17 @@ use lib.ListN.{length, replicate}
 use Rattle.answer.specs.declared.Refusal.{Refusal}
 use Rattle.answer.specs.Checks.{passed, FirstFailure}
 use Rattle.answer.proofs.Order.{passes-head, passes-tail}
-use Rattle.rule_table.specs.Table.{Table, morphismAt}
+use Rattle.rule_table.specs.Table.{Table}
+use Rattle.formats.specs.Table.{morphismAt}
 use Rattle.theory.specs.Rules.{Morphism}
-use Rattle.formats.specs.Format.{elementsOf, lettersOf, morphismOf}
+use Rattle.formats.specs.RuleFile.{elementsOf, lettersOf, morphismOf}
 use Rattle.formats.specs.RuleChecks.{scratchSize}
 use Rattle.rule_layout.specs.declared.Shape.{Shape}
 use Rattle.rule_layout.specs.Answers.{IsShape}
 use Rattle.rule_check.specs.declared.Checked.{Checked}
 use Rattle.rule_check.specs.declared.Checked.the-variants.{Rule, Refused}
-use Rattle.rule_check.specs.Answers.{CheckPromise, RuleChecked, checkedChecks, afterCall}
+use Rattle.rule_check.specs.Answers.{CheckPromise, RuleChecked}
+use Rattle.formats.specs.Calls.{checkedChecks, afterCall}
 use Rattle.rule_check.proofs.Promise.{zeros-after}
 use Rattle.rule_check.specs.GoodRule.{GoodRule}
 use Rattle.rule_check.proofs.CheckedRule.{good-rule}

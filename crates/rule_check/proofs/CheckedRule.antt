@@ -11,7 +11,7 @@ use Rattle.theory.specs.Rules.{Lawful, AllReached}
 use Rattle.theory.specs.Pairs.{Linked, LinkedOnly}
 use Rattle.rule_table.specs.Table.{Table}
 use Rattle.rule_table.proofs.Facts.{table-lawful}
-use Rattle.formats.specs.Format.{elementsOf, lettersOf, marksAt, marksOf, ruleEnd, morphismOf, markStart, markCycle, pairsOf}
+use Rattle.formats.specs.RuleFile.{elementsOf, lettersOf, marksAt, marksOf, ruleEnd, morphismOf, markStart, markCycle, pairsOf}
 use Rattle.formats.specs.RuleChecks.{layoutChecks, tableChecks, contentChecks, ruleChecks}
 use Rattle.rule_check.specs.GoodRule.{GoodRule}
 use Rattle.rule_check.proofs.Passed.{layout-as, letters-some, marks-small, end-inside, table-of}

@@ -14,14 +14,16 @@ use Rattle.sections.specs.declared.Found.the-variants.{At, Nothing}
 use Rattle.theory.specs.Rules.{Morphism}
 use Rattle.rule_table.specs.declared.Triple.{Triple}
 use Rattle.rule_table.specs.declared.Triple.the-variants.{At as Triple-at, Nothing as No-triple}
-use Rattle.rule_table.specs.Table.{Table, morphismAt}
-use Rattle.rule_table.specs.TableChecks.{NotAssociativeAt, UnreachedAt}
-use Rattle.rule_table.specs.Answers.{FirstTriple, AllAssociate, TripleAnswer}
-use Rattle.rule_table.proofs.Facts.{table-lawful, first-triple-place, all-associate-none}
+use Rattle.rule_table.specs.Table.{Table}
+use Rattle.formats.specs.Table.{morphismAt}
+use Rattle.formats.specs.TableChecks.{NotAssociativeAt, UnreachedAt}
+use Rattle.rule_table.specs.Answers.{FirstTriple, TripleAnswer}
+use Rattle.formats.proofs.Tables.{AllAssociate, all-associate-none}
+use Rattle.rule_table.proofs.Facts.{table-lawful, first-triple-place}
 use Rattle.rule_reach.specs.Reach.{Empty, WordOrder, WithoutAnswer, placeAt}
 use Rattle.rule_reach.proofs.Words.{first-unreached, none-without-absurd}
 use Rattle.rule_associating.specs.Tests.{AllFound, AssociatesAnswer}
-use Rattle.formats.specs.Format.{marksAt, marksOf, ruleEnd, morphismOf}
+use Rattle.formats.specs.RuleFile.{marksAt, marksOf, ruleEnd, morphismOf}
 use Rattle.formats.specs.RuleChecks.{trailingCheck, tableChecks, markChecks, powerChecks, contentChecks}
 use Rattle.rule_marks.specs.declared.Fault.{Fault}
 use Rattle.rule_marks.specs.declared.Fault.the-variants.{Nothing as No-fault, Refused}

@@ -4,7 +4,7 @@ use mathlib.Core.Path.{_≡_, sym, _∙_}
 use mathlib.Core.List.{List}
 use borrow.Author.Tests.{lt-ltb, le-ltb}
 use lib.ListN.{length}
-use Rattle.rule_check.specs.Answers.{afterCall, scratchLeft}
+use Rattle.formats.specs.Calls.{afterCall, scratchLeft}
 
 -- where the buffer is short, scratch is left as it came
 pub short-left : (needed : ℕ) (buffer scratch : List ℕ) → length buffer < needed → scratch ≡ scratchLeft needed buffer scratch

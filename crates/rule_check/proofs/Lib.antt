@@ -7,5 +7,4 @@ pub mod Promise
 pub mod Left
 pub mod MarksPassed
 pub mod CheckedRule
-pub mod OneVerdict
 pub mod Calls

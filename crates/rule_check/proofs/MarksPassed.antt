@@ -16,8 +16,8 @@ use Rattle.finite.proofs.Search.{any-elim, Found}
 use Rattle.theory.specs.Rules.{Morphism, level, marked}
 use Rattle.theory.specs.Pairs.{Linked, LinkedOnly}
 use Rattle.theory.proofs.Closure.{linked-test, linked-intro, linked-elim}
-use Rattle.sections.specs.Sections.{twoBytes}
-use Rattle.formats.specs.Format.{markStart, markCycle, isMark, oneIf, marksIn}
+use Rattle.formats.specs.Sections.{twoBytes}
+use Rattle.formats.specs.RuleFile.{markStart, markCycle, isMark, oneIf, marksIn}
 use Rattle.formats.specs.RuleChecks.{markChecks}
 use Rattle.rule_marks.proofs.Laid.{is-mark-elim}
 use Rattle.rule_marks.proofs.MarkOrder.{GoodMark, GoodMarks}

@@ -10,10 +10,11 @@ use lib.ListN.{length, getD, drop, length-drop}
 use lib.Seq.{getD-drop}
 use Rattle.answer.specs.Checks.{passed, FirstFailure}
 use Rattle.answer.proofs.Order.{passed-before, passed-first, passed-last}
-use Rattle.sections.specs.Sections.{Section, twoBytes, sectionChecks}
-use Rattle.sections.proofs.Laws.{SectionGood, passed-good, good-passes}
-use Rattle.rule_table.specs.Table.{Table, productAt, imageAt}
-use Rattle.formats.specs.Format.{elementsOf, lettersAt, lettersOf, marksAt, marksOf, ruleEnd, markStart, markCycle, elementsSection, lettersSection, marksSection}
+use Rattle.formats.specs.Sections.{Section, twoBytes, sectionChecks}
+use Rattle.formats.proofs.Sections.{SectionGood, passed-good, good-passes}
+use Rattle.rule_table.specs.Table.{Table}
+use Rattle.formats.specs.Table.{productAt, imageAt}
+use Rattle.formats.specs.RuleFile.{elementsOf, lettersAt, lettersOf, marksAt, marksOf, ruleEnd, markStart, markCycle, elementsSection, lettersSection, marksSection}
 use Rattle.formats.specs.RuleChecks.{layoutChecks}
 
 -- three sections that pass in one input pass in any

@@ -9,7 +9,7 @@ use Rattle.answer.specs.declared.Refusal.{Refusal}
 use Rattle.answer.specs.declared.Refusal.the-variants.{BufferTooShort}
 use Rattle.answer.specs.Checks.{passed, refused, FirstFailure}
 use Rattle.answer.proofs.Order.{refused-before, passed-before}
-use Rattle.formats.specs.Format.{elementsOf, markingOf}
+use Rattle.formats.specs.RuleFile.{elementsOf, markingOf}
 use Rattle.formats.proofs.Buffers.{buffer-short, buffer-long}
 use Rattle.formats.specs.RuleChecks.{layoutChecks, contentChecks, ruleChecks, scratchSize}
 use Rattle.rule_layout.specs.declared.Shape.{Shape}
@@ -23,7 +23,8 @@ use Rattle.rule_check.specs.declared.Checked.{Checked}
 use Rattle.rule_check.specs.declared.Checked.the-variants.{Rule, Refused}
 use Rattle.rule_marks.specs.Faults.{MarksLaid}
 use Rattle.rule_check.proofs.Passed.{size-small}
-use Rattle.rule_check.specs.Answers.{markTableSize, BlankMarks, afterCall, ContentAnswer, RuleVerdict, CheckPromise}
+use Rattle.rule_check.specs.Answers.{markTableSize, BlankMarks, ContentAnswer, RuleVerdict, CheckPromise}
+use Rattle.formats.specs.Calls.{afterCall}
 
 -- a short scratch is left as it came
 pub short-scratch : (input : ℕ) (bytes scratch : List ℕ) → length scratch < scratchSize → CheckPromise input bytes scratch scratch (Refused BufferTooShort 1 0)

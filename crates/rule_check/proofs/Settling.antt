@@ -10,8 +10,8 @@ use Rattle.answer.proofs.Order.{first-passes, first-fails, none-left}
 use Rattle.theory.specs.Rules.{Morphism}
 use Rattle.rule_table.specs.declared.Power.{Power}
 use Rattle.rule_table.specs.declared.Power.the-variants.{Idempotent, Nothing}
-use Rattle.rule_table.specs.Table.{morphismAt}
-use Rattle.rule_table.specs.TableChecks.{Settles, UnsettledAt}
+use Rattle.formats.specs.Table.{morphismAt}
+use Rattle.formats.specs.TableChecks.{Settles, UnsettledAt}
 use Rattle.rule_table.specs.Answers.{PowerAnswer}
 use Rattle.rule_table.proofs.Facts.{power-settles, settles-none}
 use Rattle.formats.specs.RuleChecks.{powerChecks}

@@ -7,8 +7,9 @@ use Rattle.answer.proofs.Order.{first-passes, none-left, passes-head, passes-ta
 use Rattle.finite.proofs.Numbers.{strong}
 use Rattle.theory.specs.Rules.{Morphism, Lawful, AllReached}
 use Rattle.theory.proofs.ShortWords.{unreached-or-all, word-of-dec}
-use Rattle.rule_table.specs.TableChecks.{Associates, TripleBefore, by-a, by-b, by-c, UnsettledAt}
-use Rattle.rule_table.specs.Answers.{FirstTriple, AllAssociate}
+use Rattle.formats.specs.TableChecks.{Associates, TripleBefore, by-a, by-b, by-c, UnsettledAt}
+use Rattle.rule_table.specs.Answers.{FirstTriple}
+use Rattle.formats.proofs.Tables.{AllAssociate}
 use Rattle.rule_table.proofs.Facts.{first-triple-place, no-power-absurd}
 use Rattle.formats.specs.RuleChecks.{tableChecks, powerChecks}
 

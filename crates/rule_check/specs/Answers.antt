@@ -1,16 +1,14 @@
 -- What the answers of this crate's functions say. Assumes nothing.
 use Prim.Native.Nat.{ℕ, _+_, _*_, _≤_, _<_}
 use mathlib.Core.Path.{_≡_}
-use mathlib.Core.Bool.{cond}
 use mathlib.Core.List.{List, [], _∷_}
-use lib.ListN.{length, getD, replicate}
-use lib.Dec.{ltb}
+use lib.ListN.{length, getD}
 use Rattle.answer.specs.declared.Refusal.the-variants.{Unreachable}
-use Rattle.rule_table.specs.TableChecks.{UnreachedAt}
+use Rattle.formats.specs.TableChecks.{UnreachedAt}
 use Rattle.answer.specs.Checks.{Check, Verdict, passed, refused, FirstFailure}
 use Rattle.theory.specs.Rules.{Morphism}
-use Rattle.formats.specs.Format.{elementsOf, markingOf}
-use Rattle.formats.specs.RuleChecks.{ruleChecks, bufferCheck, scratchSize}
+use Rattle.formats.specs.RuleFile.{elementsOf, markingOf}
+use Rattle.formats.specs.RuleChecks.{ruleChecks}
 use Rattle.sections.specs.Answers.{UnchangedOutside}
 use Rattle.rule_layout.specs.declared.Shape.{Shape}
 use Rattle.rule_layout.specs.Answers.{IsShape}
@@ -19,6 +17,7 @@ use Rattle.rule_marks.specs.declared.Fault.the-variants.{Nothing, Refused}
 use Rattle.rule_check.specs.declared.Checked.{Checked}
 use Rattle.rule_check.specs.declared.Checked.the-variants.{Rule, Refused as Checked-refused}
 use Rattle.rule_marks.specs.Faults.{MarksLaid}
+use Rattle.formats.specs.Calls.{afterCall, checkedChecks}
 
 -- the check of reached elements alone
 abbrev pub reachChecks : ℕ → Morphism → List Check
@@ -43,14 +42,6 @@ abbrev pub verdictOf : Checked → Verdict
 verdictOf (Rule shape) = passed
 verdictOf (Checked-refused refusal input place) = refused refusal input place
 
--- the scratch that a finished call leaves: as it came where it is short, else zeros over its whole length
-unfoldable pub afterCall : List ℕ → List ℕ
-afterCall scratch = cond (ltb (length scratch) scratchSize) scratch (replicate (length scratch) 0)
-
--- that of a call which needs another buffer too: as it came where that buffer is short
-abbrev pub scratchLeft : ℕ → List ℕ → List ℕ → List ℕ
-scratchLeft needed buffer scratch = cond (ltb (length buffer) needed) scratch (afterCall scratch)
-
 -- a checked rule: its counts, and its marks in a table at the front of scratch, that of (s, e) at s·64 + e; what follows the table is
 -- as it was
 pub record RuleChecked (bytes : List ℕ) (shape : Shape) (entry exit : List ℕ) : Type 0 where
@@ -71,10 +62,6 @@ pub record RuleVerdict (input : ℕ) (bytes entry exit : List ℕ) (answer : Che
 abbrev pub ScratchAfter : List ℕ → List ℕ → List ℕ → Checked → Type 0
 ScratchAfter bytes entry exit (Rule shape) = RuleChecked bytes shape entry exit
 ScratchAfter bytes entry exit (Checked-refused refusal input place) = exit ≡ afterCall entry
-
--- "First 13", then the rule's own checks
-abbrev pub checkedChecks : ℕ → List ℕ → List ℕ → List Check
-checkedChecks input bytes scratch = bufferCheck scratchSize scratch ∷ ruleChecks input bytes
 
 -- the promise of the check: which refusal and when; else the rule's counts, and the marks in scratch
 pub record CheckPromise (input : ℕ) (bytes entry exit : List ℕ) (answer : Checked) : Type 0 where

@@ -6,7 +6,7 @@ use lib.ListN.{length}
 use Rattle.theory.specs.Rules.{Lawful, AllReached}
 use Rattle.theory.specs.Pairs.{Linked, LinkedOnly}
 use Rattle.rule_table.specs.Table.{Table}
-use Rattle.formats.specs.Format.{elementsOf, lettersOf, marksAt, marksOf, ruleEnd, morphismOf, markStart, markCycle, pairsOf}
+use Rattle.formats.specs.RuleFile.{elementsOf, lettersOf, marksAt, marksOf, ruleEnd, morphismOf, markStart, markCycle, pairsOf}
 
 -- a rule file that passes every check
 pub record GoodRule (bytes : List ℕ) : Type 0 where

@@ -1,4 +1,1 @@
 pub mod Ordered
-pub mod Unique
-pub mod OneFile
-pub mod Exclusions

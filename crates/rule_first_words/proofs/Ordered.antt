@@ -13,7 +13,7 @@ use Rattle.theory.specs.Rules.{Morphism, Lawful, Value, none, element, join, Va
 use Rattle.theory.proofs.Values.{element-same, element-apart}
 use Rattle.rule_reach.specs.Reach.{wordStep}
 use Rattle.rule_reach.proofs.Words.{word-value}
-use Rattle.rule_first_words.specs.FirstWords.{ByFirstWords}
+use Rattle.formats.specs.FirstWords.{ByFirstWords}
 
 -- entry 0 of the search is the empty word, entry s + 1 element s
 unfoldable pub entry : ℕ → Value

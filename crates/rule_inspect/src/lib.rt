@@ -1,23 +1,10 @@
 // The check of a rule with nothing after it: the counts of a rule that passes, or the refusal.
 use answer::Refusal;
+use promises::Inspected;
 use rule_check::Checked;
 use rule_check::check;
 use sections::zero;
-ghost use Rattle.rule_inspect.specs.Inspection.{InspectPromise};
-
-// A rule file's counts, or its refusal.
-pub enum Inspected {
-    Rule {
-        elements: usize,
-        letters: usize,
-        marks: usize,
-    },
-    Refused {
-        refusal: Refusal,
-        input: usize,
-        place: usize,
-    },
-}
+ghost use Rattle.promises.specs.Inspect.{InspectPromise};
 
 // Checks a rule file and says how large the rule is, or why it is none. Scratch ends as zeros, but where it is too short.
 pub fn inspect(rule: &[u8], scratch: &mut [u8]) -> Inspected

@@ -9,11 +9,11 @@ use lib.Seq.{take-all, drop-drop, getD-drop}
 use Rattle.answer.specs.declared.Refusal.{Refusal}
 use Rattle.answer.specs.Checks.{passed, refused, FirstFailure}
 use Rattle.answer.proofs.Order.{refused-before, passed-before}
-use Rattle.sections.specs.Sections.{Section, twoBytes, sectionChecks, countAt}
+use Rattle.formats.specs.Sections.{Section, twoBytes, sectionChecks, countAt}
 use Rattle.sections.specs.declared.Counted.{Counted}
 use Rattle.sections.specs.declared.Counted.the-variants.{Read, Refused}
-use Rattle.sections.proofs.Laws.{SectionGood, passed-good}
-use Rattle.formats.specs.Format.{elementsOf, lettersAt, lettersOf, marksAt, marksOf, elementsSection, lettersSection, marksSection}
+use Rattle.formats.proofs.Sections.{SectionGood, passed-good}
+use Rattle.formats.specs.RuleFile.{elementsOf, lettersAt, lettersOf, marksAt, marksOf, elementsSection, lettersSection, marksSection}
 use Rattle.formats.specs.RuleChecks.{layoutChecks}
 use Rattle.rule_layout.specs.declared.Shape.{Shape}
 use Rattle.rule_layout.specs.Answers.{SectionAnswer, SectionPassed, IsShape, LayoutPassed}

@@ -6,9 +6,9 @@ use Rattle.answer.specs.declared.Refusal.{Refusal}
 use Rattle.answer.specs.Checks.{passed, numbered, refused, FirstFailure}
 use Rattle.sections.specs.declared.Counted.{Counted}
 use Rattle.sections.specs.declared.Counted.the-variants.{Read, Refused}
-use Rattle.sections.specs.Sections.{CountWidth, Section, countAt, countBytes, countChecks, entryChecks, sectionChecks}
-use Rattle.sections.specs.Answers.{CountGood, CountAnswer, EntriesGood, EntriesAnswer, EntriesRead}
-use Rattle.sections.proofs.Laws.{section-count-refused, section-entries-refused, section-passes}
+use Rattle.formats.specs.Sections.{CountWidth, Section, countAt, countBytes, countChecks, entryChecks, sectionChecks}
+use Rattle.formats.proofs.Sections.{CountGood, EntriesGood, section-count-refused, section-entries-refused, section-passes}
+use Rattle.sections.specs.Answers.{CountAnswer, EntriesAnswer, EntriesRead}
 use Rattle.rule_layout.specs.Answers.{SectionAnswer}
 
 module _ (width : CountWidth) (low high at : ℕ) (rest : List ℕ) (answer : Counted) (known : CountAnswer width low high at rest answer) where

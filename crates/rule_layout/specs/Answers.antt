@@ -3,10 +3,10 @@ use Prim.Native.Nat.{ℕ}
 use mathlib.Core.Path.{_≡_}
 use mathlib.Core.List.{List}
 use Rattle.answer.specs.Checks.{passed, refused, FirstFailure}
-use Rattle.sections.specs.Sections.{Section, countAt, sectionChecks}
+use Rattle.formats.specs.Sections.{Section, countAt, sectionChecks}
 use Rattle.sections.specs.declared.Counted.{Counted}
 use Rattle.sections.specs.declared.Counted.the-variants.{Read, Refused}
-use Rattle.formats.specs.Format.{elementsOf, lettersOf, marksOf}
+use Rattle.formats.specs.RuleFile.{elementsOf, lettersOf, marksOf}
 use Rattle.formats.specs.RuleChecks.{layoutChecks}
 use Rattle.rule_layout.specs.declared.Shape.{Shape}
 use Rattle.rule_layout.specs.declared.Layout.{Layout}

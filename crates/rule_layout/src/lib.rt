@@ -6,7 +6,7 @@ use sections::entries;
 use sections::wide_count;
 ghost use Prim.Native.Nat.{_+_, _<_, _^_};
 ghost use lib.ListN.{length};
-ghost use Rattle.formats.specs.Format.{elementsSection, lettersSection, marksSection};
+ghost use Rattle.formats.specs.RuleFile.{elementsSection, lettersSection, marksSection};
 ghost use Rattle.rule_layout.specs.Answers.{SectionAnswer, LayoutAnswer};
 
 // The elements' section, at the front of the file.

@@ -13,7 +13,7 @@ use mir.Facts.{eqb-yes, yes-eqb}
 use Rattle.finite.proofs.Tests.{T-and, T-and-left, T-and-right, T-dec, T-true, T-false}
 use Rattle.finite.specs.Search.{anyBelow}
 use Rattle.finite.proofs.Search.{any-zero, any-add-one, any-intro, any-elim, Found}
-use Rattle.formats.specs.Format.{markStart, markCycle, isMark, oneIf}
+use Rattle.formats.specs.RuleFile.{markStart, markCycle, isMark, oneIf}
 use Rattle.rule_marks.specs.Faults.{MarksRoom, MarksLaid, marksAmong}
 
 -- a pair's place tells the pair

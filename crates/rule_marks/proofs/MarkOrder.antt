@@ -12,7 +12,7 @@ use Rattle.answer.specs.Checks.{Check, Verdict, passed, refused, FirstFailure}
 use Rattle.answer.proofs.Order.{first-passes, first-fails, none-left}
 use Rattle.theory.specs.Rules.{Morphism}
 use Rattle.theory.specs.Pairs.{Linked}
-use Rattle.formats.specs.Format.{markStart, markCycle, markWidth}
+use Rattle.formats.specs.RuleFile.{markStart, markCycle, markWidth}
 use Rattle.rule_marks.specs.Faults.{LinkedAnswer}
 use Rattle.formats.specs.RuleChecks.{UnlinkedAt, RepeatedAt, markChecks}
 

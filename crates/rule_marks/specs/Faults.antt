@@ -8,7 +8,7 @@ use Rattle.answer.specs.Checks.{Check, passed, refused, FirstFailure}
 use Rattle.finite.specs.Search.{anyBelow}
 use Rattle.theory.specs.Rules.{Morphism}
 use Rattle.theory.specs.Pairs.{Linked}
-use Rattle.formats.specs.Format.{markStart, markCycle, isMark, oneIf}
+use Rattle.formats.specs.RuleFile.{markStart, markCycle, isMark, oneIf}
 use Rattle.rule_marks.specs.declared.Fault.{Fault}
 use Rattle.rule_marks.specs.declared.Fault.the-variants.{Nothing, Refused}
 

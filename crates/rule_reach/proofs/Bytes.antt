@@ -14,7 +14,7 @@ use Rattle.finite.proofs.Pigeonhole.{injection-le, update, update-cases, update
 use Rattle.finite.proofs.Worklist.{Entry}
 use Rattle.theory.specs.Rules.{element}
 use Rattle.theory.proofs.Values.{element-apart, element-same}
-use Rattle.rule_table.specs.Table.{morphismAt}
+use Rattle.formats.specs.Table.{morphismAt}
 use Rattle.rule_reach.specs.Reach.{entryAt, parentAt, letterAt, placeAt, wordStep, Places}
 use Rattle.rule_reach.specs.Steps.{stepAt, AddPlace, Stored, Added, added-old, added-new}
 use Rattle.rule_reach.specs.Searching.{Kept}

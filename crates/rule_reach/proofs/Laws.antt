@@ -7,7 +7,8 @@ use native.Mathlib.Omega.{arith}
 use native.Mathlib.Numerals.{add-one}
 use lib.ListN.{getD}
 use Rattle.theory.specs.Rules.{element}
-use Rattle.rule_table.specs.Table.{Table, imageAt, morphismAt}
+use Rattle.rule_table.specs.Table.{Table}
+use Rattle.formats.specs.Table.{imageAt, morphismAt}
 use Rattle.rule_reach.specs.Reach.{entryAt, placeAt, wordStep, Empty, WordOrder}
 use Rattle.rule_reach.specs.Steps.{stepAt, StepPlace, AddPlace, Added, added-old, added-new}
 use Rattle.rule_reach.specs.Searching.{Searching, Kept, Expanded}

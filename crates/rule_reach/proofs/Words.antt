@@ -7,7 +7,7 @@ use mathlib.Core.Logic.{⊎-elim}
 use mathlib.Core.List.{List}
 use native.Mathlib.Omega.{arith}
 use lib.ListN.{length, getD}
-use Rattle.finite.proofs.Numbers.{le-or-lt, Compared, lesser, level, greater, compared}
+use Rattle.finite.proofs.Numbers.{le-or-lt}
 use Rattle.finite.specs.Shortlex.{Before, NotAfter}
 use Rattle.finite.proofs.FirstWords.{after, firstWord, FirstWord, first-word, word-short, words-increase, word-entry}
 use Rattle.finite.proofs.Worklist.{Entry}
@@ -15,8 +15,8 @@ use Rattle.theory.specs.Words.{Over, over-nil, over-cons}
 use Rattle.theory.specs.Rules.{Morphism, Lawful, Value, none, element, join, value, WordOf, AllReached}
 use Rattle.theory.proofs.Values.{Inside, inside-none, inside-element, join-none, join-inside, join-assoc, value-inside}
 use Rattle.theory.proofs.ShortWords.{ShortWord}
-use Rattle.rule_table.specs.Table.{morphismAt}
-use Rattle.rule_table.specs.TableChecks.{UnreachedAt}
+use Rattle.formats.specs.Table.{morphismAt}
+use Rattle.formats.specs.TableChecks.{UnreachedAt}
 use Rattle.rule_reach.specs.Reach.{entryAt, parentAt, letterAt, placeAt, wordStep, WordOrder, FirstWithout, NoneWithout}
 use Rattle.rule_reach.proofs.Bytes.{entry-place}
 
@@ -110,12 +110,3 @@ module _ {bytes : List ℕ} {n k : ℕ} {entry exit : List ℕ} {count : ℕ} (o
 
     pub none-without-absurd : {p : ℕ} → NoneWithout exit n → UnreachedAt (morphismAt bytes n k) p → ⊥
     none-without-absurd w u = all-reached-none (none-all-reached w) u
-
--- the least element that is no word's value is one
-pub unreached-unique : {m : Morphism} {p q : ℕ} → UnreachedAt m p → UnreachedAt m q → p ≡ q
-unreached-unique {m} {p} {q} s t = go (compared p q)
-  where
-    go : Compared p q → p ≡ q
-    go (lesser h) = absurd (s .no-word (t .least p h))
-    go (level e) = e
-    go (greater h) = absurd (t .no-word (s .least q h))

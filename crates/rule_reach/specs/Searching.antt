@@ -8,7 +8,7 @@ use lib.ListN.{length, getD}
 use Rattle.finite.proofs.FirstWords.{Sooner}
 use Rattle.finite.proofs.Worklist.{Entry}
 use Rattle.theory.specs.Rules.{none}
-use Rattle.rule_table.specs.Table.{morphismAt}
+use Rattle.formats.specs.Table.{morphismAt}
 use Rattle.rule_reach.specs.Reach.{entryAt, parentAt, letterAt, wordStep, Places}
 
 -- the c entries of q are different: x₀, and states each found by a pair (parent, letter), in the order of those pairs, and

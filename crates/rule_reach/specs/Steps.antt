@@ -4,7 +4,7 @@ use Prim.Native.Nat.{ℕ, zero, suc, _+_, _*_, _≤_, _<_}
 use mathlib.Core.Path.{_≡_}
 use mathlib.Core.List.{List}
 use lib.ListN.{length, getD}
-use Rattle.rule_table.specs.Table.{productAt, imageAt}
+use Rattle.formats.specs.Table.{productAt, imageAt}
 use Rattle.rule_reach.specs.Reach.{placeAt}
 
 -- the element after an entry and a letter: the letter's own after the empty word, else the entry's element times it

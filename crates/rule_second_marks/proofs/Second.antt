@@ -8,13 +8,13 @@ use Rattle.answer.specs.declared.Refusal.{Refusal}
 use Rattle.answer.specs.declared.Refusal.the-variants.{TrailingBytes}
 use Rattle.answer.specs.Checks.{Verdict, passed, numbered, refused, FirstFailure}
 use Rattle.answer.proofs.Order.{first-passes, first-fails, refused-before, passed-before}
-use Rattle.sections.specs.Sections.{twoBytes, sectionChecks}
+use Rattle.formats.specs.Sections.{twoBytes, sectionChecks}
 use Rattle.sections.specs.declared.Counted.{Counted}
 use Rattle.sections.specs.declared.Counted.the-variants.{Read, Refused as Counted-refused}
-use Rattle.sections.proofs.Laws.{SectionGood, passed-good}
+use Rattle.formats.proofs.Sections.{SectionGood, passed-good}
 use Rattle.theory.specs.Rules.{Morphism}
-use Rattle.rule_table.specs.Table.{morphismAt}
-use Rattle.formats.specs.Format.{elementsOf, lettersOf, morphismOf, marksSection, markStart, markCycle, marksIn}
+use Rattle.formats.specs.Table.{morphismAt}
+use Rattle.formats.specs.RuleFile.{elementsOf, lettersOf, morphismOf, marksSection, markStart, markCycle, marksIn}
 use Rattle.formats.specs.RuleChecks.{trailingCheck, markChecks, secondMarksChecks}
 use Rattle.rule_layout.specs.Answers.{SectionAnswer, SectionPassed}
 use Rattle.rule_marks.specs.declared.Fault.{Fault}

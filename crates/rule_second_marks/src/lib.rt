@@ -8,7 +8,7 @@ use rule_marks::mark_fault;
 use sections::Counted;
 ghost use mathlib.Core.Path.{_≡_};
 ghost use Rattle.rule_table.specs.Table.{Table};
-ghost use Rattle.formats.specs.Format.{elementsOf, lettersOf};
+ghost use Rattle.formats.specs.RuleFile.{elementsOf, lettersOf};
 ghost use Rattle.formats.specs.RuleChecks.{secondMarksChecks};
 ghost use Rattle.rule_marks.specs.Faults.{FaultAnswer};
 ghost use Rattle.rule_second_marks.specs.SecondMarks.{MarksSpace, SecondAnswer};

@@ -1,19 +1,21 @@
 -- What the calls of the library use of a checked table: where its entries stand, that it is lawful once every triple
 -- associates, and that each refusal of the lines 5 and 9 has one place. Assumes nothing.
-use Prim.Native.Nat.{ℕ, zero, suc, _+_, _*_, _≤_, _<_}
-use mathlib.Core.Path.{_≡_, refl, sym, ap, subst, _∙_}
+use Prim.Native.Nat.{ℕ, _+_, _*_, _≤_, _<_}
+use mathlib.Core.Path.{_≡_, refl, subst, _∙_}
 use mathlib.Core.List.{List}
 use mathlib.Core.Logic.{_⊎_, inl, inr}
 use native.Mathlib.Omega.{arith}
 use native.Mathlib.Numerals.{add-one}
-use Rattle.finite.proofs.Numbers.{le-or-lt, Compared, lesser, level, greater, compared}
+use Rattle.finite.proofs.Numbers.{le-or-lt}
 use Rattle.theory.specs.Rules.{Morphism, Lawful}
 use Rattle.theory.specs.Pairs.{Idempotent, power}
 use Rattle.theory.proofs.Powers.{times, settling, idempotent-of, settling-below, settling-least, idempotent-square, idempotent-inside, idempotent-is}
 use Rattle.theory.proofs.Conjugacy.{semigroup}
-use Rattle.rule_table.specs.Table.{Table, ProductPlace, ImagePlace, productAt, morphismAt}
-use Rattle.rule_table.specs.TableChecks.{TripleBefore, by-a, by-b, by-c, NotAssociativeAt, Settles, UnsettledAt}
-use Rattle.rule_table.specs.Answers.{FirstTriple, AllAssociate, LeastPower, NoPower}
+use Rattle.rule_table.specs.Table.{Table, ProductPlace, ImagePlace}
+use Rattle.formats.specs.Table.{productAt, morphismAt}
+use Rattle.formats.specs.TableChecks.{NotAssociativeAt, Settles}
+use Rattle.rule_table.specs.Answers.{FirstTriple}
+use Rattle.formats.proofs.Tables.{AllAssociate, LeastPower, NoPower, power-times}
 
 -- where a product stands in a checked table
 pub table-place : {bytes : List ℕ} {n k a b : ℕ} → Table bytes n k → a < n → b < n → ProductPlace bytes n a b
@@ -31,24 +33,6 @@ product-below {a = a} {b = b} t ha hb e = rw e (t .products a b ha hb)
 pub table-lawful : {bytes : List ℕ} {n k : ℕ} → Table bytes n k → AllAssociate (morphismAt bytes n k) → Lawful (morphismAt bytes n k)
 table-lawful t all = record { closed = t .products; associative = all .associate; images = t .images }
 
--- of two triples one stands before the other, or they are equal
-data TriplesCompared (a b c a′ b′ c′ : ℕ) : Type 0 where
-  before : TripleBefore a b c a′ b′ c′ → TriplesCompared a b c a′ b′ c′
-  same : a ≡ a′ → b ≡ b′ → c ≡ c′ → TriplesCompared a b c a′ b′ c′
-  after : TripleBefore a′ b′ c′ a b c → TriplesCompared a b c a′ b′ c′
-
-triples-compared : (a b c a′ b′ c′ : ℕ) → TriplesCompared a b c a′ b′ c′
-triples-compared a b c a′ b′ c′ = go (compared a a′) (compared b b′) (compared c c′)
-  where
-    go : Compared a a′ → Compared b b′ → Compared c c′ → TriplesCompared a b c a′ b′ c′
-    go (lesser h) q r = before (by-a h)
-    go (greater h) q r = after (by-a h)
-    go (level e) (lesser h) r = before (by-b e h)
-    go (level e) (greater h) r = after (by-b (sym e) h)
-    go (level e) (level f) (lesser h) = before (by-c e f h)
-    go (level e) (level f) (greater h) = after (by-c (sym e) (sym f) h)
-    go (level e) (level f) (level g) = same e f g
-
 -- the first triple that does not associate gives the place of the refusal
 pub first-triple-place : {m : Morphism} {a b c : ℕ} → FirstTriple m a b c → NotAssociativeAt m (a * 4096 + b * 64 + c)
 first-triple-place {m} {a} {b} {c} f = record {
@@ -62,25 +46,6 @@ first-triple-place {m} {a} {b} {c} f = record {
   first = f .first;
   is-place = refl;
 }
-
--- the place of line 5 is one
-pub not-associative-unique : {m : Morphism} {p q : ℕ} → NotAssociativeAt m p → NotAssociativeAt m q → p ≡ q
-not-associative-unique {m} {p} {q} s t = go (triples-compared (s .a) (s .b) (s .c) (t .a) (t .b) (t .c))
-  where
-    go : TriplesCompared (s .a) (s .b) (s .c) (t .a) (t .b) (t .c) → p ≡ q
-    go (before h) = absurd (s .differs (t .first (s .a) (s .b) (s .c) (s .a-inside) (s .b-inside) (s .c-inside) h))
-    go (after h) = absurd (t .differs (s .first (t .a) (t .b) (t .c) (t .a-inside) (t .b-inside) (t .c-inside) h))
-    go (same e f g) = omega (arith, s .is-place, t .is-place)
-
--- where all triples associate, line 5 refuses nothing
-pub all-associate-none : {m : Morphism} {p : ℕ} → AllAssociate m → NotAssociativeAt m p → ⊥
-all-associate-none all s = s .differs (all .associate (s .a) (s .b) (s .c) (s .a-inside) (s .b-inside) (s .c-inside))
-
--- a power, written by factors as the theory of powers does
-pub power-times : (m : Morphism) (x i : ℕ) → power m x i ≡ times (m .product) x x i
-unfolding power times
-power-times m x zero = refl
-power-times m x (suc i) = ap (λ (y : ℕ). m .product y x) (power-times m x i)
 
 -- a power with one factor more
 pub power-add-one : (m : Morphism) (x i : ℕ) → power m x (i + 1) ≡ m .product (power m x i) x
@@ -133,12 +98,3 @@ power-settles {m} l = record { index = l .index; below = l .below; idempotent = 
 -- where no power is idempotent, the element does not settle
 pub settles-none : {m : Morphism} {x : ℕ} → NoPower m x → Settles m x → ⊥
 settles-none none s = none .none (s .index) (s .below) (s .idempotent)
-
--- the place of line 9 is one
-pub unsettled-unique : {m : Morphism} {p q : ℕ} → UnsettledAt m p → UnsettledAt m q → p ≡ q
-unsettled-unique {m} {p} {q} s t = go (compared p q)
-  where
-    go : Compared p q → p ≡ q
-    go (lesser h) = absurd (s .unsettled (t .least p h))
-    go (level e) = e
-    go (greater h) = absurd (t .unsettled (s .least q h))

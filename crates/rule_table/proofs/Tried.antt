@@ -6,8 +6,9 @@ use mathlib.Core.List.{List}
 use native.Mathlib.Omega.{arith}
 use borrow.Author.Count.{below-more}
 use Rattle.theory.specs.Pairs.{Idempotent, power}
-use Rattle.rule_table.specs.Table.{Table, productAt, morphismAt}
-use Rattle.rule_table.specs.Answers.{LeastPower, NoPower}
+use Rattle.rule_table.specs.Table.{Table}
+use Rattle.formats.specs.Table.{productAt, morphismAt}
+use Rattle.formats.proofs.Tables.{LeastPower, NoPower}
 use Rattle.rule_table.proofs.Facts.{product-below, power-add-one}
 
 -- p is the power of x with exponent i + 1, and no power with a smaller exponent is idempotent

@@ -1,15 +1,14 @@
 -- What the answers of this crate's functions say. Assumes nothing.
-use Prim.Native.Nat.{ℕ, _+_, _<_}
-use mathlib.Core.Path.{_≡_}
+use Prim.Native.Nat.{ℕ, _<_}
 use mathlib.Core.List.{List}
 use Rattle.theory.specs.Rules.{Morphism}
-use Rattle.theory.specs.Pairs.{Idempotent, power}
 use Rattle.rule_table.specs.declared.Triple.{Triple}
 use Rattle.rule_table.specs.declared.Triple.the-variants.{At, Nothing}
 use Rattle.rule_table.specs.declared.Power.{Power}
 use Rattle.rule_table.specs.declared.Power.the-variants.{Idempotent as Idempotent-power, Nothing as No-power}
-use Rattle.rule_table.specs.Table.{morphismAt}
-use Rattle.rule_table.specs.TableChecks.{Associates, TripleBefore}
+use Rattle.formats.specs.Table.{morphismAt}
+use Rattle.formats.specs.TableChecks.{Associates, TripleBefore}
+use Rattle.formats.proofs.Tables.{AllAssociate, LeastPower, NoPower}
 
 -- the triple is the first, by a, then b, then c, that does not associate
 pub record FirstTriple (m : Morphism) (a b c : ℕ) : Type 0 where
@@ -19,26 +18,9 @@ pub record FirstTriple (m : Morphism) (a b c : ℕ) : Type 0 where
   pub differs : Associates m a b c → ⊥
   pub first : (a′ b′ c′ : ℕ) → a′ < m .size → b′ < m .size → c′ < m .size → TripleBefore a′ b′ c′ a b c → Associates m a′ b′ c′
 
--- every triple associates
-pub record AllAssociate (m : Morphism) : Type 0 where
-  pub associate : (a b c : ℕ) → a < m .size → b < m .size → c < m .size → Associates m a b c
-
 abbrev pub TripleAnswer : List ℕ → ℕ → ℕ → Triple → Type 0
 TripleAnswer bytes n k (At a b c) = FirstTriple (morphismAt bytes n k) a b c
 TripleAnswer bytes n k Nothing = AllAssociate (morphismAt bytes n k)
-
--- e is the power of x with the least exponent that is idempotent; the exponent is one above `index`
-pub record LeastPower (m : Morphism) (x e exponent : ℕ) : Type 0 where
-  pub index : ℕ
-  pub below : index < m .size
-  pub is-exponent : exponent ≡ index + 1
-  pub is-power : e ≡ power m x index
-  pub idempotent : Idempotent m e
-  pub least : (i : ℕ) → i < index → Idempotent m (power m x i) → ⊥
-
--- no power with an exponent 1 to n is idempotent
-pub record NoPower (m : Morphism) (x : ℕ) : Type 0 where
-  pub none : (i : ℕ) → i < m .size → Idempotent m (power m x i) → ⊥
 
 abbrev pub PowerAnswer : List ℕ → ℕ → ℕ → ℕ → Power → Type 0
 PowerAnswer bytes n k x (Idempotent-power e exponent) = LeastPower (morphismAt bytes n k) x e exponent

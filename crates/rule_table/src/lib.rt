@@ -2,7 +2,8 @@
 // These functions are shared by the calls of the library and ask for bytes whose first two sections were checked.
 ghost use mathlib.Core.Path.{_≡_};
 ghost use Prim.Native.Nat.{_<_};
-ghost use Rattle.rule_table.specs.Table.{Table, ProductPlace, ImagePlace, productAt, imageAt};
+ghost use Rattle.rule_table.specs.Table.{Table, ProductPlace, ImagePlace};
+ghost use Rattle.formats.specs.Table.{productAt, imageAt};
 ghost use Rattle.rule_table.specs.Answers.{TripleAnswer, PowerAnswer};
 
 // The product of two elements.

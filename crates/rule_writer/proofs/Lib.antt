@@ -1,14 +1,5 @@
-pub mod Agree
-pub mod Tabulated
-pub mod Listed
-pub mod Pairs
-pub mod Stands
-pub mod Marks
-pub mod GoodSections
-pub mod ReadBack
 pub mod Placed
 pub mod Rows
 pub mod Copied
 pub mod SoFar
 pub mod Parts
-pub mod Same

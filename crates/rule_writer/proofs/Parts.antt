@@ -8,12 +8,13 @@ use native.Mathlib.Nat.{zero-add, mul-le-mul, div-add-mod'}
 use lib.ListN.{length, getD, take, drop, set, length-set, length-append}
 use lib.Seq.{length-take-le, take-at}
 use Rattle.theory.specs.Rules.{Morphism}
-use Rattle.rule_writer.specs.File.{elementsBytes, lettersBytes, marksBytes, fileOf}
-use Rattle.rule_writer.specs.Writing.{placed, Written, tableMorphism, tableMarks, pairsFrom, CopyPlace, CountedPlace, PairsPlace, MarksPlace, MarksWritten, RulePlace, RuleWritten}
-use Rattle.rule_writer.proofs.Tabulated.{tabulate-take}
+use Rattle.formats.specs.WrittenFile.{elementsBytes, lettersBytes, marksBytes, fileOf}
+use Rattle.rule_writer.specs.Writing.{placed, Written, tableMorphism, tableMarks, CopyPlace, CountedPlace, PairsPlace, MarksPlace, MarksWritten, RulePlace, RuleWritten}
+use Rattle.formats.proofs.Rows.{pairsFrom, section-is}
+use Rattle.formats.proofs.Tabulated.{tabulate-take}
 use Rattle.rule_writer.proofs.Placed.{written-store, written-length, written-more, written-front}
-use Rattle.rule_writer.proofs.GoodSections.{file-short}
-use Rattle.rule_writer.proofs.Rows.{stretch-short, section-is}
+use Rattle.formats.proofs.GoodSections.{file-short}
+use Rattle.rule_writer.proofs.Rows.{stretch-short}
 
 module _ {entries : List ℕ} {count size : ℕ} {before : List ℕ} {at : ℕ} (p : CountedPlace entries count size before at) where
   -- where the entries go after their count

@@ -1,21 +1,21 @@
 -- Stretches of marked pairs: one stretch after another, one pair alone, and all pairs as the marks' section of a file has them.
 -- What was written of the first stretch and then of the next is written of both. Assumes nothing.
-use Prim.Native.Nat.{ℕ, _+_, _*_, _/_, _%_, _≤_, _<_}
-use mathlib.Core.Path.{_≡_, refl, sym, ap, ap₂, _∙_}
+use Prim.Native.Nat.{ℕ, _+_, _*_, _≤_, _<_}
+use mathlib.Core.Path.{_≡_, refl, ap, ap₂, _∙_}
 use mathlib.Core.Bool.{Bool, true, false, cond}
 use mathlib.Core.List.{List, [], _∷_, _++_}
 use native.Mathlib.Omega.{arith}
-use native.Mathlib.Nat.{mul-div-right}
 use lib.Dec.{ltb}
 use lib.ListN.{length, getD, set}
 use lib.Arith.{digits-div, digits-mod}
 use borrow.Author.Tests.{lt-ltb, le-ltb}
-use Rattle.finite.specs.Select.{select, selectFrom}
-use Rattle.theory.specs.Rules.{Morphism, Marking}
-use Rattle.rule_writer.specs.File.{isMarked, markNumbers, pairBytes, marksBytes}
-use Rattle.rule_writer.specs.Writing.{Written, sized, tableMarks, pairIfMarked, pairsFrom}
-use Rattle.rule_writer.proofs.Listed.{select-listed, select-more}
-use Rattle.rule_writer.proofs.Pairs.{pairs-length, pairs-append, pairs-size}
+use Rattle.finite.specs.Select.{selectFrom}
+use Rattle.theory.specs.Rules.{Marking}
+use Rattle.formats.specs.WrittenFile.{isMarked, pairBytes}
+use Rattle.rule_writer.specs.Writing.{Written, tableMarks, pairIfMarked}
+use Rattle.formats.proofs.Rows.{sized, pairsFrom}
+use Rattle.formats.proofs.Listed.{select-listed, select-more}
+use Rattle.formats.proofs.Pairs.{pairs-length, pairs-append}
 use Rattle.rule_writer.proofs.Placed.{written-none, written-more, written-length, written-two}
 
 module _ (n : ℕ) (marks : Marking) where
@@ -43,25 +43,6 @@ module _ (n : ℕ) (marks : Marking) where
       go : (b : Bool) → pairBytes (sized n) (cond b ((s * n + e) ∷ []) []) ≡ cond b (s ∷ e ∷ []) []
       go true = ap₂ (λ (x y : ℕ). x ∷ y ∷ []) (digits-div s h) (digits-mod s h)
       go false = refl
-
--- the numbers of the marked pairs depend on the size only
-numbers-are : (m : Morphism) (marks : Marking) (n : ℕ) → m .size ≡ n
-    → markNumbers m marks ≡ selectFrom (n * n) 0 (isMarked (sized n) marks) (λ i. i)
-unfolding markNumbers select isMarked
-numbers-are m marks n e = ap (λ (k : ℕ). selectFrom (k * k) 0 (λ i. ltb 0 (marks (i / k) (i % k))) (λ i. i)) e
-
--- half of the pairs' bytes are as many as the pairs
-half : (m : Morphism) (xs : List ℕ) → length xs ≡ length (pairBytes m xs) / 2
-half m xs = sym (ap (λ (c : ℕ). c / 2) (pairs-length m xs) ∙ mul-div-right (length xs) (omega arith))
-
--- all pairs after their count are the marks' section
-pub section-is : (m : Morphism) (marks : Marking) (n : ℕ) → m .size ≡ n
-    → marksBytes m marks
-    ≡ (length (pairsFrom n marks 0 (n * n)) / 2 % 256 ∷ length (pairsFrom n marks 0 (n * n)) / 2 / 256 ∷ pairsFrom n marks 0 (n * n))
-unfolding marksBytes pairsFrom
-section-is m marks n e =
-    ap (λ (xs : List ℕ). length xs % 256 ∷ length xs / 256 ∷ pairBytes m xs) (numbers-are m marks n e)
-    ∙ ap₂ (λ (c : ℕ) (l : List ℕ). c % 256 ∷ c / 256 ∷ l) (half (sized n) _) (pairs-size (sized n) m e _)
 
 module _ (n : ℕ) (marks : Marking) (from : ℕ) {d : List ℕ} {at : ℕ} where
   -- before the first pair nothing is written

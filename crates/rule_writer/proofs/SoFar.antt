@@ -5,7 +5,8 @@ use mathlib.Core.List.{List}
 use native.Mathlib.Omega.{arith}
 use native.Mathlib.Nat.{zero-add, zero-mul, mul-le-mul-right}
 use lib.ListN.{length}
-use Rattle.rule_writer.specs.Writing.{Written, tableMarks, pairIfMarked, pairsFrom, PairPlace, RowPlace, PairsPlace}
+use Rattle.rule_writer.specs.Writing.{Written, tableMarks, pairIfMarked, PairPlace, RowPlace, PairsPlace}
+use Rattle.formats.proofs.Rows.{pairsFrom}
 use Rattle.rule_writer.proofs.Rows.{stretch-one, rows-start, rows-length, rows-room, rows-more}
 
 -- the first i pairs of the row s

@@ -6,9 +6,8 @@ use mathlib.Core.Bool.{cond}
 use mathlib.Core.List.{List, [], _∷_, _++_}
 use lib.Dec.{ltb}
 use lib.ListN.{length, getD, take, drop}
-use Rattle.finite.specs.Select.{selectFrom}
 use Rattle.theory.specs.Rules.{Morphism, Marking}
-use Rattle.rule_writer.specs.File.{isMarked, pairBytes, marksBytes, fileOf}
+use Rattle.formats.specs.WrittenFile.{marksBytes, fileOf}
 
 -- a buffer with the bytes put in place of its own from a place on
 unfoldable pub placed : List ℕ → ℕ → List ℕ → List ℕ
@@ -32,14 +31,6 @@ tableMarks marks s e = getD marks (s * 64 + e) 0
 -- the bytes of a pair where it is marked, and none where it is not
 unfoldable pub pairIfMarked : Marking → ℕ → ℕ → List ℕ
 pairIfMarked marks s e = cond (ltb 0 (marks s e)) (s ∷ e ∷ []) []
-
--- n elements and nothing else: what the pairs of a file look at
-abbrev pub sized : ℕ → Morphism
-sized n = record { size = n; letters = 0; product = λ a b. 0; image = λ a. 0 }
-
--- the bytes of the marked ones among `count` pairs of n elements, from the pair with the number `from` on
-unfoldable pub pairsFrom : ℕ → Marking → ℕ → ℕ → List ℕ
-pairsFrom n marks from count = pairBytes (sized n) (selectFrom count from (isMarked (sized n) marks) (λ i. i))
 
 -- `count` bytes to copy, and room for them at a place
 pub record CopyPlace (from : List ℕ) (count : ℕ) (out : List ℕ) (at : ℕ) : Type 0 where

@@ -4,7 +4,8 @@
 ghost use mathlib.Core.List.{_∷_};
 ghost use lib.ListN.{take};
 ghost use Prim.Native.Nat.{_*_};
-ghost use Rattle.rule_writer.specs.Writing.{Written, CopyPlace, CountedPlace, PairPlace, RowPlace, PairsPlace, MarksPlace, MarksWritten, RulePlace, RuleWritten, tableMarks, pairIfMarked, pairsFrom};
+ghost use Rattle.rule_writer.specs.Writing.{Written, CopyPlace, CountedPlace, PairPlace, RowPlace, PairsPlace, MarksPlace, MarksWritten, RulePlace, RuleWritten, tableMarks, pairIfMarked};
+ghost use Rattle.formats.proofs.Rows.{pairsFrom};
 
 // Copies the first `count` bytes of a slice.
 pub fn copy(from: &[u8], count: usize, out: &mut [u8], at: usize) -> usize

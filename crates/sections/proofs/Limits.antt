@@ -5,7 +5,7 @@ use mathlib.Core.Logic.{inr}
 use mathlib.Core.List.{List}
 use native.Mathlib.Omega.{arith}
 use Rattle.answer.proofs.Limits.{Limited, limited-nil, limited-cons}
-use Rattle.sections.specs.Sections.{Section, countBytes, countAt, TruncatedAt, CountOutAt, EntryOutAt, sectionChecks}
+use Rattle.formats.specs.Sections.{Section, countBytes, countAt, TruncatedAt, CountOutAt, EntryOutAt, sectionChecks}
 
 pub section-limited : {Within : ℕ → ℕ → Type 0} (s : Section) (input at : ℕ) (rest : List ℕ)
     → ((count place : ℕ) → count ≤ s .high → place ≤ at + (countBytes (s .width) + s .entries count) → Within input place)

@@ -1,5 +1,5 @@
 -- What the answers of this crate's functions say. Assumes nothing.
-use Prim.Native.Nat.{ℕ, _+_, _≤_, _<_}
+use Prim.Native.Nat.{ℕ, _≤_, _<_}
 use mathlib.Core.Path.{_≡_}
 use mathlib.Core.List.{List}
 use lib.ListN.{length, getD}
@@ -8,17 +8,8 @@ use Rattle.sections.specs.declared.Found.{Found}
 use Rattle.sections.specs.declared.Found.the-variants.{At, Nothing}
 use Rattle.sections.specs.declared.Counted.{Counted}
 use Rattle.sections.specs.declared.Counted.the-variants.{Read, Refused}
-use Rattle.sections.specs.Sections.{CountWidth, countAt, countBytes, countChecks, entryChecks}
-
--- the first of `count` bytes from `from` on that is not below the bound
-pub record FirstOut (bytes : List ℕ) (from count bound index : ℕ) : Type 0 where
-  pub below : index < count
-  pub outside : bound ≤ getD bytes (from + index) 0
-  pub first : (i : ℕ) → i < index → getD bytes (from + i) 0 < bound
-
--- all of them are below it
-pub record AllBelow (bytes : List ℕ) (from count bound : ℕ) : Type 0 where
-  pub below : (i : ℕ) → i < count → getD bytes (from + i) 0 < bound
+use Rattle.formats.specs.Sections.{CountWidth, countChecks, entryChecks}
+use Rattle.formats.proofs.Sections.{AllBelow, CountGood, EntriesGood, FirstOut}
 
 -- every byte outside a part is as it was
 pub record UnchangedOutside (from to : ℕ) (entry exit : List ℕ) : Type 0 where
@@ -35,22 +26,10 @@ abbrev pub FoundOut : List ℕ → ℕ → ℕ → ℕ → Found → Type 0
 FoundOut bytes from count bound (At i) = FirstOut bytes from count bound i
 FoundOut bytes from count bound Nothing = AllBelow bytes from count bound
 
--- the count is there and in its range
-pub record CountGood (width : CountWidth) (low high : ℕ) (rest : List ℕ) (count : ℕ) : Type 0 where
-  pub present : countBytes width ≤ length rest
-  pub is-count : count ≡ countAt width rest
-  pub above : low ≤ count
-  pub within : count ≤ high
-
 -- reading a count: the count, or the first of its checks that fails, whatever the number of the input
 abbrev pub CountAnswer : CountWidth → ℕ → ℕ → ℕ → List ℕ → Counted → Type 0
 CountAnswer width low high at rest (Read count) = CountGood width low high rest count
 CountAnswer width low high at rest (Refused refusal place) = (input : ℕ) → FirstFailure (countChecks width low high input at rest) (refused refusal input place)
-
--- the entries are there and each is below the bound
-pub record EntriesGood (from size bound : ℕ) (rest : List ℕ) : Type 0 where
-  pub present : from + size ≤ length rest
-  pub entries : AllBelow rest from size bound
 
 -- passing entries: the count that was read is handed on
 pub record EntriesRead (from size bound : ℕ) (rest : List ℕ) (count result : ℕ) : Type 0 where

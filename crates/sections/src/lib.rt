@@ -4,8 +4,9 @@ use answer::Refusal;
 ghost use mathlib.Core.Path.{_≡_};
 ghost use Prim.Native.Nat.{_+_, _≤_, _<_, _^_};
 ghost use lib.ListN.{length, replicate};
-ghost use Rattle.sections.specs.Sections.{one-byte, two-byte};
-ghost use Rattle.sections.specs.Answers.{AllBelow, PartZeroed, FoundOut, CountAnswer, EntriesAnswer};
+ghost use Rattle.formats.specs.Sections.{one-byte, two-byte};
+ghost use Rattle.formats.proofs.Sections.{AllBelow};
+ghost use Rattle.sections.specs.Answers.{PartZeroed, FoundOut, CountAnswer, EntriesAnswer};
 
 // Fills a part of a lent buffer with zeros.
 pub fn zero_part(s: &mut [u8], from: usize, to: usize)

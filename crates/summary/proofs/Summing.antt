@@ -12,30 +12,30 @@ use Rattle.answer.specs.Checks.{passed, FirstFailure}
 use Rattle.answer.proofs.Order.{first-passes, none-left, passed-before, passed-last, passes-head, passes-tail}
 use Rattle.theory.specs.Acceptance.{Strong}
 use Rattle.theory.proofs.Included.{strong-dec}
-use Rattle.formats.specs.Format.{morphismOf, pairsOf}
+use Rattle.formats.specs.RuleFile.{morphismOf, pairsOf}
 use Rattle.formats.specs.RuleChecks.{ruleSize, scratchSize}
 use Rattle.formats.proofs.Buffers.{buffer-short, buffer-long, buffer-single}
-use Rattle.rule_inspect.specs.declared.Inspected.{Inspected}
-use Rattle.rule_inspect.specs.declared.Inspected.the-variants.{Rule as Inspected-rule, Refused as Inspected-refused}
-use Rattle.rule_inspect.specs.Inspection.{RuleCounts, InspectPromise}
-use Rattle.rule_check.specs.Answers.{checkedChecks, afterCall, scratchLeft}
+use Rattle.promises.specs.declared.Inspected.{Inspected}
+use Rattle.promises.specs.declared.Inspected.the-variants.{Rule as Inspected-rule, Refused as Inspected-refused}
+use Rattle.promises.specs.Inspect.{RuleCounts, InspectPromise}
+use Rattle.formats.specs.Calls.{checkedChecks, afterCall, scratchLeft}
 use Rattle.rule_check.specs.GoodRule.{GoodRule}
 use Rattle.rule_check.proofs.Promise.{zeros-after}
-use Rattle.rule_check.proofs.OneVerdict.{checked-single}
+use Rattle.formats.proofs.OneVerdict.{checked-single}
 use Rattle.rule_check.proofs.Left.{short-left, long-left}
 use Rattle.rule_check.proofs.Calls.{scratch-long, called-good}
-use Rattle.rule_writer.specs.File.{elementsBytes, fileOf}
-use Rattle.mark_classes.specs.declared.Listed.{Listed}
-use Rattle.mark_classes.specs.declared.Listed.the-variants.{Counts as Listed-counts, Refused as Listed-refused}
-use Rattle.mark_classes.specs.Promise.{classesSize, ListPromise}
-use Rattle.mark_strong.specs.Weak.{weakCheck}
-use Rattle.reduce_call.specs.declared.Reduced.{Reduced}
-use Rattle.reduce_call.specs.declared.Reduced.the-variants.{Rule as Reduced-rule, Refused as Reduced-refused}
-use Rattle.reduce_call.specs.Promise.{reduceChecks, ReducePromise}
-use Rattle.mark_strong.proofs.OneAnswer.{strong-rule-single}
-use Rattle.summary.specs.declared.Summary.{Summary}
-use Rattle.summary.specs.declared.Summary.the-variants.{Counts, Refused}
-use Rattle.summary.specs.Promise.{summaryChecks, SummaryPromise}
+use Rattle.formats.specs.WrittenFile.{elementsBytes, fileOf}
+use Rattle.promises.specs.declared.Listed.{Listed}
+use Rattle.promises.specs.declared.Listed.the-variants.{Counts as Listed-counts, Refused as Listed-refused}
+use Rattle.promises.specs.Classes.{classesSize, ListPromise}
+use Rattle.promises.specs.Weak.{weakCheck}
+use Rattle.promises.specs.declared.Reduced.{Reduced}
+use Rattle.promises.specs.declared.Reduced.the-variants.{Rule as Reduced-rule, Refused as Reduced-refused}
+use Rattle.promises.specs.Reduce.{reduceChecks, ReducePromise}
+use Rattle.promises.proofs.OneStrength.{strong-rule-single}
+use Rattle.promises.specs.declared.Summary.{Summary}
+use Rattle.promises.specs.declared.Summary.the-variants.{Counts, Refused}
+use Rattle.promises.specs.Summary.{summaryChecks, SummaryPromise}
 use Rattle.summary.specs.Steps.{CheckedPlace, SizeFound, Measured}
 use Rattle.summary.proofs.Passing.{not-refused}
 

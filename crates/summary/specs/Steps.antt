@@ -5,10 +5,10 @@ use mathlib.Core.Bool.{Bool}
 use mathlib.Core.List.{List}
 use lib.ListN.{length, replicate}
 use Rattle.answer.specs.Checks.{passed, FirstFailure}
-use Rattle.rule_check.specs.Answers.{checkedChecks}
+use Rattle.formats.specs.Calls.{checkedChecks}
 use Rattle.formats.specs.RuleChecks.{ruleSize}
-use Rattle.summary.specs.declared.Summary.{Summary}
-use Rattle.summary.specs.Promise.{summaryVerdict, ReducesTo, SummaryAnswer, workAfter}
+use Rattle.promises.specs.declared.Summary.{Summary}
+use Rattle.promises.specs.Summary.{summaryVerdict, ReducesTo, SummaryAnswer, workAfter}
 
 -- a rule that passes every check, and buffers that have their sizes
 pub record CheckedPlace (bytes work scratch : List ℕ) : Type 0 where

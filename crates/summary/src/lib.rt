@@ -1,15 +1,16 @@
 // A rule summed up in numbers: how large it is, its linked pairs and classes, whether it is strong, and how large its reduction
 // is. Three calls in a row, on a rule that the first of them has checked; the lent work buffer holds what the others write.
 use answer::Refusal;
-use mark_classes::Listed;
 use mark_classes::list_classes;
-use reduce_call::Reduced;
+use promises::Inspected;
+use promises::Listed;
+use promises::Reduced;
+use promises::Summary;
 use reduce_call::reduce;
-use rule_inspect::Inspected;
 use rule_inspect::inspect;
 use sections::zero;
-ghost use Rattle.rule_inspect.specs.Inspection.{RuleCounts};
-ghost use Rattle.summary.specs.Promise.{SummaryPromise};
+ghost use Rattle.promises.specs.Inspect.{RuleCounts};
+ghost use Rattle.promises.specs.Summary.{SummaryPromise};
 ghost use Rattle.summary.specs.Steps.{CheckedPlace, SizeFound, Measured};
 
 // Whether a rule is strong, and how many elements its reduction has, 0 where it is weak.
@@ -37,23 +38,6 @@ fn reduced_size(rule: &[u8], work: &mut [u8], scratch: &mut [u8]) -> ReducedSize
             reduced: 0,
         },
     }
-}
-
-pub enum Summary {
-    Counts {
-        elements: usize,
-        letters: usize,
-        marks: usize,
-        linked: usize,
-        classes: usize,
-        strong: bool,
-        reduced: usize,
-    },
-    Refused {
-        refusal: Refusal,
-        input: usize,
-        place: usize,
-    },
 }
 
 // The summary of a checked rule with these counts. Its classes are not refused; the case is there because the call has it.

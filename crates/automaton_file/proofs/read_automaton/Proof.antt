@@ -3,7 +3,7 @@
 use mathlib.Core.Path.{_∙_}
 use borrow.Author.Needs.{needs}
 use Rattle.rule_check.proofs.Faults.{no-fault, fault-refused}
-use Rattle.automaton_format.specs.AutomatonChecks.{contentChecks}
+use Rattle.formats.specs.AutomatonChecks.{contentChecks}
 use Rattle.automaton_file.proofs.Promise.{short-scratch, layout-said, layout-refused, layout-promise, content-promise, automaton-promise, laid-said, kept-said, zeros-again, blank-room}
 use Rattle.automaton_file.proofs.read_automaton.Statement.{statement}
 use Rattle.automaton_file.proofs.read_automaton.Tie as tie

@@ -2,7 +2,7 @@
 use Prim.Native.Nat.{_-_, _≤_}
 use native.Mathlib.Omega.{arith}
 use lib.ListN.{length}
-use Rattle.automaton_format.specs.Format.{statesOf, lettersOf}
+use Rattle.formats.specs.AutomatonFile.{statesOf, lettersOf}
 use Rattle.automaton_file.specs.Answers.{TransitionsLaid}
 use Rattle.automaton_file.proofs.RepeatedOrder.{AllFresh, no-transitions, fresh-more}
 use Rattle.automaton_file.proofs.Laid.{amongFirst, laid-start}

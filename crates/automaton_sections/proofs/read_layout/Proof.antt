@@ -6,7 +6,7 @@ use mathlib.Core.List.{List}
 use native.Mathlib.Omega.{arith}
 use borrow.Author.Needs.{needs}
 use Rattle.rule_layout.specs.Answers.{SectionPassed}
-use Rattle.automaton_format.specs.Format.{statesOf, lettersAt, lettersOf, transitionsAt, statesSection, lettersSection, transitionsSection}
+use Rattle.formats.specs.AutomatonFile.{statesOf, lettersAt, lettersOf, transitionsAt, statesSection, lettersSection, transitionsSection}
 use Rattle.automaton_sections.proofs.Sectioned.{section-read, section-refused}
 use Rattle.automaton_sections.proofs.Rows.{lettersRest, transitionsRest, states-refuse, states-small, states-long, letters-fit, letters-answer, letters-refuse, letters-long, transitions-fit, transitions-answer, transitions-refuse, layout-passes}
 use Rattle.automaton_sections.proofs.read_layout.Statement.{statement}

@@ -2,10 +2,10 @@
 use mathlib.Core.Path.{refl}
 use native.Mathlib.Omega.{arith}
 use borrow.Author.Needs.{needs}
-use Rattle.sections.specs.Sections.{one-byte}
-use Rattle.sections.specs.Answers.{CountGood}
+use Rattle.formats.specs.Sections.{one-byte}
+use Rattle.formats.proofs.Sections.{CountGood}
 use Rattle.rule_layout.proofs.Sectioned.{count-read, count-refused, by-count, by-entries}
-use Rattle.automaton_format.specs.Format.{statesSection}
+use Rattle.formats.specs.AutomatonFile.{statesSection}
 use Rattle.automaton_sections.proofs.states_section.Statement.{statement}
 use Rattle.automaton_sections.proofs.states_section.Tie as tie
 

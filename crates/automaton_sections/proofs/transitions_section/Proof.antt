@@ -1,9 +1,9 @@
 -- `automaton_sections::transitions_section` meets its contract: the count decides, and after a good count the triples. Assumes nothing.
 use borrow.Author.Needs.{needs}
-use Rattle.sections.specs.Sections.{two-byte}
-use Rattle.sections.specs.Answers.{CountGood}
+use Rattle.formats.specs.Sections.{two-byte}
+use Rattle.formats.proofs.Sections.{CountGood}
 use Rattle.rule_layout.proofs.Sectioned.{count-read, count-refused, by-count}
-use Rattle.automaton_format.specs.Format.{transitionsSection}
+use Rattle.formats.specs.AutomatonFile.{transitionsSection}
 use Rattle.automaton_sections.proofs.Sectioned.{by-triples}
 use Rattle.automaton_sections.proofs.transitions_section.Statement.{statement}
 use Rattle.automaton_sections.proofs.transitions_section.Tie as tie

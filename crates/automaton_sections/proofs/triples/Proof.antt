@@ -4,7 +4,7 @@ use Prim.Native.Nat.{_*_}
 use mathlib.Core.Path.{refl}
 use native.Mathlib.Omega.{arith}
 use borrow.Author.Needs.{needs}
-use Rattle.automaton_format.specs.Format.{transitionWidth}
+use Rattle.formats.specs.AutomatonFile.{transitionWidth}
 use Rattle.automaton_sections.specs.Sections.{FirstBeyond}
 use Rattle.automaton_sections.proofs.TripleBytes.{beyond-at, beyond-none, triples-cut, triples-out}
 use Rattle.automaton_sections.proofs.triples.Statement.{statement}

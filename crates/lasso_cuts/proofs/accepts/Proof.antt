@@ -2,7 +2,7 @@
 -- Assumes nothing.
 use native.Mathlib.Omega.{arith}
 use borrow.Author.Needs.{needs}
-use Rattle.rule_table.specs.Table.{morphismAt}
+use Rattle.formats.specs.Table.{morphismAt}
 use Rattle.theory.proofs.Values.{inside-of}
 use Rattle.lasso_turns.proofs.Cutting.{BothTables, both-tables, cut-values, membership}
 use Rattle.lasso_cuts.proofs.accepts.Statement.{statement}

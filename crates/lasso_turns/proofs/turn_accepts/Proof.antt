@@ -1,7 +1,7 @@
 -- The search for the idempotent power finds it, and the pairs are looked at with it. Assumes nothing.
 use borrow.Author.Needs.{needs}
-use Rattle.rule_table.specs.Table.{morphismAt}
-use Rattle.rule_table.specs.Answers.{LeastPower}
+use Rattle.formats.specs.Table.{morphismAt}
+use Rattle.formats.proofs.Tables.{LeastPower}
 use Rattle.rule_table.proofs.Facts.{no-power-absurd}
 use Rattle.lasso_turns.proofs.Turning.{power-found, power-missing}
 use Rattle.lasso_turns.proofs.turn_accepts.Statement.{statement}

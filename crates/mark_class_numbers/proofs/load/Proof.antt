@@ -4,7 +4,7 @@ use mathlib.Core.Path.{refl}
 use mir.Facts.{fits-8-64}
 use native.Mathlib.Omega.{arith}
 use borrow.Author.Needs.{needs}
-use Rattle.sections.specs.Sections.{twoBytes}
+use Rattle.formats.specs.Sections.{twoBytes}
 use Rattle.mark_class_numbers.proofs.load.Statement.{statement}
 use Rattle.mark_class_numbers.proofs.load.Tie as tie
 

@@ -2,7 +2,7 @@
 use Prim.Native.Nat.{ℕ, _-_, _≤_}
 use mathlib.Core.Path.{_≡_, subst}
 use native.Mathlib.Omega.{arith}
-use Rattle.rule_table.specs.Table.{morphismAt}
+use Rattle.formats.specs.Table.{morphismAt}
 use Rattle.mark_class_numbers.specs.Cells.{Lowest, Lowered}
 use Rattle.mark_class_numbers.proofs.Bytes.{CellPlace, cell-place}
 use Rattle.mark_class_numbers.proofs.Factors.{lowest-le}

@@ -3,7 +3,7 @@ use Prim.Native.Nat.{ℕ, _+_, _*_, _-_, _≤_}
 use mathlib.Core.Path.{_≡_, subst}
 use native.Mathlib.Omega.{arith}
 use native.Mathlib.Nat.{add-zero}
-use Rattle.rule_table.specs.Table.{morphismAt}
+use Rattle.formats.specs.Table.{morphismAt}
 use Rattle.mark_class_numbers.specs.Cells.{Advanced}
 use Rattle.mark_class_numbers.proofs.Bytes.{kept-none}
 use Rattle.mark_class_numbers.proofs.Passes.{advanced-both}

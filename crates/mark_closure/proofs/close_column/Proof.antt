@@ -2,7 +2,7 @@
 use Prim.Native.Nat.{ℕ, _-_, _≤_}
 use mathlib.Core.Path.{_≡_, subst}
 use native.Mathlib.Omega.{arith}
-use Rattle.rule_table.specs.Table.{morphismAt}
+use Rattle.formats.specs.Table.{morphismAt}
 use Rattle.mark_closure.specs.Closing.{ColumnClosed}
 use Rattle.mark_closure.proofs.Columns.{column-none, column-more}
 use Rattle.mark_closure.proofs.close_column.Statement.{statement}

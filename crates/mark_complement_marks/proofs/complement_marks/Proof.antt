@@ -3,7 +3,7 @@
 use Prim.Native.Nat.{ℕ, _-_, _≤_}
 use mathlib.Core.Path.{_≡_, subst}
 use native.Mathlib.Omega.{arith}
-use Rattle.rule_table.specs.Table.{morphismAt}
+use Rattle.formats.specs.Table.{morphismAt}
 use Rattle.mark_complement_marks.specs.Complement.{RowsTurned}
 use Rattle.mark_complement_marks.proofs.Turned.{rows-none, rows-more, rows-all}
 use Rattle.mark_complement_marks.proofs.complement_marks.Statement.{statement}

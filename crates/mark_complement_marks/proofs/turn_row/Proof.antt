@@ -2,7 +2,7 @@
 use Prim.Native.Nat.{ℕ, _-_, _≤_}
 use mathlib.Core.Path.{_≡_, subst}
 use native.Mathlib.Omega.{arith}
-use Rattle.rule_table.specs.Table.{morphismAt}
+use Rattle.formats.specs.Table.{morphismAt}
 use Rattle.mark_complement_marks.specs.Complement.{RowTurned}
 use Rattle.mark_complement_marks.proofs.Turned.{row-none, row-more}
 use Rattle.mark_complement_marks.proofs.turn_row.Statement.{statement}

@@ -2,7 +2,7 @@
 use Prim.Native.Nat.{ℕ, _+_, _-_, _≤_}
 use mathlib.Core.Path.{_≡_, subst}
 use native.Mathlib.Omega.{arith}
-use Rattle.rule_table.specs.Table.{morphismAt}
+use Rattle.formats.specs.Table.{morphismAt}
 use Rattle.mark_preimages.specs.Listing.{LetterListed}
 use Rattle.mark_preimages.proofs.Letters.{after-below}
 use Rattle.mark_preimages.proofs.Listing.{letter-none, letter-more}

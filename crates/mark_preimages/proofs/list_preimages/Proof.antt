@@ -1,7 +1,7 @@
 -- `mark_preimages::list_preimages` meets its contract: the letters that were passed have their lists. Assumes nothing.
 use Prim.Native.Nat.{_-_, _≤_}
 use native.Mathlib.Omega.{arith}
-use Rattle.rule_table.specs.Table.{morphismAt}
+use Rattle.formats.specs.Table.{morphismAt}
 use Rattle.mark_preimages.specs.Listing.{LettersListed}
 use Rattle.mark_preimages.proofs.Listing.{letters-none, letters-room, letters-more, letters-all}
 use Rattle.mark_preimages.proofs.list_preimages.Statement.{statement}

@@ -3,7 +3,7 @@ use Prim.Native.Nat.{_-_}
 use native.Mathlib.Omega.{arith}
 use mir.Facts.{fits-8-64}
 use Rattle.scratch.specs.Map.{pairsFrom}
-use Rattle.rule_table.specs.Table.{morphismAt}
+use Rattle.formats.specs.Table.{morphismAt}
 use Rattle.mark_search.specs.Search.{Searching}
 use Rattle.mark_search.proofs.Searching.{at-few, searching-room, visit-place, searching-next, searched-ended, searched-none}
 use Rattle.mark_search.proofs.run.Statement.{statement}

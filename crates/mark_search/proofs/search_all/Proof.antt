@@ -1,7 +1,7 @@
 use Prim.Native.Nat.{_-_}
 use native.Mathlib.Omega.{arith}
 use borrow.Author.Needs.{needs}
-use Rattle.rule_table.specs.Table.{morphismAt}
+use Rattle.formats.specs.Table.{morphismAt}
 use Rattle.mark_search.proofs.Escaping.{SearchedTo, searched-start, next-place, escaped-at, searched-next, escaped-none}
 use Rattle.mark_search.proofs.search_all.Statement.{statement}
 use Rattle.mark_search.proofs.search_all.Tie as tie

@@ -1,7 +1,7 @@
 -- The two cases of the definition. Assumes nothing.
 use mathlib.Core.Path.{sym, _∙_}
 use borrow.Author.Needs.{needs}
-use Rattle.rule_table.specs.Table.{morphismAt}
+use Rattle.formats.specs.Table.{morphismAt}
 use Rattle.mark_search_list.proofs.Values.{turned-element, turned-none}
 use Rattle.mark_search.proofs.turn.Statement.{statement}
 use Rattle.mark_search.proofs.turn.Tie as tie

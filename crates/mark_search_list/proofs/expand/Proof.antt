@@ -1,7 +1,7 @@
 -- The loop holds that the letters before the one at hand were handed over. Assumes nothing.
 use Prim.Native.Nat.{_-_}
 use native.Mathlib.Omega.{arith}
-use Rattle.rule_table.specs.Table.{morphismAt}
+use Rattle.formats.specs.Table.{morphismAt}
 use Rattle.mark_search_list.specs.Steps.{Expanded}
 use Rattle.mark_search_list.proofs.Taking.{expanded-start, expanded-place, expanded-next, expanded-all}
 use Rattle.mark_search_list.proofs.expand.Statement.{statement}

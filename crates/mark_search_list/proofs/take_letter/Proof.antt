@@ -2,7 +2,7 @@ use Prim.Native.Nat.{ℕ, _+_, _*_, _≤_, _<_}
 use mathlib.Core.Path.{_≡_}
 use native.Mathlib.Omega.{arith}
 use mir.Facts.{fits-8-64}
-use Rattle.rule_table.specs.Table.{morphismAt}
+use Rattle.formats.specs.Table.{morphismAt}
 use Rattle.mark_search_list.specs.Queue.{frontAt, backAt}
 use Rattle.mark_search_list.proofs.Growth.{queue-few}
 use Rattle.mark_search_list.proofs.Values.{before-inside}

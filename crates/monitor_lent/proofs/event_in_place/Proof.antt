@@ -42,18 +42,19 @@ use denote.Triple.Clauses.{ensured, lasts}
 use denote.Triple.Table.{entered, cited}
 use denote.Triple.Walked.{says, Stays, stay-ref, stay-none, stay-none-slice, gave-slice, walkOf, AllGo, goes-none, goes-ref, goes-none-slice, goes-gave-slice, Walks, ends-at, walked, walk-meets}
 use denote.Exit.{yes}
-use Rattle.monitor_state.specs.declared.Monitor.{Monitor}
-use Rattle.monitor_moves.specs.declared.Moved.{Moved}
-use Rattle.monitor_lent.specs.declared.Told.{Told}
-use Rattle.monitor_moves.specs.Promises.{EventPromise}
-use Rattle.monitor_lent.specs.InPlace.{sinceOf, toldOf, EventInPlace}
+use Rattle.promises.specs.declared.Monitor.{Monitor}
+use Rattle.promises.specs.declared.Moved.{Moved}
+use Rattle.promises.specs.declared.Told.{Told}
+use Rattle.promises.specs.Moves.{EventPromise}
+use Rattle.monitor_lent.specs.InPlace.{sinceOf, toldOf}
+use Rattle.promises.specs.InPlace.{EventInPlace}
 use Rattle.monitor_lent.proofs.InPlace.{withSince, event-stored}
-use Rattle.monitor_state.proofs.Monitor as T
-use Rattle.monitor_state.proofs.Monitor.Laws as T′
-use Rattle.monitor_moves.proofs.Moved as MovedT
-use Rattle.monitor_moves.proofs.Moved.Laws as MovedT′
-use Rattle.monitor_lent.proofs.Told as ToldT
-use Rattle.monitor_lent.proofs.Told.Laws as ToldT′
+use Rattle.promises.proofs.Monitor as T
+use Rattle.promises.proofs.Monitor.Laws as T′
+use Rattle.promises.proofs.Moved as MovedT
+use Rattle.promises.proofs.Moved.Laws as MovedT′
+use Rattle.promises.proofs.Told as ToldT
+use Rattle.promises.proofs.Told.Laws as ToldT′
 use Rattle.monitor_moves.proofs.event as event
 use Rattle.monitor_moves.proofs.event.Symbol as event-def
 use Rattle.monitor_moves.proofs.event.Symbol.{name as #monitor-moves·event}

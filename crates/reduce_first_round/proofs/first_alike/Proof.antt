@@ -1,7 +1,7 @@
 -- `reduce_first_round::first_alike` meets its contract: no element that was passed has the outcomes of s. Assumes nothing.
 use Prim.Native.Nat.{_-_}
 use native.Mathlib.Omega.{arith}
-use Rattle.rule_table.specs.Table.{morphismAt}
+use Rattle.formats.specs.Table.{morphismAt}
 use Rattle.minimality.specs.Rounds.{SameOutcomes}
 use Rattle.reduce_first_round.specs.Map.{outcomeAt}
 use Rattle.reduce_first_round.proofs.Comparing.{same-refl}

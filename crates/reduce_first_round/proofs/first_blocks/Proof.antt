@@ -1,7 +1,7 @@
 -- `reduce_first_round::first_blocks` meets its contract: the elements that were passed have their blocks. Assumes nothing.
 use Prim.Native.Nat.{_-_}
 use native.Mathlib.Omega.{arith}
-use Rattle.rule_table.specs.Table.{morphismAt}
+use Rattle.formats.specs.Table.{morphismAt}
 use Rattle.minimality.specs.Rounds.{Together}
 use Rattle.reduce_first_round.specs.Map.{outcomeAt}
 use Rattle.reduce_first_round.specs.Steps.{BlocksWritten}

@@ -1,7 +1,7 @@
 -- `reduce_first_round::outcomes` meets its contract: the columns that were passed are written. Assumes nothing.
 use Prim.Native.Nat.{_-_}
 use native.Mathlib.Omega.{arith}
-use Rattle.rule_table.specs.Table.{morphismAt}
+use Rattle.formats.specs.Table.{morphismAt}
 use Rattle.reduce_first_round.specs.Steps.{OutcomesWritten}
 use Rattle.reduce_first_round.proofs.Bytes.{kept-room}
 use Rattle.reduce_first_round.proofs.OutcomeBytes.{outcomes-none, outcomes-more, outcomes-all}

@@ -1,7 +1,7 @@
 -- `reduce_rounds::first_kept` meets its contract: no element that was passed is kept together with s. Assumes nothing.
 use Prim.Native.Nat.{_-_}
 use native.Mathlib.Omega.{arith}
-use Rattle.rule_table.specs.Table.{morphismAt}
+use Rattle.formats.specs.Table.{morphismAt}
 use Rattle.minimality.specs.Rounds.{StillTogether}
 use Rattle.reduce_first_round.specs.Map.{InOneBlock}
 use Rattle.reduce_first_round.proofs.BlockBytes.{NoneBelow, none-start, none-next, none-found, none-all}

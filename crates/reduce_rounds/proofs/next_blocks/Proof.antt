@@ -1,7 +1,7 @@
 -- `reduce_rounds::next_blocks` meets its contract: the elements that were passed have their new blocks. Assumes nothing.
 use Prim.Native.Nat.{_-_}
 use native.Mathlib.Omega.{arith}
-use Rattle.rule_table.specs.Table.{morphismAt}
+use Rattle.formats.specs.Table.{morphismAt}
 use Rattle.minimality.specs.Rounds.{StillTogether}
 use Rattle.reduce_first_round.specs.Map.{InOneBlock}
 use Rattle.reduce_first_round.specs.Steps.{BlocksWritten}

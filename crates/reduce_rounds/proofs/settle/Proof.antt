@@ -3,7 +3,7 @@
 use Prim.Native.Nat.{_-_}
 use mathlib.Core.Path.{_∙_}
 use native.Mathlib.Omega.{arith}
-use Rattle.rule_table.specs.Table.{morphismAt}
+use Rattle.formats.specs.Table.{morphismAt}
 use Rattle.reduce_first_round.proofs.Bytes.{kept-room}
 use Rattle.reduce_first_round.proofs.Comparing.{not-true, not-false}
 use Rattle.reduce_rounds.proofs.Settling.{Started, started, Running, running-start, running-bound, running-next, running-settled}

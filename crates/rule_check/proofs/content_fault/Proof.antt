@@ -6,7 +6,7 @@ use mathlib.Core.List.{List}
 use native.Mathlib.Omega.{arith}
 use lib.ListN.{length, drop}
 use Rattle.answer.specs.Checks.{passed, FirstFailure}
-use Rattle.formats.specs.Format.{morphismOf, marksAt, marksOf}
+use Rattle.formats.specs.RuleFile.{morphismOf, marksAt, marksOf}
 use Rattle.formats.specs.RuleChecks.{tableChecks, markChecks}
 use Rattle.rule_check.proofs.Faults.{no-fault, fault-refused, trailing, table-refuses, marks-refuse, powers-decide}
 use Rattle.rule_check.proofs.Content.{square-small, k-small, count-small, end-is, end-in, table-is, marks-room, of-table, of-marks, of-laid, laid-said, kept-said}

@@ -1,8 +1,9 @@
 -- `rule_check::triples_fault` meets its contract: the first triple that does not associate, and after an associative table the
 -- reached elements. Assumes nothing.
 use native.Mathlib.Omega.{arith}
-use Rattle.rule_table.specs.Table.{morphismAt}
-use Rattle.rule_table.specs.Answers.{FirstTriple, AllAssociate}
+use Rattle.formats.specs.Table.{morphismAt}
+use Rattle.rule_table.specs.Answers.{FirstTriple}
+use Rattle.formats.proofs.Tables.{AllAssociate}
 use Rattle.rule_check.proofs.Faults.{triple-at, triple-none, not-associative, associative}
 use borrow.Author.Needs.{needs}
 use Rattle.rule_check.proofs.triples_fault.Statement.{statement}

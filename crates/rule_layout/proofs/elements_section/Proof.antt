@@ -2,9 +2,9 @@
 use mathlib.Core.Path.{refl}
 use native.Mathlib.Omega.{arith}
 use native.Mathlib.Nat.{mul-le-mul}
-use Rattle.sections.specs.Sections.{one-byte}
-use Rattle.sections.specs.Answers.{CountGood}
-use Rattle.formats.specs.Format.{elementsSection}
+use Rattle.formats.specs.Sections.{one-byte}
+use Rattle.formats.proofs.Sections.{CountGood}
+use Rattle.formats.specs.RuleFile.{elementsSection}
 use Rattle.rule_layout.proofs.Sectioned.{count-read, count-refused, by-count, by-entries}
 use borrow.Author.Needs.{needs}
 use Rattle.rule_layout.proofs.elements_section.Statement.{statement}

@@ -2,9 +2,9 @@
 use mathlib.Core.Path.{refl}
 use native.Mathlib.Omega.{arith}
 use native.Mathlib.Nat.{mul-le-mul}
-use Rattle.sections.specs.Sections.{two-byte}
-use Rattle.sections.specs.Answers.{CountGood}
-use Rattle.formats.specs.Format.{marksSection}
+use Rattle.formats.specs.Sections.{two-byte}
+use Rattle.formats.proofs.Sections.{CountGood}
+use Rattle.formats.specs.RuleFile.{marksSection}
 use Rattle.rule_layout.proofs.Sectioned.{count-read, count-refused, by-count, by-entries}
 use borrow.Author.Needs.{needs}
 use Rattle.rule_layout.proofs.marks_section.Statement.{statement}

@@ -6,8 +6,9 @@ use native.Mathlib.Omega.{arith}
 use mir.Facts.{fits-8-64}
 use borrow.Author.Needs.{needs}
 use lib.ListN.{length}
-use Rattle.rule_table.specs.Table.{Table, morphismAt}
-use Rattle.formats.specs.Format.{markStart, markCycle}
+use Rattle.rule_table.specs.Table.{Table}
+use Rattle.formats.specs.Table.{morphismAt}
+use Rattle.formats.specs.RuleFile.{markStart, markCycle}
 use Rattle.rule_marks.specs.Faults.{MarksRoom, MarksLaid, marksAmong}
 use Rattle.rule_marks.proofs.MarkOrder.{GoodMark, GoodMarks, no-marks, good-more, marks-pass, mark-unlinked, mark-repeated, said-unlinked, said-linked}
 use Rattle.rule_marks.proofs.Laid.{pair-below, laid-start, laid-next, mark-seen, mark-new}

@@ -2,7 +2,7 @@
 use borrow.Author.Needs.{needs}
 use mathlib.Core.Path.{refl}
 use mir.Facts.{fits-8-64}
-use Rattle.rule_table.specs.Table.{imageAt}
+use Rattle.formats.specs.Table.{imageAt}
 use Rattle.rule_table.proofs.image.Statement.{statement}
 use Rattle.rule_table.proofs.image.Tie as tie
 

@@ -1,7 +1,7 @@
 -- The byte read is the one at 1 + (a·n + b), which lies within the bytes since a and b are below n. Assumes nothing.
 use mathlib.Core.Path.{refl}
 use mir.Facts.{fits-8-64}
-use Rattle.rule_table.specs.Table.{productAt}
+use Rattle.formats.specs.Table.{productAt}
 use Rattle.rule_table.proofs.Places.{row-fits, entry-fits, place-fits, place-inside}
 use Rattle.rule_table.proofs.product.Statement.{statement}
 use Rattle.rule_table.proofs.product.Tie as tie

@@ -4,8 +4,9 @@ use mathlib.Core.Path.{refl}
 use mathlib.Core.Logic.{inl, inr}
 use native.Mathlib.Omega.{arith}
 use borrow.Author.Needs.{needs}
-use Rattle.sections.specs.Sections.{one-byte}
-use Rattle.sections.proofs.Laws.{count-cut-answer, count-out}
+use Rattle.formats.specs.Sections.{one-byte}
+use Rattle.sections.proofs.Laws.{count-cut-answer}
+use Rattle.formats.proofs.Sections.{count-out}
 use Rattle.sections.proofs.byte_count.Statement.{statement}
 use Rattle.sections.proofs.byte_count.Tie as tie
 

@@ -2,7 +2,7 @@
 use Prim.Native.Nat.{_≤_, _+_, _-_}
 use native.Mathlib.Omega.{arith}
 use borrow.Author.Needs.{needs}
-use Rattle.sections.specs.Answers.{AllBelow}
+use Rattle.formats.proofs.Sections.{AllBelow}
 use Rattle.sections.proofs.Laws.{none-out, all-below, raised-below}
 use Rattle.sections.proofs.greatest.Statement.{statement}
 use Rattle.sections.proofs.greatest.Tie as tie

@@ -2,7 +2,7 @@
 -- that is not, and where none does all are below it. Assumes nothing.
 use Prim.Native.Nat.{_≤_, _+_, _-_}
 use native.Mathlib.Omega.{arith}
-use Rattle.sections.specs.Answers.{AllBelow}
+use Rattle.formats.proofs.Sections.{AllBelow}
 use Rattle.sections.proofs.Laws.{none-out, one-more-below, out-first, all-below}
 use Rattle.sections.proofs.scan_out.Statement.{statement}
 use Rattle.sections.proofs.scan_out.Tie as tie

@@ -4,8 +4,9 @@ use mathlib.Core.Path.{refl}
 use mathlib.Core.Logic.{inr}
 use native.Mathlib.Omega.{arith}
 use borrow.Author.Needs.{needs}
-use Rattle.sections.specs.Sections.{two-byte, twoBytes}
-use Rattle.sections.proofs.Laws.{count-cut-answer, count-out}
+use Rattle.formats.specs.Sections.{two-byte, twoBytes}
+use Rattle.sections.proofs.Laws.{count-cut-answer}
+use Rattle.formats.proofs.Sections.{count-out}
 use Rattle.sections.proofs.wide_count.Statement.{statement}
 use Rattle.sections.proofs.wide_count.Tie as tie
 

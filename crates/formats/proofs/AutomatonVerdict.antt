@@ -1,0 +1,30 @@
+-- The checks of an automaton file have one verdict. Assumes nothing.
+use Prim.Native.Nat.{ℕ, zero, suc}
+use mathlib.Core.List.{List}
+use Rattle.answer.proofs.Order.{AllSingle, single-nil, single-at, single-cons, single-append}
+use Rattle.formats.proofs.Sections.{section-single}
+use Rattle.formats.proofs.Buffers.{buffer-single}
+use Rattle.formats.specs.AutomatonFile.{transitionsAt, transitionsOf}
+use Rattle.formats.specs.AutomatonChecks.{RepeatedAt, repeatedChecks, layoutChecks, automatonChecks, readChecks}
+use Rattle.formats.specs.RuleChecks.{TrailingAt}
+
+module _ (input : ℕ) (bytes : List ℕ) where
+  -- 8
+  repeated-single : (i count : ℕ) → AllSingle (repeatedChecks input bytes i count)
+  unfolding repeatedChecks
+  repeated-single i zero = single-nil
+  repeated-single i (suc count) = single-cons (single-at (λ place (a : RepeatedAt _ _ place). a .is-place)) (repeated-single (suc i) count)
+
+  -- 1 to 3
+  layout-single : AllSingle (layoutChecks input bytes)
+  layout-single =
+      single-append (section-single _ input 0 bytes) (single-append (section-single _ input _ _) (section-single _ input (transitionsAt bytes) _))
+
+  -- every check of an automaton file fails at one place at most
+  pub automaton-single : AllSingle (automatonChecks input bytes)
+  unfolding automatonChecks
+  automaton-single = single-append layout-single (single-cons (single-at (λ place (a : TrailingAt _ _ place). a .is-place)) (repeated-single 0 (transitionsOf bytes)))
+
+  -- also with that of the scratch before them
+  pub read-single : (scratch : List ℕ) → AllSingle (readChecks input bytes scratch)
+  read-single scratch = buffer-single automaton-single

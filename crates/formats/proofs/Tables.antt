@@ -1,0 +1,81 @@
+-- The checks 5, 6 and 9 of a table fail at one place at most. Assumes nothing.
+use Prim.Native.Nat.{ℕ, _+_, _<_, zero, suc}
+use mathlib.Core.Path.{_≡_, refl, sym, ap}
+use native.Mathlib.Omega.{arith}
+use Rattle.theory.specs.Rules.{Morphism}
+use Rattle.theory.specs.Pairs.{Idempotent, power}
+use Rattle.formats.specs.TableChecks.{Associates, TripleBefore, by-a, by-b, by-c, NotAssociativeAt, UnsettledAt, UnreachedAt}
+use Rattle.finite.proofs.Numbers.{Compared, lesser, level, greater, compared}
+use Rattle.theory.proofs.Powers.{times}
+
+-- every triple associates
+pub record AllAssociate (m : Morphism) : Type 0 where
+  pub associate : (a b c : ℕ) → a < m .size → b < m .size → c < m .size → Associates m a b c
+
+-- e is the power of x with the least exponent that is idempotent; the exponent is one above `index`
+pub record LeastPower (m : Morphism) (x e exponent : ℕ) : Type 0 where
+  pub index : ℕ
+  pub below : index < m .size
+  pub is-exponent : exponent ≡ index + 1
+  pub is-power : e ≡ power m x index
+  pub idempotent : Idempotent m e
+  pub least : (i : ℕ) → i < index → Idempotent m (power m x i) → ⊥
+
+-- no power with an exponent 1 to n is idempotent
+pub record NoPower (m : Morphism) (x : ℕ) : Type 0 where
+  pub none : (i : ℕ) → i < m .size → Idempotent m (power m x i) → ⊥
+
+-- of two triples one stands before the other, or they are equal
+data TriplesCompared (a b c a′ b′ c′ : ℕ) : Type 0 where
+  before : TripleBefore a b c a′ b′ c′ → TriplesCompared a b c a′ b′ c′
+  same : a ≡ a′ → b ≡ b′ → c ≡ c′ → TriplesCompared a b c a′ b′ c′
+  after : TripleBefore a′ b′ c′ a b c → TriplesCompared a b c a′ b′ c′
+
+triples-compared : (a b c a′ b′ c′ : ℕ) → TriplesCompared a b c a′ b′ c′
+triples-compared a b c a′ b′ c′ = go (compared a a′) (compared b b′) (compared c c′)
+  where
+    go : Compared a a′ → Compared b b′ → Compared c c′ → TriplesCompared a b c a′ b′ c′
+    go (lesser h) q r = before (by-a h)
+    go (greater h) q r = after (by-a h)
+    go (level e) (lesser h) r = before (by-b e h)
+    go (level e) (greater h) r = after (by-b (sym e) h)
+    go (level e) (level f) (lesser h) = before (by-c e f h)
+    go (level e) (level f) (greater h) = after (by-c (sym e) (sym f) h)
+    go (level e) (level f) (level g) = same e f g
+
+-- the place of line 5 is one
+pub not-associative-unique : {m : Morphism} {p q : ℕ} → NotAssociativeAt m p → NotAssociativeAt m q → p ≡ q
+not-associative-unique {m} {p} {q} s t = go (triples-compared (s .a) (s .b) (s .c) (t .a) (t .b) (t .c))
+  where
+    go : TriplesCompared (s .a) (s .b) (s .c) (t .a) (t .b) (t .c) → p ≡ q
+    go (before h) = absurd (s .differs (t .first (s .a) (s .b) (s .c) (s .a-inside) (s .b-inside) (s .c-inside) h))
+    go (after h) = absurd (t .differs (s .first (t .a) (t .b) (t .c) (t .a-inside) (t .b-inside) (t .c-inside) h))
+    go (same e f g) = omega (arith, s .is-place, t .is-place)
+
+-- where all triples associate, line 5 refuses nothing
+pub all-associate-none : {m : Morphism} {p : ℕ} → AllAssociate m → NotAssociativeAt m p → ⊥
+all-associate-none all s = s .differs (all .associate (s .a) (s .b) (s .c) (s .a-inside) (s .b-inside) (s .c-inside))
+
+-- a power, written by factors as the theory of powers does
+pub power-times : (m : Morphism) (x i : ℕ) → power m x i ≡ times (m .product) x x i
+unfolding power times
+power-times m x zero = refl
+power-times m x (suc i) = ap (λ (y : ℕ). m .product y x) (power-times m x i)
+
+-- the place of line 9 is one
+pub unsettled-unique : {m : Morphism} {p q : ℕ} → UnsettledAt m p → UnsettledAt m q → p ≡ q
+unsettled-unique {m} {p} {q} s t = go (compared p q)
+  where
+    go : Compared p q → p ≡ q
+    go (lesser h) = absurd (s .unsettled (t .least p h))
+    go (level e) = e
+    go (greater h) = absurd (t .unsettled (s .least q h))
+
+-- the least element that is no word's value is one
+pub unreached-unique : {m : Morphism} {p q : ℕ} → UnreachedAt m p → UnreachedAt m q → p ≡ q
+unreached-unique {m} {p} {q} s t = go (compared p q)
+  where
+    go : Compared p q → p ≡ q
+    go (lesser h) = absurd (s .no-word (t .least p h))
+    go (level e) = e
+    go (greater h) = absurd (t .no-word (s .least q h))

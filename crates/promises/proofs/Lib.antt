@@ -1,0 +1,14 @@
+pub mod OneComplement
+pub mod OneInclusion
+pub mod OneInspection
+pub mod OneListing
+pub mod OneMembership
+pub mod OneMove
+pub mod OneMoveInPlace
+pub mod OneReduction
+pub mod OneStrength
+pub mod OneSummary
+pub mod OneTranslation
+pub mod OneVerdict
+pub mod Readings
+pub mod SameReductions

@@ -1,0 +1,52 @@
+-- Two answers of the call for the same rule and buffers are one, and leave out and scratch alike: the complement's marks are
+-- fixed, and so is its file. Assumes nothing.
+use Prim.Native.Nat.{ℕ}
+use mathlib.Core.Path.{_≡_, refl, sym, ap, _∙_}
+use mathlib.Core.List.{List}
+use lib.Dec.{ltb}
+use Rattle.finite.proofs.Tests.{tests-equal}
+use Rattle.answer.proofs.Order.{one-verdict}
+use Rattle.answer.proofs.Verdicts.{same-refusal, not-passed}
+use Rattle.theory.specs.Rules.{level, marked}
+use Rattle.formats.specs.RuleFile.{morphismOf}
+use Rattle.promises.proofs.OneStrength.{strong-rule-single}
+use Rattle.formats.specs.WrittenFile.{fileOf}
+use Rattle.formats.proofs.Agree.{Agree}
+use Rattle.formats.proofs.Same.{SameMarks, file-same, one-length, one-buffer}
+use Rattle.promises.specs.declared.Complemented.{Complemented}
+use Rattle.promises.specs.declared.Complemented.the-variants.{Rule, Refused}
+use Rattle.promises.specs.Complement.{complementVerdict, ComplementWritten, ComplementAnswer, ComplementPromise}
+
+-- two complements of one rule have one file
+module _ {bytes before after after′ : List ℕ} {r r′ : ℕ} (a : ComplementWritten bytes before after r) (b : ComplementWritten bytes before after′ r′) where
+  same-table : Agree (morphismOf bytes) (morphismOf bytes)
+  same-table = record { same-size = refl; same-letters = refl; same-product = λ x y hx hy. refl; same-image = λ x h. refl }
+
+  same-marks : SameMarks (morphismOf bytes .size) (a .marks) (b .marks)
+  unfolding marked level
+  same-marks = record {
+    same = λ s e hs he.
+        let left = a .is-complement .complement .marks s e hs he in
+        let right = b .is-complement .complement .marks s e hs he in
+        tests-equal (ltb 0 (b .marks s e)) (ltb 0 (a .marks s e)) (λ t. left .1 (right .0 t)) (λ t. right .1 (left .0 t));
+  }
+
+  one-file : fileOf (morphismOf bytes) (b .marks) ≡ fileOf (morphismOf bytes) (a .marks)
+  one-file = file-same same-table same-marks
+
+module _ (bytes before : List ℕ) {after after′ : List ℕ} where
+  same-answer : (a b : Complemented) → ComplementAnswer bytes before after a → ComplementAnswer bytes before after′ b → complementVerdict a ≡ complementVerdict b
+      → (a ≡ b) × (after ≡ after′)
+  same-answer (Rule r) (Rule r′) p q e = (ap Rule (one-length (p .written) (q .written) (one-file p q)), one-buffer (p .written) (q .written) (one-file p q))
+  same-answer (Rule r) (Refused k i place) p q e = absurd (not-passed (sym e))
+  same-answer (Refused k i place) (Rule r) p q e = absurd (not-passed e)
+  same-answer (Refused k i place) (Refused k′ i′ place′) p q e = (same-refusal Refused k k′ i i′ place place′ e, p ∙ sym q)
+
+module _ {bytes before after after′ entry exit exit′ : List ℕ} where
+  pub one-answer : (answer answer′ : Complemented) → ComplementPromise bytes before after entry exit answer → ComplementPromise bytes before after′ entry exit′ answer′
+      → (answer ≡ answer′) × (after ≡ after′)
+  one-answer answer answer′ p q = same-answer bytes before answer answer′ (p .answered) (q .answered) (one-verdict (strong-rule-single _ before bytes entry) (p .verdict) (q .verdict))
+
+  pub one-scratch : {answer answer′ : Complemented} → ComplementPromise bytes before after entry exit answer → ComplementPromise bytes before after′ entry exit′ answer′
+      → exit ≡ exit′
+  one-scratch p q = p .scratch ∙ sym (q .scratch)

@@ -1,0 +1,79 @@
+-- Two answers of the call for the same automaton and buffers are one, and leave out and scratch alike: of the rules of an automaton
+-- only one is numbered by first words. Assumes nothing.
+use Prim.Native.Nat.{ℕ}
+use native.Mathlib.Omega.{arith}
+use mathlib.Core.Path.{_≡_, sym, ap, _∙_, subst}
+use mathlib.Core.Logic.{_↔_}
+use mathlib.Core.List.{List}
+use Rattle.finite.proofs.Pigeonhole.{injection-le}
+use Rattle.answer.proofs.Order.{AllSingle, single-nil, single-at, single-cons, single-append, one-verdict}
+use Rattle.answer.proofs.Verdicts.{same-refusal, not-passed}
+use Rattle.theory.specs.Words.{Lasso}
+use Rattle.theory.specs.Rules.{marked, Rule as Any-rule}
+use Rattle.theory.specs.Acceptance.{Accepts}
+use Rattle.theory.specs.Smallest.{Renumbered}
+use Rattle.buchi.proofs.Numberings.{matrices-renumbered}
+use Rattle.formats.proofs.Buffers.{buffer-single}
+use Rattle.formats.proofs.AutomatonVerdict.{read-single}
+use Rattle.formats.specs.WrittenFile.{fileOf}
+use Rattle.formats.proofs.Same.{one-length, one-buffer}
+use Rattle.formats.proofs.OneFile.{one-file}
+use Rattle.promises.specs.Automaton.{RuleOf, RuleAnswer, ruleVerdict, translateChecks, RulePromise, RichAt}
+use Rattle.promises.specs.declared.Translated.{Translated}
+use Rattle.promises.specs.declared.Translated.the-variants.{Rule, Refused}
+
+module _ (bytes out entry : List ℕ) where
+  -- each check fails at one place at most
+  all-single : AllSingle (translateChecks bytes out entry)
+  all-single =
+      buffer-single
+      (single-append (read-single 1 bytes entry) (single-cons (single-at (λ place (a : RichAt _ place). a .is-place)) single-nil))
+
+  pub rule-one-verdict : {out-exit out-exit′ exit exit′ : List ℕ} {answer answer′ : Translated} → RulePromise bytes out out-exit entry exit answer
+      → RulePromise bytes out out-exit′ entry exit′ answer′ → ruleVerdict answer ≡ ruleVerdict answer′
+  rule-one-verdict p q = one-verdict all-single (p .verdict) (q .verdict)
+
+-- scratch is left the same
+pub one-scratch : {bytes out out-exit out-exit′ entry exit exit′ : List ℕ} {answer answer′ : Translated} → RulePromise bytes out out-exit entry exit answer
+    → RulePromise bytes out out-exit′ entry exit′ answer′ → exit ≡ exit′
+one-scratch p q = p .scratch ∙ sym (q .scratch)
+
+abbrev rule-of : {bytes before after : List ℕ} {r : ℕ} → RuleOf bytes before after r → Any-rule
+rule-of a = record { morphism = a .morphism; lawful = a .lawful; marks = a .marks }
+
+-- two rules of one automaton have one table, elements renumbered, and so, both being numbered by first words, one file
+module _ {bytes before after after′ : List ℕ} {r r′ : ℕ} (a : RuleOf bytes before after r) (b : RuleOf bytes before after′ r′) where
+  renumbered : Renumbered (a .morphism) (b .morphism)
+  renumbered = matrices-renumbered (a .lawful) (a .elements) (b .lawful) (b .elements)
+
+  renumbered-back : Renumbered (b .morphism) (a .morphism)
+  renumbered-back = matrices-renumbered (b .lawful) (b .elements) (a .lawful) (a .elements)
+
+  same-size : a .morphism .size ≡ b .morphism .size
+  same-size =
+      let to = injection-le (record { maps = renumbered .inside; apart = renumbered .one-to-one }) in
+      let back = injection-le (record { maps = renumbered-back .inside; apart = renumbered-back .one-to-one }) in
+      omega (arith, to, back)
+
+  same-lassos : (u v : List ℕ) → Lasso (a .morphism .letters) u v → Accepts (a .morphism) (marked (a .marks)) u v ↔ Accepts (b .morphism) (marked (b .marks)) u v
+  same-lassos u v l =
+      let k = a .accepts .accepts u v l in
+      let k′ = b .accepts .accepts u v (subst (λ n. Lasso n u v) (renumbered .same-letters) l) in
+      (λ t. k′ .1 (k .0 t), λ t. k .1 (k′ .0 t))
+
+  same-file : fileOf (b .morphism) (b .marks) ≡ fileOf (a .morphism) (a .marks)
+  same-file = one-file (rule-of a) (rule-of b) renumbered same-size (a .numbered) (b .numbered) (a .all-marked) (b .all-marked) same-lassos
+
+module _ (bytes before : List ℕ) {after after′ : List ℕ} where
+  same-answer : (a b : Translated) → RuleAnswer bytes before after a → RuleAnswer bytes before after′ b → ruleVerdict a ≡ ruleVerdict b
+      → (a ≡ b) × (after ≡ after′)
+  same-answer (Rule r) (Rule r′) p q e = (ap Rule (one-length (p .written) (q .written) (same-file p q)), one-buffer (p .written) (q .written) (same-file p q))
+  same-answer (Rule r) (Refused k i place) p q e = absurd (not-passed (sym e))
+  same-answer (Refused k i place) (Rule r) p q e = absurd (not-passed e)
+  same-answer (Refused k i place) (Refused k′ i′ place′) p q e = (same-refusal Refused k k′ i i′ place place′ e, p ∙ sym q)
+
+-- two answers are one, and leave out alike
+pub one-answer : {bytes before after after′ entry exit exit′ : List ℕ} (answer answer′ : Translated) → RulePromise bytes before after entry exit answer
+    → RulePromise bytes before after′ entry exit′ answer′ → (answer ≡ answer′) × (after ≡ after′)
+one-answer {bytes} {before} {entry = entry} answer answer′ p q =
+    same-answer bytes before answer answer′ (p .answered) (q .answered) (rule-one-verdict bytes before entry p q)

@@ -1,0 +1,49 @@
+-- Two answers of the call for the same rule, monitor and scratch are one, and leave scratch alike. Assumes nothing.
+use Prim.Native.Nat.{ℕ}
+use mathlib.Core.Path.{_≡_, refl, sym, _∙_}
+use mathlib.Core.List.{List}
+use Rattle.answer.proofs.Order.{AllSingle, single-nil, single-at, single-cons, single-append, one-verdict}
+use Rattle.answer.proofs.Verdicts.{same-refusal, not-passed}
+use Rattle.theory.specs.Rules.{Morphism, Pairs}
+use Rattle.promises.specs.declared.Monitor.{Monitor}
+use Rattle.promises.proofs.OneMove.{monitor-single}
+use Rattle.promises.specs.declared.Judged.{Judged}
+use Rattle.promises.specs.declared.Judged.the-variants.{Accepted, NotAccepted, Refused}
+use Rattle.promises.specs.Verdict.{LassoWith, LassosAccepted, LassosNotAccepted, NoneAt, verdictChecks, judgedVerdict, VerdictAnswer, VerdictPromise}
+use Rattle.promises.specs.Weak.{WeakAt}
+
+-- each check of a verdict fails at one place at most
+pub verdict-single : (bytes : List ℕ) (f : Monitor) (entry : List ℕ) → AllSingle (verdictChecks bytes f entry)
+verdict-single bytes f entry =
+    single-append (monitor-single bytes f entry)
+    (single-cons (single-at (λ place (a : NoneAt _ place). a .is-place)) (single-cons (single-at (λ place (a : WeakAt _ place). a .is-place)) single-nil))
+
+-- a lasso with the values is there, so that not both can be said of all
+pub accepted-or-not : {m : Morphism} {P : Pairs} {before since : ℕ} → LassosAccepted m P before since → LassosNotAccepted m P before since → ⊥
+accepted-or-not {m} {before = before} {since = since} a b =
+    let lasso : LassoWith m before since (a .start .word) (a .cycle .word) = record {
+      start-over = a .start .over;
+      cycle-over = a .cycle .over;
+      start-value = a .start .its-value;
+      cycle-value = a .cycle .its-value;
+    } in
+    b .not-accepted (a .start .word) (a .cycle .word) lasso (a .accepted (a .start .word) (a .cycle .word) lasso)
+
+module _ {bytes : List ℕ} {f : Monitor} {entry exit exit′ : List ℕ} where
+  pub one-answer : (answer answer′ : Judged) → VerdictPromise bytes f entry exit answer → VerdictPromise bytes f entry exit′ answer′ → answer ≡ answer′
+  one-answer answer answer′ p q =
+      same answer answer′ (p .answered) (q .answered) (one-verdict (verdict-single bytes f entry) (p .verdict) (q .verdict))
+    where
+      same : (a b : Judged) → VerdictAnswer bytes f a → VerdictAnswer bytes f b → judgedVerdict a ≡ judgedVerdict b → a ≡ b
+      same Accepted Accepted p q e = refl
+      same NotAccepted NotAccepted p q e = refl
+      same Accepted NotAccepted p q e = absurd (accepted-or-not p q)
+      same NotAccepted Accepted p q e = absurd (accepted-or-not q p)
+      same Accepted (Refused r i place) p q e = absurd (not-passed (sym e))
+      same NotAccepted (Refused r i place) p q e = absurd (not-passed (sym e))
+      same (Refused r i place) Accepted p q e = absurd (not-passed e)
+      same (Refused r i place) NotAccepted p q e = absurd (not-passed e)
+      same (Refused r i place) (Refused r′ i′ place′) p q e = same-refusal Refused r r′ i i′ place place′ e
+
+  pub one-scratch : {answer answer′ : Judged} → VerdictPromise bytes f entry exit answer → VerdictPromise bytes f entry exit′ answer′ → exit ≡ exit′
+  one-scratch p q = p .scratch ∙ sym (q .scratch)

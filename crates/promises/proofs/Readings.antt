@@ -1,0 +1,124 @@
+-- What the promises say in small cases and of one answer: each is contradicted where a definition says something else. Assumes nothing.
+use Prim.Native.Nat.{ℕ, _≤_, _<_}
+use mathlib.Core.Path.{_≡_, refl}
+use mathlib.Core.Bool.{true, false}
+use mathlib.Core.Logic.{inl, inr}
+use mathlib.Core.List.{List, [], _∷_}
+use native.Mathlib.Omega.{arith}
+use Rattle.answer.specs.declared.Refusal.{Refusal}
+use Rattle.finite.specs.Search.{anyBelow}
+use Rattle.theory.specs.Rules.{Morphism, Lawful, Pairs}
+use Rattle.theory.specs.Acceptance.{Accepts}
+use Rattle.theory.specs.Inclusion.{Included}
+use Rattle.buchi.specs.Matrices.{Matrix}
+use Rattle.buchi.specs.Rule.{MatricesOf}
+use Rattle.buchi.proofs.Numberings.{matrices-size}
+use Rattle.formats.specs.Sections.{twoBytes}
+use Rattle.formats.specs.AutomatonFile.{lettersAt, transitionsAt, transitionsOf, kindAt, transitionAt, fromOf, letterOf, toOf, isInitial, isTransition, hasTransition}
+use Rattle.formats.specs.RuleFile.{morphismOf}
+use Rattle.promises.specs.declared.Monitor.{Monitor}
+use Rattle.promises.specs.declared.Moved.the-variants.{Refused}
+use Rattle.promises.specs.declared.Told.the-variants.{Done}
+use Rattle.promises.specs.Stretch.{unread, stretchOf}
+use Rattle.promises.specs.Automaton.{automatonOf, RichAt}
+use Rattle.promises.specs.Inclusion.{Apart, Within}
+use Rattle.promises.specs.Monitor.{freshMonitor}
+use Rattle.promises.specs.Moves.{afterEvent, afterMark, EventPromise}
+use Rattle.promises.specs.InPlace.{EventInPlace}
+use Rattle.promises.specs.Verdict.{NoneAt}
+use Rattle.promises.specs.Histories.{Action, event, mark, sinceWord, beforeWord, Run, event-refused}
+
+-- ---- stretch: u is 0, v is 1 2
+
+-- where u ends all of v is left
+all-of-v : stretchOf (0 ∷ []) (1 ∷ 2 ∷ []) 1 ≡ 1 ∷ 2 ∷ []
+unfolding stretchOf unread
+all-of-v = refl
+
+-- in the second turn of v its end is left
+second-turn : stretchOf (0 ∷ []) (1 ∷ 2 ∷ []) 4 ≡ 2 ∷ []
+unfolding stretchOf unread
+second-turn = refl
+
+-- ---- the automaton of a file: state 0 initial, state 1 final, letter 0 to state 1 and letter 1 to state 0 from either
+
+file : List ℕ
+file = 2 ∷ 1 ∷ 2 ∷ 2 ∷ 4 ∷ 0 ∷ 0 ∷ 0 ∷ 1 ∷ 0 ∷ 1 ∷ 0 ∷ 1 ∷ 0 ∷ 1 ∷ 1 ∷ 1 ∷ 0 ∷ []
+
+initial-state : automatonOf file .initial 0 ≡ true
+unfolding file isInitial kindAt
+initial-state = refl
+
+final-state : automatonOf file .initial 1 ≡ false
+unfolding file isInitial kindAt
+final-state = refl
+
+-- a transition goes from its first state to its second
+transition : automatonOf file .step 0 0 1 ≡ true
+unfolding file hasTransition isTransition fromOf letterOf toOf transitionAt transitionsOf transitionsAt lettersAt twoBytes anyBelow
+transition = refl
+
+no-transition-back : automatonOf file .step 1 0 0 ≡ false
+unfolding file hasTransition isTransition fromOf letterOf toOf transitionAt transitionsOf transitionsAt lettersAt twoBytes anyBelow
+no-transition-back = refl
+
+-- 64 matrices pass
+sixty-four-pass : {bytes : List ℕ} {m : Morphism} {matrix : ℕ → Matrix} {place : ℕ} → Lawful m → MatricesOf (automatonOf bytes) m matrix → m .size ≤ 64
+    → RichAt bytes place → ⊥
+sixty-four-pass law elements few rich =
+    let more : 64 < _ = matrices-size law elements 64 (rich .more) in
+    omega arith
+
+-- ---- inclusion
+
+-- yes says that what the first marking accepts the second does
+yes-says : {m : Morphism} {P P′ : Pairs} {u u′ v v′ : List ℕ} → Within m P P′ u u′ v v′ → Included m P P′
+yes-says answer = answer .included
+
+-- the lasso has its start in u and its cycle in v; the first marking accepts it and the second does not
+no-shows : {m : Morphism} {P P′ : Pairs} {u u′ v v′ : List ℕ} {a b : ℕ} (answer : Apart m P P′ u u′ v v′ a b)
+    → Accepts m P (answer .start) (answer .cycle) × (Accepts m P′ (answer .start) (answer .cycle) → ⊥)
+no-shows answer = (answer .witness .accepted-first, answer .witness .refused-second)
+
+-- ---- the monitor
+
+fresh-before : freshMonitor .before ≡ 64
+fresh-before = refl
+
+fresh-since : freshMonitor .since ≡ 64
+fresh-since = refl
+
+-- a mark empties since
+mark-empties : (m : Morphism) (f : Monitor) → afterMark m f .since ≡ 64
+unfolding afterMark
+mark-empties m f = refl
+
+-- an event that is done in place leaves the monitor after the event
+done-in-place : {bytes : List ℕ} {f g : Monitor} {letter : ℕ} {entry exit : List ℕ} → EventInPlace bytes f letter entry exit g Done
+    → g ≡ afterEvent (morphismOf bytes) f letter
+done-in-place p = p .monitor
+
+-- no verdict with since none, nor with before none
+since-none : NoneAt (record { before = 0; since = 64 }) 0
+since-none = record { none = inr refl; is-place = refl }
+
+before-none : NoneAt (record { before = 64; since = 0 }) 0
+before-none = record { none = inl refl; is-place = refl }
+
+-- ---- histories: letters 0 and 1, a mark, letter 2; the latest action first
+
+history : List Action
+history = event 2 ∷ mark ∷ event 1 ∷ event 0 ∷ []
+
+letters-before : beforeWord history ≡ 0 ∷ 1 ∷ []
+unfolding history beforeWord sinceWord
+letters-before = refl
+
+letters-since : sinceWord (event 3 ∷ history) ≡ 2 ∷ 3 ∷ []
+unfolding history sinceWord
+letters-since = refl
+
+-- a refused event is no part of the history
+refused-event-left-out : {bytes : List ℕ} {f g : Monitor} {past : List Action} {letter : ℕ} {entry exit : List ℕ} {refusal : Refusal} {input place : ℕ}
+    → Run bytes f past → EventPromise bytes f letter entry exit (Refused g refusal input place) → Run bytes g past
+refused-event-left-out run promise = event-refused run promise

@@ -1,0 +1,77 @@
+-- What `automaton_rule` promises: the automaton that a file means, and the rule that is written for it. Document 01, "Automaton to
+-- rule". Assumes nothing.
+use Prim.Native.Nat.{ℕ}
+use mathlib.Core.Path.{_≡_}
+use mathlib.Core.List.{List, [], _∷_, _++_}
+use lib.ListN.{length}
+use Rattle.answer.specs.declared.Refusal.the-variants.{TooManyMatrices}
+use Rattle.answer.specs.Checks.{Check, Verdict, passed, refused, FirstFailure}
+use Rattle.formats.specs.AutomatonFile.{statesOf, lettersOf, isInitial, isFinal, hasTransition}
+use Rattle.buchi.specs.Automata.{Automaton}
+use Rattle.buchi.specs.Rule.{MoreMatrices, MatricesOf, MarkedBy, AcceptsRuns}
+use Rattle.theory.specs.Rules.{Morphism, Lawful, Marking, marked}
+use Rattle.theory.specs.Acceptance.{Strong}
+use Rattle.theory.specs.Smallest.{MarksAccepted}
+use Rattle.formats.specs.FirstWords.{ByFirstWords}
+use Rattle.formats.specs.RuleChecks.{ruleSize, bufferCheck}
+use Rattle.formats.specs.Calls.{scratchLeft}
+use Rattle.formats.specs.AutomatonChecks.{readChecks}
+use Rattle.buchi.specs.Matrices.{Matrix}
+use Rattle.formats.specs.ReadBack.{WrittenRule}
+use Rattle.promises.specs.declared.Translated.{Translated}
+use Rattle.promises.specs.declared.Translated.the-variants.{Rule, Refused}
+
+-- states "plain, initial, final, both", letters, and transitions "(from, letter, to)", as the bytes have them
+abbrev pub automatonOf : List ℕ → Automaton
+automatonOf bytes = record {
+  states = statesOf bytes;
+  letters = lettersOf bytes;
+  initial = isInitial bytes;
+  final = isFinal bytes;
+  step = hasTransition bytes;
+}
+
+-- 14 "an automaton has more than 64 matrices"; place 0
+pub record RichAt (bytes : List ℕ) (place : ℕ) : Type 0 where
+  pub more : MoreMatrices (automatonOf bytes) 64
+  pub is-place : place ≡ 0
+
+-- 14, in input 1
+abbrev pub richCheck : List ℕ → Check
+richCheck bytes = record { refusal = TooManyMatrices; input = 1; Fails = RichAt bytes }
+
+-- "The elements are the matrices of all non-empty words. The rule accepts exactly the lassos on which some run from an initial
+-- state meets a final state again and again. A linked pair (R, E) is marked if .."; elements are numbered by first words; the file
+-- of that rule was written, its marks by s, then by e
+pub record RuleOf (bytes entry exit : List ℕ) (r : ℕ) : Type 0 where
+  pub morphism : Morphism
+  pub matrix : ℕ → Matrix
+  pub marks : Marking
+  pub lawful : Lawful morphism
+  pub elements : MatricesOf (automatonOf bytes) morphism matrix
+  pub numbered : ByFirstWords morphism
+  pub marking : MarkedBy (automatonOf bytes) morphism matrix (marked marks)
+  pub accepts : AcceptsRuns (automatonOf bytes) morphism (marked marks)
+  pub strong : Strong morphism (marked marks)
+  pub all-marked : MarksAccepted morphism (marked marks)
+  pub written : WrittenRule morphism marks entry exit r
+
+-- document 01's number, input and place of an answer
+abbrev pub ruleVerdict : Translated → Verdict
+ruleVerdict (Rule length) = passed
+ruleVerdict (Refused refusal input place) = refused refusal input place
+
+-- a refusal keeps every byte of out
+abbrev pub RuleAnswer : List ℕ → List ℕ → List ℕ → Translated → Type 0
+RuleAnswer bytes entry exit (Rule length) = RuleOf bytes entry exit length
+RuleAnswer bytes entry exit (Refused refusal input place) = exit ≡ entry
+
+-- "For an automaton: 13, 1 to 4, 8, 14"; 13 of both buffers
+abbrev pub translateChecks : List ℕ → List ℕ → List ℕ → List Check
+translateChecks bytes out scratch = bufferCheck ruleSize out ∷ (readChecks 1 bytes scratch ++ (richCheck bytes ∷ []))
+
+-- scratch as every call leaves it
+pub record RulePromise (bytes out-entry out-exit entry exit : List ℕ) (answer : Translated) : Type 0 where
+  pub verdict : FirstFailure (translateChecks bytes out-entry entry) (ruleVerdict answer)
+  pub answered : RuleAnswer bytes out-entry out-exit answer
+  pub scratch : exit ≡ scratchLeft ruleSize out-entry entry

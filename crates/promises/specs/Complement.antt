@@ -1,0 +1,53 @@
+-- What `complement` promises. Document 01, "Complement of a strong rule". Assumes nothing.
+use Prim.Native.Nat.{ℕ}
+use mathlib.Core.Logic.{_↔_}
+use mathlib.Core.List.{List, [], _∷_, _++_}
+use mathlib.Core.Path.{_≡_}
+use lib.ListN.{length}
+use Rattle.theory.specs.Words.{Lasso}
+use Rattle.theory.specs.Rules.{Morphism, Pairs, Marking, marked}
+use Rattle.theory.specs.Acceptance.{Accepts, Strong}
+use Rattle.theory.specs.Pairs.{LinkedOnly}
+use Rattle.theory.specs.Smallest.{Complement}
+use Rattle.answer.specs.Checks.{Check, Verdict, passed, refused, FirstFailure}
+use Rattle.formats.specs.RuleFile.{morphismOf, pairsOf}
+use Rattle.formats.specs.RuleChecks.{ruleSize, bufferCheck}
+use Rattle.formats.specs.Calls.{checkedChecks, scratchLeft}
+use Rattle.formats.specs.ReadBack.{WrittenRule}
+use Rattle.promises.specs.Weak.{weakCheck}
+use Rattle.promises.specs.declared.Complemented.{Complemented}
+use Rattle.promises.specs.declared.Complemented.the-variants.{Rule, Refused}
+
+-- marks of the complement: they accept a lasso exactly if P does not, and are strong, and linked
+pub record ComplementMarks (m : Morphism) (P P′ : Pairs) : Type 0 where
+  pub complement : Complement m P P′
+  pub strong : Strong m P′
+  pub linked : LinkedOnly m P′
+  pub accepts : (u v : List ℕ) → Lasso (m .letters) u v → Accepts m P′ u v ↔ (Accepts m P u v → ⊥)
+
+-- "First 13", of both buffers; then the rule's own checks; then 12
+abbrev pub complementChecks : List ℕ → List ℕ → List ℕ → List Check
+complementChecks bytes out scratch = bufferCheck ruleSize out ∷ (checkedChecks 1 bytes scratch ++ (weakCheck 1 bytes ∷ []))
+
+-- document 01's number, input and place of an answer
+abbrev pub complementVerdict : Complemented → Verdict
+complementVerdict (Rule length) = passed
+complementVerdict (Refused refusal input place) = refused refusal input place
+
+-- "same elements and numbering; it marks every linked pair whose lassos are not accepted", and the file of that rule was written,
+-- its marks by s, then by e
+pub record ComplementWritten (bytes entry exit : List ℕ) (r : ℕ) : Type 0 where
+  pub marks : Marking
+  pub is-complement : ComplementMarks (morphismOf bytes) (pairsOf bytes) (marked marks)
+  pub written : WrittenRule (morphismOf bytes) marks entry exit r
+
+-- a refusal keeps every byte of out
+abbrev pub ComplementAnswer : List ℕ → List ℕ → List ℕ → Complemented → Type 0
+ComplementAnswer bytes entry exit (Rule length) = ComplementWritten bytes entry exit length
+ComplementAnswer bytes entry exit (Refused refusal input place) = exit ≡ entry
+
+-- scratch as every call leaves it
+pub record ComplementPromise (bytes out-entry out-exit entry exit : List ℕ) (answer : Complemented) : Type 0 where
+  pub verdict : FirstFailure (complementChecks bytes out-entry entry) (complementVerdict answer)
+  pub answered : ComplementAnswer bytes out-entry out-exit answer
+  pub scratch : exit ≡ scratchLeft ruleSize out-entry entry

@@ -1,0 +1,56 @@
+-- Histories of a monitor: the calls that moved it, and the words of letters that they were told. Assumes nothing.
+use Prim.Native.Nat.{ℕ}
+use mathlib.Core.Path.{_≡_}
+use mathlib.Core.List.{List, [], _∷_, _++_}
+use Rattle.answer.specs.declared.Refusal.{Refusal}
+use Rattle.theory.specs.Words.{Over}
+use Rattle.theory.specs.Rules.{value}
+use Rattle.formats.specs.RuleFile.{lettersOf, morphismOf}
+use Rattle.promises.specs.declared.Monitor.{Monitor}
+use Rattle.promises.specs.declared.Moved.the-variants.{To, Refused}
+use Rattle.promises.specs.declared.Told.the-variants.{Done, Refused as Told-refused}
+use Rattle.promises.specs.Monitor.{valueOf, freshMonitor}
+use Rattle.promises.specs.Moves.{EventPromise, MarkPromise}
+use Rattle.promises.specs.InPlace.{EventInPlace}
+
+-- what moves a monitor: an event with its letter, or a mark
+pub data Action : Type 0 where
+  event : ℕ → Action
+  mark : Action
+
+-- the letters since the last mark, in the order they came; a history has its latest action first
+unfoldable pub sinceWord : List Action → List ℕ
+sinceWord [] = []
+sinceWord (event letter ∷ history) = sinceWord history ++ letter ∷ []
+sinceWord (mark ∷ history) = []
+
+-- the letters before the last mark
+unfoldable pub beforeWord : List Action → List ℕ
+unfolding sinceWord
+beforeWord [] = []
+beforeWord (event letter ∷ history) = beforeWord history
+beforeWord (mark ∷ history) = beforeWord history ++ sinceWord history
+
+-- a monitor that calls have led to, by what the calls promise: it was fresh, each call that moved it is in the history, and a
+-- refused call, which hands a monitor back or leaves one too, is not
+pub data Run (bytes : List ℕ) : Monitor → List Action → Type 0 where
+  begun : {f : Monitor} → f ≡ freshMonitor → Run bytes f []
+  moved-by-event : {f g : Monitor} {history : List Action} {letter : ℕ} {entry exit : List ℕ}
+      → Run bytes f history → EventPromise bytes f letter entry exit (To g) → Run bytes g (event letter ∷ history)
+  moved-by-mark : {f g : Monitor} {history : List Action} {entry exit : List ℕ}
+      → Run bytes f history → MarkPromise bytes f entry exit (To g) → Run bytes g (mark ∷ history)
+  moved-in-place : {f g : Monitor} {history : List Action} {letter : ℕ} {entry exit : List ℕ}
+      → Run bytes f history → EventInPlace bytes f letter entry exit g Done → Run bytes g (event letter ∷ history)
+  event-refused : {f g : Monitor} {history : List Action} {letter : ℕ} {entry exit : List ℕ} {refusal : Refusal} {input place : ℕ}
+      → Run bytes f history → EventPromise bytes f letter entry exit (Refused g refusal input place) → Run bytes g history
+  mark-refused : {f g : Monitor} {history : List Action} {entry exit : List ℕ} {refusal : Refusal} {input place : ℕ}
+      → Run bytes f history → MarkPromise bytes f entry exit (Refused g refusal input place) → Run bytes g history
+  refused-in-place : {f g : Monitor} {history : List Action} {letter : ℕ} {entry exit : List ℕ} {refusal : Refusal} {input place : ℕ}
+      → Run bytes f history → EventInPlace bytes f letter entry exit g (Told-refused refusal input place) → Run bytes g history
+
+-- the monitor has the values of its history's two words, and those are words over the rule's letters
+pub record Follows (bytes : List ℕ) (f : Monitor) (history : List Action) : Type 0 where
+  pub before-over : Over (lettersOf bytes) (beforeWord history)
+  pub since-over : Over (lettersOf bytes) (sinceWord history)
+  pub before-value : valueOf (f .before) ≡ value (morphismOf bytes) (beforeWord history)
+  pub since-value : valueOf (f .since) ≡ value (morphismOf bytes) (sinceWord history)

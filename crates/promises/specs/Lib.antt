@@ -1,0 +1,16 @@
+pub mod Automaton
+pub mod Classes
+pub mod Complement
+pub mod Histories
+pub mod InPlace
+pub mod Inclusion
+pub mod Inspect
+pub mod Member
+pub mod Monitor
+pub mod Moves
+pub mod Reduce
+pub mod Stretch
+pub mod Strong
+pub mod Summary
+pub mod Verdict
+pub mod Weak

@@ -1,0 +1,37 @@
+-- What `stretch` promises: the part of a lasso that is left to read at a position. Document 01, "Stretch". Assumes nothing.
+use Prim.Native.Nat.{ℕ, _+_, _-_, _%_}
+use mathlib.Core.Bool.{Bool, cond, _&&_}
+use mathlib.Core.List.{List, []}
+use lib.ListN.{length, drop}
+use lib.Dec.{ltb, leb}
+use Rattle.formats.specs.WordChecks.{shortestWord, longestWord}
+
+-- refusal 11 names every other length
+abbrev pub wordFits : List ℕ → Bool
+wordFits w = leb shortestWord (length w) && leb (length w) longestWord
+
+-- "the unread rest of u, or of v once u is used up; past u the place in v is the position less the length of u, modulo the
+-- length of v"
+unfoldable pub unread : List ℕ → List ℕ → ℕ → List ℕ
+unread u v at = cond (ltb at (length u)) (drop at u) (drop ((at - length u) % length v) v)
+
+-- "For lengths that refusal 11 names, the answer is the empty part of u."
+unfoldable pub stretchOf : List ℕ → List ℕ → ℕ → List ℕ
+stretchOf u v at = cond (wordFits u && wordFits v) (unread u v at) []
+
+-- Where a slice begins, its `.ptr` in the toolchain's logic (`denote.Ref`): a block of memory, and how many bytes into it. A slice is
+-- its pointer and its number of elements, so the place and the letters of a part tell it from every other part.
+abbrev pub Pointer : Type 0
+Pointer = ℕ × ℕ
+
+-- as many bytes further on in the same block
+abbrev pub further : Pointer → ℕ → Pointer
+further p bytes = (p .0, p .1 + bytes)
+
+-- where the unread rest begins, for a u that begins at p and a v that begins at q
+unfoldable pub unreadPlace : Pointer → Pointer → List ℕ → List ℕ → ℕ → Pointer
+unreadPlace p q u v at = cond (ltb at (length u)) (further p at) (further q ((at - length u) % length v))
+
+-- where the answer begins: "the empty part of u" lies where u does
+unfoldable pub stretchPlace : Pointer → Pointer → List ℕ → List ℕ → ℕ → Pointer
+stretchPlace p q u v at = cond (wordFits u && wordFits v) (unreadPlace p q u v at) p

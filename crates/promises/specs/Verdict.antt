@@ -1,0 +1,65 @@
+-- What `verdict` promises: whether the lassos with the values of a monitor are accepted. Document 01, "Follower". Assumes nothing.
+use Prim.Native.Nat.{ℕ}
+use mathlib.Core.Path.{_≡_}
+use mathlib.Core.List.{List, [], _∷_, _++_}
+use mathlib.Core.Logic.{_⊎_}
+use Rattle.theory.specs.Words.{Over}
+use Rattle.theory.specs.Rules.{Morphism, Pairs, element, value, WordOf}
+use Rattle.theory.specs.Acceptance.{Accepts}
+use Rattle.answer.specs.declared.Refusal.the-variants.{WordLength}
+use Rattle.answer.specs.Checks.{Check, Verdict, passed, refused, FirstFailure}
+use Rattle.formats.specs.RuleFile.{morphismOf, pairsOf}
+use Rattle.formats.specs.Calls.{afterCall}
+use Rattle.promises.specs.declared.Monitor.{Monitor}
+use Rattle.promises.specs.Monitor.{noValue, monitorChecks}
+use Rattle.promises.specs.Weak.{weakCheck}
+use Rattle.promises.specs.declared.Judged.{Judged}
+use Rattle.promises.specs.declared.Judged.the-variants.{Accepted, NotAccepted, Refused}
+
+-- a "lasso whose start has value before and whose cycle has value since": a word whose value is an element is not empty
+pub record LassoWith (m : Morphism) (before since : ℕ) (u v : List ℕ) : Type 0 where
+  pub start-over : Over (m .letters) u
+  pub cycle-over : Over (m .letters) v
+  pub start-value : value m u ≡ element before
+  pub cycle-value : value m v ≡ element since
+
+-- there is such a lasso, and each is accepted
+pub record LassosAccepted (m : Morphism) (P : Pairs) (before since : ℕ) : Type 0 where
+  pub start : WordOf m before
+  pub cycle : WordOf m since
+  pub accepted : (u v : List ℕ) → LassoWith m before since u v → Accepts m P u v
+
+-- there is such a lasso, and none is accepted
+pub record LassosNotAccepted (m : Morphism) (P : Pairs) (before since : ℕ) : Type 0 where
+  pub start : WordOf m before
+  pub cycle : WordOf m since
+  pub not-accepted : (u v : List ℕ) → LassoWith m before since u v → Accepts m P u v → ⊥
+
+-- 11 "a verdict is wanted with before or since none"; place 0
+pub record NoneAt (f : Monitor) (place : ℕ) : Type 0 where
+  pub none : (f .before ≡ noValue) ⊎ (f .since ≡ noValue)
+  pub is-place : place ≡ 0
+
+abbrev pub noneCheck : Monitor → Check
+noneCheck f = record { refusal = WordLength; input = 1; Fails = NoneAt f }
+
+-- the rule's checks and 3 for the monitor's values, as for an event; then "11 .. for a verdict", then 12
+abbrev pub verdictChecks : List ℕ → Monitor → List ℕ → List Check
+verdictChecks bytes f scratch = monitorChecks bytes f scratch ++ noneCheck f ∷ weakCheck 1 bytes ∷ []
+
+-- document 01's number, input and place of an answer
+abbrev pub judgedVerdict : Judged → Verdict
+judgedVerdict Accepted = passed
+judgedVerdict NotAccepted = passed
+judgedVerdict (Refused refusal input place) = refused refusal input place
+
+-- "that of the lasso whose start has value before and whose cycle has value since"
+abbrev pub VerdictAnswer : List ℕ → Monitor → Judged → Type 0
+VerdictAnswer bytes f Accepted = LassosAccepted (morphismOf bytes) (pairsOf bytes) (f .before) (f .since)
+VerdictAnswer bytes f NotAccepted = LassosNotAccepted (morphismOf bytes) (pairsOf bytes) (f .before) (f .since)
+VerdictAnswer bytes f (Refused refusal input place) = Unit {0}
+
+pub record VerdictPromise (bytes : List ℕ) (f : Monitor) (entry exit : List ℕ) (answer : Judged) : Type 0 where
+  pub verdict : FirstFailure (verdictChecks bytes f entry) (judgedVerdict answer)
+  pub answered : VerdictAnswer bytes f answer
+  pub scratch : exit ≡ afterCall entry

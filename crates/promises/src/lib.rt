@@ -1,0 +1,147 @@
+// What the calls answer, and the monitor; the promises are in specs/.
+use answer::Refusal;
+
+// A rule file's counts, or its refusal.
+pub enum Inspected {
+    Rule {
+        elements: usize,
+        letters: usize,
+        marks: usize,
+    },
+    Refused {
+        refusal: Refusal,
+        input: usize,
+        place: usize,
+    },
+}
+
+// The linked pairs, the classes, and the joins, which are the first less the second.
+pub enum Listed {
+    Counts {
+        linked: usize,
+        classes: usize,
+        joins: usize,
+    },
+    Refused {
+        refusal: Refusal,
+        input: usize,
+        place: usize,
+    },
+}
+
+pub enum Strength {
+    Strong,
+    Weak,
+    Refused {
+        refusal: Refusal,
+        input: usize,
+        place: usize,
+    },
+}
+
+// The number of bytes that were written.
+pub enum Complemented {
+    Rule(usize),
+    Refused {
+        refusal: Refusal,
+        input: usize,
+        place: usize,
+    },
+}
+
+pub enum Inclusion {
+    Included,
+    NotIncluded {
+        u: usize,
+        v: usize,
+    },
+    Refused {
+        refusal: Refusal,
+        input: usize,
+        place: usize,
+    },
+}
+
+// A reduced rule's length, or a refusal.
+pub enum Reduced {
+    Rule(usize),
+    Refused {
+        refusal: Refusal,
+        input: usize,
+        place: usize,
+    },
+}
+
+// The number of bytes that were written.
+pub enum Translated {
+    Rule(usize),
+    Refused {
+        refusal: Refusal,
+        input: usize,
+        place: usize,
+    },
+}
+
+pub enum Membership {
+    Accepted,
+    NotAccepted,
+    Refused {
+        refusal: Refusal,
+        input: usize,
+        place: usize,
+    },
+}
+
+// Each an element, or 64 for none.
+pub struct Monitor {
+    pub before: usize,
+    pub since: usize,
+}
+
+// What a call makes of a monitor; a refused call hands it back as it was.
+pub enum Moved {
+    To(Monitor),
+    Refused {
+        monitor: Monitor,
+        refusal: Refusal,
+        input: usize,
+        place: usize,
+    },
+}
+
+// What a call that is lent a monitor answers: the monitor has moved, or the refusal.
+pub enum Told {
+    Done,
+    Refused {
+        refusal: Refusal,
+        input: usize,
+        place: usize,
+    },
+}
+
+pub enum Judged {
+    Accepted,
+    NotAccepted,
+    Refused {
+        refusal: Refusal,
+        input: usize,
+        place: usize,
+    },
+}
+
+pub enum Summary {
+    Counts {
+        elements: usize,
+        letters: usize,
+        marks: usize,
+        linked: usize,
+        classes: usize,
+        strong: bool,
+        reduced: usize,
+    },
+    Refused {
+        refusal: Refusal,
+        input: usize,
+        place: usize,
+    },
+}
