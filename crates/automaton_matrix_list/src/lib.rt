@@ -10,7 +10,7 @@ use automaton_matrix_search::add_step;
 use automaton_products::matrix_product;
 ghost use Prim.Native.Nat.{_+_, _≤_, _<_};
 ghost use Rattle.automaton_matrix_search.specs.Lists.{ListPlace, MatricesAnswer};
-ghost use Rattle.automaton_matrix_search.specs.Steps.{StepsTaken, Followed};
+ghost use Rattle.automaton_matrix_search.specs.Steps.{Followed, LetterList, ProductsAdded, ListClosed};
 
 // Adds the matrix of every letter.
 fn add_letters(kinds: &[u8], n: usize, k: usize, scratch: &mut [u8]) -> MatrixCount
@@ -31,20 +31,11 @@ fn add_letters(kinds: &[u8], n: usize, k: usize, scratch: &mut [u8]) -> MatrixCo
     MatrixCount::Listed(total)
 }
 
-// Adds the product of one matrix of the list with the matrix of every letter, which is read from the list by its number: to work it out
-// for each product took a tenth of the call. So the states' kinds are here, and in `close_list`, for the contract alone.
-fn add_products(
-    kinds: &[u8],
-    n: usize,
-    k: usize,
-    scratch: &mut [u8],
-    count: usize,
-    from: usize,
-) -> MatrixCount
-    requires { ⌜ ListPlace (now kinds) n k (now scratch) ⌝ }
-    requires { ⌜ StepsTaken (now kinds) n k (now scratch) (now scratch) count (from + 1) 0 ⌝ }
+// Adds the product of one matrix of the list with the matrix of every letter, which is read from the list by its number.
+fn add_products(n: usize, k: usize, scratch: &mut [u8], count: usize, from: usize) -> MatrixCount
+    requires { ⌜ LetterList n k (now scratch) count ⌝ }
     requires { ⌜ from < count ⌝ }
-    ensures { λ r. ⌜ Followed (now (kinds .entry)) n k (now (scratch .entry)) count (from + 1) (now (scratch .exit)) r ⌝ }
+    ensures { λ r. ⌜ ProductsAdded n k (now (scratch .entry)) count (from + 1) (now (scratch .exit)) r ⌝ }
 {
     let left = load_matrix(scratch, 8192, from);
     let mut total = count;
@@ -64,16 +55,15 @@ fn add_products(
 }
 
 // Goes through the list, from its first matrix to those that are added.
-fn close_list(kinds: &[u8], n: usize, k: usize, scratch: &mut [u8], begun: usize) -> MatrixCount
-    requires { ⌜ ListPlace (now kinds) n k (now scratch) ⌝ }
-    requires { ⌜ StepsTaken (now kinds) n k (now scratch) (now scratch) begun 1 0 ⌝ }
+fn close_list(n: usize, k: usize, scratch: &mut [u8], begun: usize) -> MatrixCount
+    requires { ⌜ LetterList n k (now scratch) begun ⌝ }
     requires { ⌜ 1 ≤ k ⌝ }
-    ensures { λ r. ⌜ MatricesAnswer (now (kinds .entry)) n k (now (scratch .entry)) (now (scratch .exit)) r ⌝ }
+    ensures { λ r. ⌜ ListClosed n k (now (scratch .entry)) begun (now (scratch .exit)) r ⌝ }
 {
     let mut count = begun;
     let mut from = 0;
     while from < count {
-        let next = match add_products(kinds, n, k, scratch, count, from) {
+        let next = match add_products(n, k, scratch, count, from) {
             MatrixCount::Listed(c) => c,
             MatrixCount::TooMany => {
                 return MatrixCount::TooMany;
@@ -97,5 +87,5 @@ pub fn list_matrices(kinds: &[u8], n: usize, k: usize, scratch: &mut [u8]) -> Ma
             return MatrixCount::TooMany;
         }
     };
-    close_list(kinds, n, k, scratch, begun)
+    close_list(n, k, scratch, begun)
 }

@@ -10,7 +10,7 @@ use Rattle.buchi.specs.Matrices.{Matrix, SameEntries, OtherEntry}
 use Rattle.buchi.specs.Rule.{MatrixWord}
 use Rattle.buchi.proofs.MatrixLists.{Among}
 use Rattle.automaton_products.specs.Arrays.{entryIn}
-use Rattle.automaton_matrix_search.specs.Lists.{matrixAt, stepPlace, parentPlace, letterPlace, nextAt, parentAt, letterAt, StandsHere, MatrixList, Kept, stepEntry, StepNumber, StepMatrix, TooRich}
+use Rattle.automaton_matrix_search.specs.Lists.{matrixAt, stepPlace, parentPlace, letterPlace, nextAt, parentAt, letterAt, ListPlace, StandsHere, MatrixList, Kept, stepEntry, StepNumber, StepMatrix, TooRich, MatricesAnswer}
 use Rattle.automaton_matrix_search.specs.declared.Addition.{Addition}
 use Rattle.automaton_matrix_search.specs.declared.Addition.the-variants.{Placed, NoPlace}
 use Rattle.automaton_matrix_search.specs.declared.MatrixCount.{MatrixCount}
@@ -121,3 +121,40 @@ FollowAnswer kinds n k entry count p exit TooMany = TooRich kinds n k entry
 pub record Followed (kinds : List ℕ) (n k : ℕ) (entry : List ℕ) (count p : ℕ) (exit : List ℕ) (answer : MatrixCount) : Type 0 where
   pub kept : Kept entry exit
   pub says : FollowAnswer kinds n k entry count p exit answer
+
+-- ---- products, whatever the states' kinds
+
+-- a list over n states with the number of the matrix of each of k letters
+pub record LetterList (n k : ℕ) (scratch : List ℕ) (count : ℕ) : Type 0 where
+  pub few-letters : k ≤ 16
+  pub list : MatrixList n scratch count
+  pub letters : (x : ℕ) → x < k → nextAt scratch 0 x < count
+
+-- it is that of the search for an automaton with these kinds of states, as far as entry p
+pub record SearchAt (n k : ℕ) (scratch : List ℕ) (count p : ℕ) (kinds : List ℕ) : Type 0 where
+  pub place : ListPlace kinds n k scratch
+  pub taken : StepsTaken kinds n k scratch scratch count p 0
+
+-- the first x letters were followed from entry p, whatever the kinds
+pub record Multiplied (n k : ℕ) (entry : List ℕ) (count p : ℕ) (exit : List ℕ) (total x : ℕ) : Type 0 where
+  pub grown : Grown n entry count exit total
+  pub letters : LetterList n k exit total
+  pub following : (kinds : List ℕ) → SearchAt n k entry count p kinds → Following kinds n k entry count p exit total x
+
+-- the automaton has too many matrices, whatever the kinds
+pub record MultipliedFull (n k : ℕ) (entry : List ℕ) (count p : ℕ) : Type 0 where
+  pub rich : (kinds : List ℕ) → SearchAt n k entry count p kinds → TooRich kinds n k entry
+
+abbrev pub MultiplyAnswer : ℕ → ℕ → List ℕ → ℕ → ℕ → List ℕ → MatrixCount → Type 0
+MultiplyAnswer n k entry count p exit (Listed total) = Multiplied n k entry count p exit total k
+MultiplyAnswer n k entry count p exit TooMany = MultipliedFull n k entry count p
+
+-- the answer, and the bytes before the list
+pub record ProductsAdded (n k : ℕ) (entry : List ℕ) (count p : ℕ) (exit : List ℕ) (answer : MatrixCount) : Type 0 where
+  pub kept : Kept entry exit
+  pub says : MultiplyAnswer n k entry count p exit answer
+
+-- the list was closed: the answer for whatever kinds
+pub record ListClosed (n k : ℕ) (entry : List ℕ) (begun : ℕ) (exit : List ℕ) (answer : MatrixCount) : Type 0 where
+  pub kept : Kept entry exit
+  pub closed : (kinds : List ℕ) → SearchAt n k entry begun 1 kinds → MatricesAnswer kinds n k entry exit answer
