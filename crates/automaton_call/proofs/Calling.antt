@@ -23,7 +23,7 @@ module _ (bytes out entry : List ℕ) where
   -- a short buffer is refused, and both are left as they came
   pub out-short : length out < ruleSize → RulePromise bytes out out entry entry (Refused BufferTooShort 1 0)
   out-short h = record {
-    verdict = buffer-short h;
+    refusal = buffer-short h;
     answered = refl;
     scratch = short-left ruleSize out entry h;
   }
@@ -32,7 +32,7 @@ module _ (bytes out entry : List ℕ) where
     -- the automaton is refused
     pub read-refused : {exit : List ℕ} {r : Refusal} {i place : ℕ} → ReadPromise 1 bytes entry exit (Read-refused r i place)
         → RulePromise bytes out out entry exit (Refused r i place)
-    read-refused p = record { verdict = buffer-long long (refused-before _ _ (p .verdict)); answered = refl; scratch = long-left ruleSize out entry long (p .scratch) }
+    read-refused p = record { refusal = buffer-long long (refused-before _ _ (p .refusal)); answered = refl; scratch = long-left ruleSize out entry long (p .scratch) }
 
     -- the automaton was read
     module _ {n k t : ℕ} {mid : List ℕ} (p : ReadPromise 1 bytes entry mid (Automaton n k t)) where
@@ -41,18 +41,18 @@ module _ (bytes out entry : List ℕ) where
 
       pub read-here : ReadHere bytes n k out mid
       read-here = record {
-        sections = called-good 1 bytes entry (p .verdict) .sections;
+        sections = called-good 1 bytes entry (p .refusal) .sections;
         states-are = p .scratch .counts-are .states-are;
         letters-are = p .scratch .counts-are .letters-are;
         laid = subst (λ (size : ℕ). TransitionsLaid (hasTransition bytes) (statesOf bytes) (lettersOf bytes) size mid) (sym mid-length) (p .scratch .laid);
-        room = omega (arith, mid-length, scratch-long 1 bytes entry (p .verdict));
+        room = omega (arith, mid-length, scratch-long 1 bytes entry (p .refusal));
         out-room = long;
       }
 
       pub rule-promised : {out-exit exit : List ℕ} {answer : Translated} → MadePromise bytes out out-exit mid exit answer
           → RulePromise bytes out out-exit entry exit answer
       rule-promised {exit = exit} m = record {
-        verdict = buffer-long long (passed-before _ _ (p .verdict) (m .verdict));
+        refusal = buffer-long long (passed-before _ _ (p .refusal) (m .refusal));
         answered = m .answered;
-        scratch = long-left ruleSize out entry long (zeros-left 1 bytes entry (p .verdict) mid exit mid-length (m .scratch));
+        scratch = long-left ruleSize out entry long (zeros-left 1 bytes entry (p .refusal) mid exit mid-length (m .scratch));
       }

@@ -5,14 +5,14 @@ use mathlib.Core.List.{List}
 use native.Mathlib.Omega.{arith}
 use Rattle.automaton_matrix_search.specs.Lists.{KeptBelow}
 use Rattle.automaton_matrix_search.proofs.Growing.{kept-trans, kept-less}
-use Rattle.automaton_table.specs.Laying.{RowsFilled, StepList, ProductNumber, MarkPlace, MarkByte, laidRule, RuleLaid}
+use Rattle.automaton_table.specs.Laying.{RowsFilled, StepList, ProductNumber, MarkNeeds, MarkByte, laidRule, RuleLaid}
 use Rattle.automaton_table.proofs.Staying.{product-number-stays}
 use Rattle.automaton_table.proofs.Marks.{product-place, mark-stays}
 use Rattle.automaton_table.proofs.Rows.{marks-place}
 
 module _ {kinds : List ℕ} {n count : ℕ} {entry mid : List ℕ} (l : StepList kinds n entry count)
     (a : (kinds : List ℕ) (n : ℕ) → StepList kinds n entry count → RowsFilled (ProductNumber n count entry) 16384 count count count entry mid) where
-  pub marks-next : MarkPlace kinds n entry count → MarkPlace kinds n mid count
+  pub marks-next : MarkNeeds kinds n entry count → MarkNeeds kinds n mid count
   marks-next p = marks-place p (a kinds n l .kept)
 
   module _ {exit : List ℕ} (c : RowsFilled (MarkByte kinds n count mid) 24576 64 count count mid exit) where

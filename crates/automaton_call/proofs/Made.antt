@@ -17,10 +17,10 @@ use Rattle.buchi.proofs.MatrixTables.{TableOf, table-lawful, table-matrices}
 use Rattle.buchi.proofs.Numberings.{more-matrices}
 use Rattle.automaton_matrices.specs.Bytes.{letterEntry}
 use Rattle.automaton_matrices.proofs.Letters.{stands-letter}
-use Rattle.automaton_matrix_search.specs.Lists.{matrixAt, ListPlace, StandsHere, Kept, stepEntry, StepNumber, AllListed}
+use Rattle.automaton_matrix_search.specs.Lists.{matrixAt, ListNeeds, StandsHere, Kept, stepEntry, StepNumber, AllListed}
 use Rattle.automaton_matrix_search.proofs.Growing.{kept-sym, kept-less, here-kept}
 use Rattle.automaton_matrix_search.proofs.Staying.{matrix-stays}
-use Rattle.automaton_table.specs.Laying.{laidRule, laidMarks, initialStates, StepList, ProductNumber, MarkPlace, RuleLaid}
+use Rattle.automaton_table.specs.Laying.{laidRule, laidMarks, initialStates, StepList, ProductNumber, MarkNeeds, RuleLaid}
 use Rattle.formats.specs.FirstWords.{ByFirstWords}
 use Rattle.automaton_call.proofs.Order.{table-by-first-words}
 use Rattle.automaton_table.proofs.Staying.{step-stays, product-number-stays}
@@ -28,7 +28,7 @@ use Rattle.automaton_table.proofs.Marks.{recurs-same}
 
 -- ---- the list of an automaton's matrices
 
-module _ {t : Automaton} {kinds : List ℕ} {n k count : ℕ} {entry listed : List ℕ} (here : StandsHere t kinds n k entry) (place : ListPlace kinds n k entry)
+module _ {t : Automaton} {kinds : List ℕ} {n k count : ℕ} {entry listed : List ℕ} (here : StandsHere t kinds n k entry) (place : ListNeeds kinds n k entry)
     (kept : Kept entry listed) (all : AllListed kinds n k entry listed count) where
   closed : ClosedList t count (matrixAt listed)
   closed = all .closed t here
@@ -44,7 +44,7 @@ module _ {t : Automaton} {kinds : List ℕ} {n k count : ℕ} {entry listed : Li
   pub step-list : StepList kinds n listed count
   step-list = record { letters = k; few-letters = place .few-letters; list = all .list; recorded = all .recorded }
 
-  pub mark-place : MarkPlace kinds n listed count
+  pub mark-place : MarkNeeds kinds n listed count
   mark-place = record { few-states = place .few-states; kinds-long = place .kinds-long; room = all .list .room; few = all .list .few }
 
   -- ---- the rule

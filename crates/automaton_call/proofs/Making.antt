@@ -11,8 +11,8 @@ use Rattle.automaton_matrix_search.specs.Lists.{matrixAt, AllListed, TooRich, L
 use Rattle.automaton_matrix_search.specs.declared.MatrixCount.{MatrixCount}
 use Rattle.automaton_matrix_search.specs.declared.MatrixCount.the-variants.{Listed, TooMany}
 use Rattle.formats.proofs.ReadBack.{written-rule}
-use Rattle.promises.specs.Automaton.{automatonOf, richCheck}
-use Rattle.automaton_table.specs.Laying.{laidRule, laidMarks, StepList, MarkPlace, RuleLaid, WritePlace, LaidWritten}
+use Rattle.promises.specs.Automaton.{automatonOf, matricesCheck}
+use Rattle.automaton_table.specs.Laying.{laidRule, laidMarks, StepList, MarkNeeds, RuleLaid, WriteNeeds, LaidWritten}
 use Rattle.automaton_call.specs.Promise.{ReadHere, MadePromise}
 use Rattle.promises.specs.declared.Translated.the-variants.{Rule, Refused}
 use Rattle.automaton_call.proofs.Reading.{read-stands, read-place, read-letters}
@@ -29,7 +29,7 @@ module _ {bytes : List ℕ} {n k : ℕ} {out scratch listed : List ℕ} (r : Rea
   made-refused answer a e z =
       let rich : TooRich (kinds bytes) n k scratch = subst (ListAnswer (kinds bytes) n k scratch listed) e (a .says) in
       record {
-        verdict = first-fails (richCheck bytes) (record { more = rich .more (automatonOf bytes) (read-stands r); is-place = refl });
+        refusal = first-fails (matricesCheck bytes) (record { more = rich .more (automatonOf bytes) (read-stands r); is-place = refl });
         answered = refl;
         scratch = z ∙ ap (λ (c : ℕ). replicate c 0) (a .kept .same-length);
       }
@@ -39,7 +39,7 @@ module _ {bytes : List ℕ} {n k : ℕ} {out scratch listed : List ℕ} (r : Rea
     all : AllListed (kinds bytes) n k scratch listed count
     all = subst (ListAnswer (kinds bytes) n k scratch listed) e (a .says)
 
-    pub lay-place : StepList (kinds bytes) n listed count × MarkPlace (kinds bytes) n listed count
+    pub lay-place : StepList (kinds bytes) n listed count × MarkNeeds (kinds bytes) n listed count
     lay-place = (step-list (read-stands r) (read-place r) (a .kept) all, mark-place (read-stands r) (read-place r) (a .kept) all)
 
     -- and the rule was laid out
@@ -47,7 +47,7 @@ module _ {bytes : List ℕ} {n k : ℕ} {out scratch listed : List ℕ} (r : Rea
       same-length : length laid ≡ length scratch
       same-length = l .kept .same-length ∙ a .kept .same-length
 
-      pub write-place : WritePlace count k laid out
+      pub write-place : WriteNeeds count k laid out
       write-place = record {
         some = all .some;
         few = all .list .few;
@@ -65,7 +65,7 @@ module _ {bytes : List ℕ} {n k : ℕ} {out scratch listed : List ℕ} (r : Rea
           let elements = laid-matrices (read-stands r) (read-place r) (a .kept) all l in
           let marking = laid-marking (read-stands r) (read-place r) (a .kept) all l in
           record {
-            verdict = first-passes (record { nowhere = λ place f. not-rich (read-stands r) (read-place r) (a .kept) all l (f .more) }) none-left;
+            refusal = first-passes (record { nowhere = λ place f. not-rich (read-stands r) (read-place r) (a .kept) all l (f .more) }) none-left;
             answered = record {
               morphism = laidRule laid count k;
               matrix = matrixAt listed;

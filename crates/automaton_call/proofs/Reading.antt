@@ -8,8 +8,8 @@ use lib.ListN.{length, getD, take, drop}
 use lib.Dec.{eqb, ltb}
 use Rattle.formats.specs.RuleFile.{oneIf}
 use Rattle.formats.specs.AutomatonFile.{statesOf, kindAt, isInitial, isFinal, hasTransition, lettersAt, transitionsAt, automatonEnd}
-use Rattle.automaton_matrices.specs.Bytes.{initialAt, finalAt, stepAt, Stands}
-use Rattle.automaton_matrix_search.specs.Lists.{ListPlace, StandsHere}
+use Rattle.automaton_matrices.specs.Bytes.{initialAt, finalAt, stepAt, MarkingAt}
+use Rattle.automaton_matrix_search.specs.Lists.{ListNeeds, StandsHere}
 use Rattle.scratch.proofs.Parts.{part-length, part-byte}
 use Rattle.promises.specs.Automaton.{automatonOf}
 use Rattle.automaton_call.specs.Promise.{ReadHere}
@@ -45,7 +45,7 @@ module _ {bytes : List ℕ} {n k : ℕ} {out scratch : List ℕ} (r : ReadHere b
   kinds-long : statesOf bytes ≤ length kinds
   kinds-long = omega (arith, long, kinds-length)
 
-  stands : Stands (automatonOf bytes) kinds scratch
+  stands : MarkingAt (automatonOf bytes) kinds scratch
   unfolding isInitial isFinal initialAt finalAt stepAt
   stands = record {
     few-states = r .sections .states-small;
@@ -60,7 +60,7 @@ module _ {bytes : List ℕ} {n k : ℕ} {out scratch : List ℕ} (r : ReadHere b
   pub read-stands : StandsHere (automatonOf bytes) (take (length bytes - 1) (drop 1 bytes)) n k scratch
   read-stands = record { stands = stands; states = sym (r .states-are); letters = sym (r .letters-are) }
 
-  pub read-place : ListPlace (take (length bytes - 1) (drop 1 bytes)) n k scratch
+  pub read-place : ListNeeds (take (length bytes - 1) (drop 1 bytes)) n k scratch
   read-place = record {
     few-states = omega (arith, r .sections .states-small, r .states-are);
     few-letters = omega (arith, r .sections .letters-small, r .letters-are);

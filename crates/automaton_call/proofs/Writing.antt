@@ -8,26 +8,26 @@ use native.Mathlib.Nat.{mul-le-mul}
 use lib.Dec.{ltb}
 use lib.ListN.{length, getD, take, drop}
 use Rattle.formats.specs.WrittenFile.{fileOf}
-use Rattle.rule_writer.specs.Writing.{tableMorphism, tableMarks, RulePlace, RuleWritten}
+use Rattle.rule_writer.specs.Writing.{tableMorphism, tableMarks, RuleNeeds, RuleWritten}
 use Rattle.formats.proofs.Agree.{Agree}
 use Rattle.formats.proofs.Same.{SameMarks, file-same}
 use Rattle.scratch.proofs.Parts.{part-length, part-byte}
 use Rattle.automaton_matrix_search.specs.Lists.{stepPlace}
-use Rattle.automaton_table.specs.Laying.{laidRule, laidMarks, WritePlace, LaidWritten}
+use Rattle.automaton_table.specs.Laying.{laidRule, laidMarks, WriteNeeds, LaidWritten}
 use Rattle.automaton_table.proofs.Marks.{product-place}
 
 -- the rest of scratch from a byte on
 abbrev rest : List ℕ → ℕ → List ℕ
 rest scratch at = take (length scratch - at) (drop at scratch)
 
-module _ {count k : ℕ} {scratch out : List ℕ} (place : WritePlace count k scratch out) where
+module _ {count k : ℕ} {scratch out : List ℕ} (place : WriteNeeds count k scratch out) where
   from : (at : ℕ) → at ≤ 65536 → at ≤ length scratch
   from at h = omega (arith, place .laid-long)
 
   square : count * count ≤ 4096
   square = mul-le-mul (place .few) (place .few)
 
-  pub rule-place : RulePlace (rest scratch 16384) (rest scratch 12288) (rest scratch 24576) count k out
+  pub rule-place : RuleNeeds (rest scratch 16384) (rest scratch 12288) (rest scratch 24576) count k out
   rule-place = record {
     some = place .some;
     small = place .few;

@@ -8,7 +8,7 @@ use Rattle.formats.specs.RuleChecks.{ruleSize}
 use Rattle.formats.specs.AutomatonFile.{statesOf, lettersOf, hasTransition}
 use Rattle.formats.proofs.GoodAutomaton.{GoodSections}
 use Rattle.automaton_file.specs.Answers.{TransitionsLaid}
-use Rattle.promises.specs.Automaton.{richCheck, RuleAnswer, ruleVerdict}
+use Rattle.promises.specs.Automaton.{matricesCheck, RuleAnswer, ruleVerdict}
 use Rattle.promises.specs.declared.Translated.{Translated}
 
 -- an automaton of n states and k letters was read, its transitions stand in scratch, and both buffers are long enough
@@ -22,6 +22,6 @@ pub record ReadHere (bytes : List ℕ) (n k : ℕ) (out scratch : List ℕ) : Ty
 
 -- what is promised of an automaton that was read: only 14 is left to look at
 pub record MadePromise (bytes out-entry out-exit entry exit : List ℕ) (answer : Translated) : Type 0 where
-  pub verdict : FirstFailure (richCheck bytes ∷ []) (ruleVerdict answer)
+  pub refusal : FirstFailure (matricesCheck bytes ∷ []) (ruleVerdict answer)
   pub answered : RuleAnswer bytes out-entry out-exit answer
   pub scratch : exit ≡ replicate (length entry) 0

@@ -15,14 +15,14 @@ use rule_writer::write_rule;
 use sections::zero;
 ghost use Prim.Native.Nat.{_<_};
 ghost use lib.ListN.{length};
-ghost use Rattle.automaton_table.specs.Laying.{StepList, MarkPlace, RuleLaid, WritePlace, LaidWritten};
+ghost use Rattle.automaton_table.specs.Laying.{StepList, MarkNeeds, RuleLaid, WriteNeeds, LaidWritten};
 ghost use Rattle.automaton_call.specs.Promise.{ReadHere, MadePromise};
 ghost use Rattle.promises.specs.Automaton.{RulePromise};
 
 // Lays out the rule whose elements are the listed matrices.
 fn lay_rule(kinds: &[u8], n: usize, scratch: &mut [u8], count: usize)
     requires { ⌜ StepList (now kinds) n (now scratch) count ⌝ }
-    requires { ⌜ MarkPlace (now kinds) n (now scratch) count ⌝ }
+    requires { ⌜ MarkNeeds (now kinds) n (now scratch) count ⌝ }
     ensures { λ _. ⌜ RuleLaid (now (kinds .entry)) n count (now (scratch .entry)) (now (scratch .exit)) ⌝ }
 {
     lay_products(scratch, count);
@@ -31,7 +31,7 @@ fn lay_rule(kinds: &[u8], n: usize, scratch: &mut [u8], count: usize)
 
 // Writes the rule that was laid out, and answers how many bytes its file has.
 fn write_laid(scratch: &[u8], count: usize, k: usize, out: &mut [u8]) -> usize
-    requires { ⌜ WritePlace count k (now scratch) (now out) ⌝ }
+    requires { ⌜ WriteNeeds count k (now scratch) (now out) ⌝ }
     ensures { λ r. ⌜ LaidWritten (now (scratch .entry)) count k (now (out .entry)) (now (out .exit)) r ⌝ }
 {
     let table = &scratch[16384..];

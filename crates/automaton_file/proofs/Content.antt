@@ -16,7 +16,7 @@ use Rattle.formats.specs.AutomatonChecks.{repeatedChecks, contentChecks}
 use Rattle.formats.proofs.GoodAutomaton.{GoodSections}
 use Rattle.automaton_sections.specs.declared.Counts.{Counts}
 use Rattle.automaton_sections.specs.Sections.{LayoutPassed}
-use Rattle.automaton_file.specs.Answers.{TransitionsPlace}
+use Rattle.automaton_file.specs.Answers.{TransitionsNeeds}
 use Rattle.automaton_file.proofs.Passed.{good-sections}
 
 module _ (bytes : List ℕ) (counts : Counts) (p : LayoutPassed bytes counts) where
@@ -27,7 +27,7 @@ module _ (bytes : List ℕ) (counts : Counts) (p : LayoutPassed bytes counts) wh
   count = counts .transitions
 
   sections : GoodSections bytes
-  sections = good-sections 1 bytes (p .verdict 1)
+  sections = good-sections 1 bytes (p .refusal 1)
 
   pub m-small : m ≤ 6
   m-small = omega (arith, sections .states-small, p .counts-are .states-are)
@@ -36,7 +36,7 @@ module _ (bytes : List ℕ) (counts : Counts) (p : LayoutPassed bytes counts) wh
   count-small = omega (arith, sections .transitions-small, p .counts-are .transitions-are)
 
   -- where the transitions' section stands
-  pub transitions-place : TransitionsPlace bytes (1 + m + 1) count
+  pub transitions-place : TransitionsNeeds bytes (1 + m + 1) count
   unfolding transitionsAt lettersAt
   transitions-place = record { sections = sections; is-place = ap (λ (x : ℕ). 1 + x + 1) (p .counts-are .states-are); is-count = p .counts-are .transitions-are }
 

@@ -9,11 +9,11 @@ use Rattle.answer.specs.declared.Refusal.the-variants.{Duplicate}
 use Rattle.answer.specs.Checks.{passed, refused, FirstFailure}
 use Rattle.formats.specs.AutomatonFile.{statesOf, lettersOf, transitionsOf, transitionAt, fromOf, letterOf, toOf, hasTransition, automatonEnd}
 use Rattle.formats.specs.AutomatonChecks.{repeatedChecks}
-use Rattle.automaton_file.specs.Answers.{indexOf, TransitionsPlace, TransitionsLaid}
+use Rattle.automaton_file.specs.Answers.{indexOf, TransitionsNeeds, TransitionsLaid}
 use Rattle.automaton_file.proofs.RepeatedOrder.{Stood, Fresh, AllFresh, repeated-first, fresh-all}
 use Rattle.automaton_file.proofs.Laid.{amongFirst, index-below, index-in, index-seen, index-new, laid-next, laid-all}
 
-module _ {bytes : List ℕ} {at count : ℕ} (t : TransitionsPlace bytes at count) where
+module _ {bytes : List ℕ} {at count : ℕ} (t : TransitionsNeeds bytes at count) where
   module _ (i : ℕ) (h : i < count) where
     in-count : i < transitionsOf bytes
     in-count = omega (arith, t .is-count)

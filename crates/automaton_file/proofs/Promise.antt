@@ -29,7 +29,7 @@ use Rattle.automaton_file.specs.Answers.{transitionTableSize, BlankRoom,
 pub short-scratch : (input : ℕ) (bytes scratch : List ℕ) → length scratch < scratchSize → ReadPromise input bytes scratch scratch (Refused BufferTooShort 1 0)
 unfolding afterCall
 short-scratch input bytes scratch h = record {
-  verdict = buffer-short h;
+  refusal = buffer-short h;
   scratch = sym (simp (lt-ltb (length scratch) scratchSize h));
 }
 
@@ -45,14 +45,14 @@ module _ (input : ℕ) (bytes entry : List ℕ) (h : scratchSize ≤ length entr
   pub layout-promise : {exit : List ℕ} {r : Refusal} {place : ℕ} → exit ≡ replicate (length entry) 0
       → ((input : ℕ) → FirstFailure (layoutChecks input bytes) (refused r input place)) → ReadPromise input bytes entry exit (Refused r input place)
   unfolding automatonChecks
-  layout-promise z f = record { verdict = buffer-long h (refused-before _ _ (f input)); scratch = z ∙ zeros-after entry h }
+  layout-promise z f = record { refusal = buffer-long h (refused-before _ _ (f input)); scratch = z ∙ zeros-after entry h }
 
   module _ {counts : Counts} (p : LayoutPassed bytes counts) where
     -- what follows the sections refuses
     pub content-promise : {exit : List ℕ} {r : Refusal} {place : ℕ} → exit ≡ replicate (length entry) 0
         → ((input : ℕ) → FirstFailure (contentChecks input bytes) (refused r input place)) → ReadPromise input bytes entry exit (Refused r input place)
     unfolding automatonChecks
-    content-promise z f = record { verdict = buffer-long h (passed-before _ _ (p .verdict input) (f input)); scratch = z ∙ zeros-after entry h }
+    content-promise z f = record { refusal = buffer-long h (passed-before _ _ (p .refusal input) (f input)); scratch = z ∙ zeros-after entry h }
 
     -- every check passes
     pub automaton-promise : {size : ℕ} {exit : List ℕ} → size ≡ length entry → ((input : ℕ) → FirstFailure (contentChecks input bytes) passed)
@@ -60,7 +60,7 @@ module _ (input : ℕ) (bytes entry : List ℕ) (h : scratchSize ≤ length entr
         → ReadPromise input bytes entry exit (Automaton (counts .states) (counts .letters) (counts .transitions))
     unfolding automatonChecks
     automaton-promise {exit = exit} z f l = record {
-      verdict = buffer-long h (passed-before _ _ (p .verdict input) (f input));
+      refusal = buffer-long h (passed-before _ _ (p .refusal input) (f input));
       scratch = record {
         counts-are = p .counts-are;
         laid = subst (λ (n : ℕ). TransitionsLaid (hasTransition bytes) (statesOf bytes) (lettersOf bytes) n exit) z l;

@@ -25,7 +25,7 @@ abbrev pub indexOf : List ℕ → ℕ → ℕ
 indexOf bytes i = tripleIndex (fromOf bytes i) (letterOf bytes i) (toOf bytes i)
 
 -- good sections, and where the transitions' section stands in them
-pub record TransitionsPlace (bytes : List ℕ) (at count : ℕ) : Type 0 where
+pub record TransitionsNeeds (bytes : List ℕ) (at count : ℕ) : Type 0 where
   pub sections : GoodSections bytes
   pub is-place : at ≡ transitionsAt bytes
   pub is-count : count ≡ transitionsOf bytes
@@ -65,5 +65,5 @@ ScratchAfter bytes entry exit (Read-refused refusal input place) = exit ≡ afte
 
 -- the promise of the reading: which refusal and when; else the automaton's counts, and its transitions in scratch
 pub record ReadPromise (input : ℕ) (bytes entry exit : List ℕ) (answer : AutomatonRead) : Type 0 where
-  pub verdict : FirstFailure (readChecks input bytes entry) (verdictOf answer)
+  pub refusal : FirstFailure (readChecks input bytes entry) (verdictOf answer)
   pub scratch : ScratchAfter bytes entry exit answer

@@ -14,11 +14,11 @@ ghost use Rattle.rule_marks.specs.Faults.{FaultAnswer};
 ghost use Rattle.formats.specs.AutomatonFile.{transitionsOf};
 ghost use Rattle.formats.specs.AutomatonChecks.{repeatedChecks, contentChecks};
 ghost use Rattle.automaton_sections.specs.Sections.{LayoutPassed};
-ghost use Rattle.automaton_file.specs.Answers.{indexOf, TransitionsPlace, BlankRoom, LaidAnswer, ReadPromise};
+ghost use Rattle.automaton_file.specs.Answers.{indexOf, TransitionsNeeds, BlankRoom, LaidAnswer, ReadPromise};
 
 // The byte of scratch for the i-th transition of the section at byte `at`.
 fn triple_index(bytes: &[u8], at: usize, count: usize, i: usize) -> usize
-    requires { ⌜ TransitionsPlace (now bytes) at count ⌝ }
+    requires { ⌜ TransitionsNeeds (now bytes) at count ⌝ }
     requires { ⌜ i < count ⌝ }
     ensures { λ r. ⌜ r ≡ indexOf (now (bytes .entry)) i ⌝ }
 {
@@ -32,9 +32,9 @@ fn triple_index(bytes: &[u8], at: usize, count: usize, i: usize) -> usize
 // Goes through the transitions of the section at byte `at`, in file order: each is new. A byte of the table for each triple remembers
 // which transitions have stood.
 fn repeated_fault(bytes: &[u8], at: usize, count: usize, table: &mut [u8]) -> Fault
-    requires { ⌜ TransitionsPlace (now bytes) at count ⌝ }
+    requires { ⌜ TransitionsNeeds (now bytes) at count ⌝ }
     requires { ⌜ BlankRoom (now table) ⌝ }
-    ensures verdict { λ r. ⌜ FaultAnswer (λ input. repeatedChecks input (now (bytes .entry)) 0 (transitionsOf (now (bytes .entry)))) r ⌝ }
+    ensures refusal { λ r. ⌜ FaultAnswer (λ input. repeatedChecks input (now (bytes .entry)) 0 (transitionsOf (now (bytes .entry)))) r ⌝ }
     ensures laid { λ r. ⌜ LaidAnswer (now (bytes .entry)) (now (table .entry)) (now (table .exit)) r ⌝ }
 {
     for i in 0..count {
@@ -54,7 +54,7 @@ fn repeated_fault(bytes: &[u8], at: usize, count: usize, table: &mut [u8]) -> Fa
 fn content_fault(bytes: &[u8], counts: Counts, scratch: &mut [u8]) -> Fault
     requires { ⌜ LayoutPassed (now bytes) counts ⌝ }
     requires { ⌜ BlankRoom (now scratch) ⌝ }
-    ensures verdict { λ r. ⌜ FaultAnswer (λ input. contentChecks input (now (bytes .entry))) r ⌝ }
+    ensures refusal { λ r. ⌜ FaultAnswer (λ input. contentChecks input (now (bytes .entry))) r ⌝ }
     ensures laid { λ r. ⌜ LaidAnswer (now (bytes .entry)) (now (scratch .entry)) (now (scratch .exit)) r ⌝ }
 {
     let m = counts.states;

@@ -7,7 +7,7 @@ ghost use Rattle.rule_marks.specs.Faults.{LinkedAnswer};
 ghost use Rattle.buchi.proofs.MatrixTests.{returns-at, returns-from, recurs-test};
 ghost use Rattle.automaton_matrices.specs.Bytes.{initialAt};
 ghost use Rattle.automaton_matrix_search.specs.Lists.{matrixAt};
-ghost use Rattle.automaton_table.specs.Laying.{RowFilled, RowsFilled, laidRule, initialStates, PairPlace, MarkPlace, MarkByte};
+ghost use Rattle.automaton_table.specs.Laying.{RowFilled, RowsFilled, laidRule, initialStates, PairNeeds, MarkNeeds, MarkByte};
 
 // Whether the pair (s, e) is linked by the products that were laid out.
 pub fn linked(scratch: &[u8], count: usize, s: usize, e: usize) -> bool
@@ -55,7 +55,7 @@ pub fn returns_at(scratch: &[u8], s: usize, e: usize, p: usize, q: usize) -> boo
 
 // Whether p is initial, and this holds for some q.
 pub fn returns_from(kinds: &[u8], n: usize, scratch: &[u8], s: usize, e: usize, p: usize) -> bool
-    requires { ⌜ PairPlace (now kinds) n (now scratch) s e ⌝ }
+    requires { ⌜ PairNeeds (now kinds) n (now scratch) s e ⌝ }
     requires { ⌜ p < n ⌝ }
     ensures { λ r. ⌜ r ≡ returns-from (initialStates (now (kinds .entry)) n) (matrixAt (now (scratch .entry)) s) (matrixAt (now (scratch .entry)) e) p ⌝ }
 {
@@ -72,7 +72,7 @@ pub fn returns_from(kinds: &[u8], n: usize, scratch: &[u8], s: usize, e: usize, 
 
 // Whether this holds for some p.
 pub fn recurs(kinds: &[u8], n: usize, scratch: &[u8], s: usize, e: usize) -> bool
-    requires { ⌜ PairPlace (now kinds) n (now scratch) s e ⌝ }
+    requires { ⌜ PairNeeds (now kinds) n (now scratch) s e ⌝ }
     ensures { λ r. ⌜ r ≡ recurs-test (initialStates (now (kinds .entry)) n) (matrixAt (now (scratch .entry)) s) (matrixAt (now (scratch .entry)) e) ⌝ }
 {
     for p in 0..n {
@@ -85,7 +85,7 @@ pub fn recurs(kinds: &[u8], n: usize, scratch: &[u8], s: usize, e: usize) -> boo
 
 // The byte of (s, e): 1 where the pair is to be marked, else 0.
 pub fn mark_byte(kinds: &[u8], n: usize, scratch: &[u8], count: usize, s: usize, e: usize) -> u8
-    requires { ⌜ MarkPlace (now kinds) n (now scratch) count ⌝ }
+    requires { ⌜ MarkNeeds (now kinds) n (now scratch) count ⌝ }
     requires { ⌜ (s < count) × (e < count) ⌝ }
     ensures { λ r. ⌜ MarkByte (now (kinds .entry)) n count (now (scratch .entry)) s e r ⌝ }
 {
@@ -100,7 +100,7 @@ pub fn mark_byte(kinds: &[u8], n: usize, scratch: &[u8], count: usize, s: usize,
 
 // The marks of the pairs that begin with s.
 pub fn lay_marks_of(kinds: &[u8], n: usize, scratch: &mut [u8], count: usize, s: usize)
-    requires { ⌜ MarkPlace (now kinds) n (now scratch) count ⌝ }
+    requires { ⌜ MarkNeeds (now kinds) n (now scratch) count ⌝ }
     requires { ⌜ s < count ⌝ }
     ensures { λ _. ⌜ RowFilled (MarkByte (now (kinds .entry)) n count (now (scratch .entry)) s) (24576 + s * 64) count (now (scratch .entry)) (now (scratch .exit)) ⌝ }
 {
@@ -113,7 +113,7 @@ pub fn lay_marks_of(kinds: &[u8], n: usize, scratch: &mut [u8], count: usize, s:
 
 // All marks.
 pub fn lay_marks(kinds: &[u8], n: usize, scratch: &mut [u8], count: usize)
-    requires { ⌜ MarkPlace (now kinds) n (now scratch) count ⌝ }
+    requires { ⌜ MarkNeeds (now kinds) n (now scratch) count ⌝ }
     ensures { λ _. ⌜ RowsFilled (MarkByte (now (kinds .entry)) n count (now (scratch .entry))) 24576 64 count count (now (scratch .entry)) (now (scratch .exit)) ⌝ }
 {
     for s in 0..count {

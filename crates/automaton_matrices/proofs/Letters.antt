@@ -12,7 +12,7 @@ use Rattle.buchi.specs.Automata.{Automaton}
 use Rattle.buchi.specs.Matrices.{SameEntries}
 use Rattle.buchi.proofs.WordMatrices.{letter-matrix}
 use Rattle.buchi.proofs.Products.{same-trans}
-use Rattle.automaton_matrices.specs.Bytes.{finalAt, stepAt, Stands, automatonAt, LetterPlace, EntryPlace, letterEntry, IsLetter}
+use Rattle.automaton_matrices.specs.Bytes.{finalAt, stepAt, MarkingAt, automatonAt, LetterNeeds, EntryNeeds, letterEntry, IsLetter}
 use Rattle.automaton_products.proofs.Rows.{RowsOf, rows-same, rows-shape}
 
 -- ---- one entry
@@ -52,7 +52,7 @@ module _ (kinds steps : List ℕ) (x p q : ℕ) where
   letter-small = picked-small (stepAt steps p x q) (finalAt kinds p || finalAt kinds q)
 
 -- the bytes of an entry are there
-pub entry-place : {kinds steps : List ℕ} {n x p q : ℕ} → LetterPlace kinds n steps x → p < n → q < n → EntryPlace kinds steps x p q
+pub entry-place : {kinds steps : List ℕ} {n x p q : ℕ} → LetterNeeds kinds n steps x → p < n → q < n → EntryNeeds kinds steps x p q
 entry-place k hp hq =
     let few = k .few-states in
     let long = k .kinds-long in
@@ -68,7 +68,7 @@ entry-place k hp hq =
 -- ---- the matrix
 
 -- in any bytes some automaton stands
-pub stands-at : {kinds steps : List ℕ} {n k : ℕ} → n ≤ 6 → k ≤ 16 → n ≤ length kinds → 576 ≤ length steps → Stands (automatonAt kinds n k steps) kinds steps
+pub stands-at : {kinds steps : List ℕ} {n k : ℕ} → n ≤ 6 → k ≤ 16 → n ≤ length kinds → 576 ≤ length steps → MarkingAt (automatonAt kinds n k steps) kinds steps
 unfolding automatonAt
 stands-at few letters kinds-long steps-long = record {
   few-states = few;
@@ -81,7 +81,7 @@ stands-at few letters kinds-long steps-long = record {
 }
 
 -- an automaton that stands in the bytes has these entries
-pub stands-letter : {t : Automaton} {kinds steps : List ℕ} → Stands t kinds steps → (x : ℕ) → x < t .letters
+pub stands-letter : {t : Automaton} {kinds steps : List ℕ} → MarkingAt t kinds steps → (x : ℕ) → x < t .letters
     → SameEntries (t .states) (letter-matrix t x) (letterEntry kinds steps x)
 unfolding letter-matrix letterEntry
 stands-letter {t} {kinds} {steps} k x h = record {
@@ -93,7 +93,7 @@ stands-letter {t} {kinds} {steps} k x h = record {
 }
 
 -- rows filled with them are the matrix of the letter
-pub letter-filled : {kinds steps : List ℕ} {n p x : ℕ} {m : List (List ℕ)} → LetterPlace kinds n steps x → p ≤ n → n ≤ p
+pub letter-filled : {kinds steps : List ℕ} {n p x : ℕ} {m : List (List ℕ)} → LetterNeeds kinds n steps x → p ≤ n → n ≤ p
     → RowsOf (letterEntry kinds steps x) p n m → IsLetter kinds n steps x m
 letter-filled {kinds} {steps} {n} {p} {x} {m} k l g r =
     let e : p ≡ n = omega arith in
@@ -126,7 +126,7 @@ module _ {steps steps′ : List ℕ} (k : SameSteps steps steps′) where
   }
 
   -- and an automaton that stands in the one stands in the other
-  pub stands-kept : {t : Automaton} {kinds : List ℕ} → Stands t kinds steps → Stands t kinds steps′
+  pub stands-kept : {t : Automaton} {kinds : List ℕ} → MarkingAt t kinds steps → MarkingAt t kinds steps′
   stands-kept {t} {kinds} s =
       let few = s .few-states in
       let letters = s .few-letters in

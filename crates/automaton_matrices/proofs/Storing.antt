@@ -10,13 +10,13 @@ use lib.Seq.{getD-set-same, getD-set-other}
 use Rattle.buchi.specs.Matrices.{SameEntries}
 use Rattle.finite.proofs.Numbers.{le-or-lt}
 use Rattle.automaton_products.specs.Arrays.{entryIn, StateEntries, MatrixShape, RowOf}
-use Rattle.automaton_matrices.specs.Bytes.{matrixFrom, bytesFrom, MatrixPlace, Loaded, Stored, RowStored}
+use Rattle.automaton_matrices.specs.Bytes.{matrixFrom, bytesFrom, MatrixNeeds, Loaded, Stored, RowStored}
 use Rattle.automaton_products.proofs.Rows.{RowsOf, rows-length, rows-entry}
 
 -- ---- places
 
 -- six rows of six bytes end within the matrix's place
-pub row-room : {scratch : List ℕ} {base i p : ℕ} → MatrixPlace scratch base i → p < 6 → base + (i * 64 + p * 6) + 6 ≤ length scratch
+pub row-room : {scratch : List ℕ} {base i p : ℕ} → MatrixNeeds scratch base i → p < 6 → base + (i * 64 + p * 6) + 6 ≤ length scratch
 row-room k h = let room = k .room in omega arith
 
 row-place : (base i p q : ℕ) → base + (i * 64 + p * 6) + q ≡ base + (i * 64 + (p * 6 + q))
@@ -71,7 +71,7 @@ module _ {entry : List ℕ} {base i : ℕ} {m : List (List ℕ)} where
       old p q l h = r .before (base + (i * 64 + (p * 6 + q))) (omega arith)
 
   -- a row more has its place
-  pub stored-room : {now : List ℕ} {k : ℕ} → MatrixPlace entry base i → k < 6 → Stored entry now base i m k → base + (i * 64 + k * 6) + 6 ≤ length now
+  pub stored-room : {now : List ℕ} {k : ℕ} → MatrixNeeds entry base i → k < 6 → Stored entry now base i m k → base + (i * 64 + k * 6) + 6 ≤ length now
   stored-room p h s = let room = p .room in let e = s .same-length in omega arith
 
   pub stored-all : {now : List ℕ} {k : ℕ} → k ≤ 6 → 6 ≤ k → Stored entry now base i m k → Stored entry now base i m 6

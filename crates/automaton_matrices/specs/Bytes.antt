@@ -24,7 +24,7 @@ unfoldable pub stepAt : List ℕ → ℕ → ℕ → ℕ → Bool
 stepAt steps p x q = ltb 0 (getD steps (p * 96 + (x * 6 + q)) 0)
 
 -- an automaton of at most six states and sixteen letters stands in bytes
-pub record Stands (automaton : Automaton) (kinds steps : List ℕ) : Type 0 where
+pub record MarkingAt (automaton : Automaton) (kinds steps : List ℕ) : Type 0 where
   pub few-states : automaton .states ≤ 6
   pub few-letters : automaton .letters ≤ 16
   pub kinds-long : automaton .states ≤ length kinds
@@ -38,14 +38,14 @@ unfoldable pub automatonAt : List ℕ → ℕ → ℕ → List ℕ → Automaton
 automatonAt kinds n k steps = record { states = n; letters = k; initial = initialAt kinds; final = finalAt kinds; step = stepAt steps }
 
 -- the bytes that the matrix of a letter is read from are there
-pub record LetterPlace (kinds : List ℕ) (n : ℕ) (steps : List ℕ) (x : ℕ) : Type 0 where
+pub record LetterNeeds (kinds : List ℕ) (n : ℕ) (steps : List ℕ) (x : ℕ) : Type 0 where
   pub few-states : n ≤ 6
   pub letter-small : x < 16
   pub kinds-long : n ≤ length kinds
   pub steps-long : 576 ≤ length steps
 
 -- and those of one entry of it
-pub record EntryPlace (kinds steps : List ℕ) (x p q : ℕ) : Type 0 where
+pub record EntryNeeds (kinds steps : List ℕ) (x p q : ℕ) : Type 0 where
   pub from-small : p < 6
   pub to-small : q < 6
   pub letter-small : x < 16
@@ -61,7 +61,7 @@ letterEntry kinds steps x p q = cond (stepAt steps p x q) (cond (finalAt kinds p
 pub record IsLetter (kinds : List ℕ) (n : ℕ) (steps : List ℕ) (x : ℕ) (m : List (List ℕ)) : Type 0 where
   pub shape : MatrixShape n m
   pub same : SameEntries n (letterEntry kinds steps x) (entryIn m)
-  pub is-letter : (automaton : Automaton) → Stands automaton kinds steps → automaton .states ≡ n → x < automaton .letters
+  pub is-letter : (automaton : Automaton) → MarkingAt automaton kinds steps → automaton .states ≡ n → x < automaton .letters
       → SameEntries n (letter-matrix automaton x) (entryIn m)
 
 -- the entries of matrix i of a list that begins at a byte: 64 bytes a matrix, the entry (p, q) at p · 6 + q
@@ -75,7 +75,7 @@ pub record Loaded (scratch : List ℕ) (base i : ℕ) (m : List (List ℕ)) : Ty
   pub entries : (p q : ℕ) → p < 6 → q < 6 → entryIn m p q ≡ matrixFrom scratch base i p q
 
 -- the bytes of matrix i are there
-pub record MatrixPlace (scratch : List ℕ) (base i : ℕ) : Type 0 where
+pub record MatrixNeeds (scratch : List ℕ) (base i : ℕ) : Type 0 where
   pub room : base + (i * 64 + 36) ≤ length scratch
 
 -- the first k rows of the matrix were written, and no other byte changed

@@ -12,7 +12,7 @@ use Rattle.buchi.proofs.WordMatrices.{letter-matrix}
 use Rattle.buchi.proofs.MatrixLists.{Among, ClosedList, step-matrix, FoundInOrder}
 use Rattle.automaton_matrices.specs.Bytes.{letterEntry}
 use Rattle.automaton_matrices.proofs.Letters.{stands-letter}
-use Rattle.automaton_matrix_search.specs.Lists.{matrixAt, nextAt, parentAt, letterAt, ListPlace, StandsHere, Kept, stepEntry, StepNumber, MatricesAnswer}
+use Rattle.automaton_matrix_search.specs.Lists.{matrixAt, nextAt, parentAt, letterAt, ListNeeds, StandsHere, Kept, stepEntry, StepNumber, MatricesAnswer}
 use Rattle.automaton_matrix_search.specs.Steps.{StepsTaken, Following, FollowAnswer, Followed, LetterList, SearchAt, Multiplied, MultipliedFull, MultiplyAnswer, ProductsAdded, ListClosed}
 use Rattle.automaton_matrix_search.specs.declared.MatrixCount.{MatrixCount}
 use Rattle.automaton_matrix_search.specs.declared.MatrixCount.the-variants.{Listed, TooMany}
@@ -133,7 +133,7 @@ module _ {n k : ℕ} {entry : List ℕ} {begun : ℕ} {now : List ℕ} {count fr
 
 -- ---- the letters first
 
-module _ {kinds : List ℕ} {n k : ℕ} {entry now : List ℕ} {answer : MatrixCount} (place : ListPlace kinds n k entry) (a : Followed kinds n k entry 0 0 now answer) where
+module _ {kinds : List ℕ} {n k : ℕ} {entry now : List ℕ} {answer : MatrixCount} (place : ListNeeds kinds n k entry) (a : Followed kinds n k entry 0 0 now answer) where
   begun-taken : {begun : ℕ} → answer ≡ Listed begun → StepsTaken kinds n k now now begun 1 0
   begun-taken {begun} e =
       let r : Following kinds n k entry 0 0 now begun k = subst (FollowAnswer kinds n k entry 0 0 now) e (a .says) in

@@ -11,7 +11,7 @@ use Rattle.finite.proofs.Explore.{sooner-le}
 use Rattle.buchi.specs.Matrices.{SameEntries}
 use Rattle.buchi.proofs.Products.{same-sym, same-trans}
 use Rattle.automaton_products.specs.Arrays.{entryIn}
-use Rattle.automaton_matrix_search.specs.Lists.{stepPlace, nextAt, parentAt, letterAt, ListPlace, Kept, TooRich, stepEntry, StepNumber}
+use Rattle.automaton_matrix_search.specs.Lists.{stepPlace, nextAt, parentAt, letterAt, ListNeeds, Kept, TooRich, stepEntry, StepNumber}
 use Rattle.automaton_matrix_search.specs.Steps.{Full, StepTaken, StepAnswer, StepAdded, IsWord, FoundFrom, StepsTaken, Following, Followed}
 use Rattle.automaton_matrix_search.specs.declared.MatrixCount.{MatrixCount}
 use Rattle.automaton_matrix_search.specs.declared.MatrixCount.the-variants.{Listed, TooMany}
@@ -66,7 +66,7 @@ module _ {kinds : List ℕ} {n k : ℕ} where
 pub following-start : {kinds : List ℕ} {n k count p : ℕ} {entry : List ℕ} → StepsTaken kinds n k entry entry count p 0 → Following kinds n k entry count p entry count 0
 following-start s = record { grown = grown-refl (s .words .list); taken = s }
 
-module _ {kinds : List ℕ} {n k count p : ℕ} {entry : List ℕ} (place : ListPlace kinds n k entry) (inside : p ≤ count) where
+module _ {kinds : List ℕ} {n k count p : ℕ} {entry : List ℕ} (place : ListNeeds kinds n k entry) (inside : p ≤ count) where
   -- a letter's step, whose matrix is a word's
   module _ {now : List ℕ} {total x : ℕ} {m : List (List ℕ)} (f : Following kinds n k entry count p now total x) (h : x < k)
       (word : IsWord kinds n k now (entryIn m)) (made : SameEntries n (entryIn m) (stepEntry kinds n now p x)) where

@@ -6,14 +6,14 @@ use Rattle.finite.proofs.FirstWords.{Sooner, sooner-parent, sooner-letter}
 use Rattle.buchi.specs.Matrices.{SameEntries}
 use Rattle.buchi.proofs.Products.{same-sym}
 use Rattle.automaton_products.specs.Arrays.{entryIn}
-use Rattle.automaton_matrices.specs.Bytes.{LetterPlace, IsLetter}
-use Rattle.automaton_matrix_search.specs.Lists.{ListPlace, MatrixList, stepEntry}
+use Rattle.automaton_matrices.specs.Bytes.{LetterNeeds, IsLetter}
+use Rattle.automaton_matrix_search.specs.Lists.{ListNeeds, MatrixList, stepEntry}
 use Rattle.automaton_matrix_search.specs.Steps.{Following}
 use Rattle.automaton_matrix_search.proofs.Growing.{kept-refl}
 use Rattle.automaton_matrix_list.proofs.Following.{following-start}
 
 -- the bytes of the next letter are there
-pub letter-place : {kinds : List ℕ} {n k total x : ℕ} {entry now : List ℕ} → ListPlace kinds n k entry → MatrixList n now total → x < k → LetterPlace kinds n now x
+pub letter-place : {kinds : List ℕ} {n k total x : ℕ} {entry now : List ℕ} → ListNeeds kinds n k entry → MatrixList n now total → x < k → LetterNeeds kinds n now x
 letter-place place list h =
     let few = place .few-letters in
     let room = list .room in
@@ -24,7 +24,7 @@ none-sooner : {q y : ℕ} → Sooner q y 0 0 → ⊥
 none-sooner (sooner-parent h) = omega arith
 none-sooner (sooner-letter e h) = omega arith
 
-module _ {kinds : List ℕ} {n k : ℕ} {entry : List ℕ} (place : ListPlace kinds n k entry) where
+module _ {kinds : List ℕ} {n k : ℕ} {entry : List ℕ} (place : ListNeeds kinds n k entry) where
   empty-list : MatrixList n entry 0
   empty-list = record {
     few-states = place .few-states;

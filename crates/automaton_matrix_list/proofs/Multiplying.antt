@@ -11,7 +11,7 @@ use Rattle.buchi.specs.Matrices.{SameEntries}
 use Rattle.buchi.proofs.Products.{product-same, same-sym, same-trans}
 use Rattle.buchi.proofs.WordMatrices.{letter-matrix}
 use Rattle.automaton_products.specs.Arrays.{entryIn, MatrixShape, IsProduct}
-use Rattle.automaton_matrices.specs.Bytes.{letterEntry, IsLetter, MatrixPlace, Loaded}
+use Rattle.automaton_matrices.specs.Bytes.{letterEntry, IsLetter, MatrixNeeds, Loaded}
 use Rattle.automaton_matrices.proofs.Letters.{stands-letter}
 use Rattle.automaton_matrices.proofs.Storing.{loaded-same, loaded-shape}
 use Rattle.automaton_matrix_search.specs.Lists.{matrixAt, stepPlace, nextAt, Kept, stepEntry, StepNumber}
@@ -23,7 +23,7 @@ use Rattle.automaton_matrix_list.proofs.Following.{following-start, fol
 use Rattle.automaton_matrix_list.proofs.Words.{word-same, word-letter}
 
 module _ {n k count from : ℕ} {entry : List ℕ} (l : LetterList n k entry count) (inside : from < count) where
-  pub from-place : MatrixPlace entry 8192 from
+  pub from-place : MatrixNeeds entry 8192 from
   from-place = let few = l .list .few in list-place (l .list) (omega arith)
 
   pub left-shape : {left : List (List ℕ)} → Loaded entry 8192 from left → MatrixShape n left
@@ -39,7 +39,7 @@ module _ {n k count from : ℕ} {entry : List ℕ} (l : LetterList n k entry cou
         let e : stepPlace 0 x ≡ 12288 + x = omega arith in
         subst (λ i. getD now i 0 < total) e (r .letters .letters x h)
 
-    pub right-place : MatrixPlace now 8192 (getD now (12288 + x) 0)
+    pub right-place : MatrixNeeds now 8192 (getD now (12288 + x) 0)
     right-place = list-place (r .letters .list) (omega (arith, right-below, r .letters .list .few))
 
     pub right-shape : {right : List (List ℕ)} → Loaded now 8192 (getD now (12288 + x) 0) right → MatrixShape n right

@@ -9,12 +9,12 @@ use automaton_matrix_search::MatrixCount;
 use automaton_matrix_search::add_step;
 use automaton_products::matrix_product;
 ghost use Prim.Native.Nat.{_+_, _≤_, _<_};
-ghost use Rattle.automaton_matrix_search.specs.Lists.{ListPlace, MatricesAnswer};
+ghost use Rattle.automaton_matrix_search.specs.Lists.{ListNeeds, MatricesAnswer};
 ghost use Rattle.automaton_matrix_search.specs.Steps.{Followed, LetterList, ProductsAdded, ListClosed};
 
 // Adds the matrix of every letter.
 fn add_letters(kinds: &[u8], n: usize, k: usize, scratch: &mut [u8]) -> MatrixCount
-    requires { ⌜ ListPlace (now kinds) n k (now scratch) ⌝ }
+    requires { ⌜ ListNeeds (now kinds) n k (now scratch) ⌝ }
     ensures { λ r. ⌜ Followed (now (kinds .entry)) n k (now (scratch .entry)) 0 0 (now (scratch .exit)) r ⌝ }
 {
     let mut total = 0;
@@ -77,7 +77,7 @@ fn close_list(n: usize, k: usize, scratch: &mut [u8], begun: usize) -> MatrixCou
 
 // The matrices of all non-empty words, each once, or that there are more than 64.
 pub fn list_matrices(kinds: &[u8], n: usize, k: usize, scratch: &mut [u8]) -> MatrixCount
-    requires { ⌜ ListPlace (now kinds) n k (now scratch) ⌝ }
+    requires { ⌜ ListNeeds (now kinds) n k (now scratch) ⌝ }
     requires { ⌜ 1 ≤ k ⌝ }
     ensures { λ r. ⌜ MatricesAnswer (now (kinds .entry)) n k (now (scratch .entry)) (now (scratch .exit)) r ⌝ }
 {

@@ -12,11 +12,11 @@ use Rattle.buchi.specs.Matrices.{Matrix, SameEntries, OtherEntry}
 use Rattle.buchi.proofs.MatrixTests.{same-test, same-elim, other-elim}
 use Rattle.buchi.proofs.MatrixLists.{number-of}
 use Rattle.automaton_products.specs.Arrays.{entryIn}
-use Rattle.automaton_matrices.specs.Bytes.{MatrixPlace}
+use Rattle.automaton_matrices.specs.Bytes.{MatrixNeeds}
 use Rattle.automaton_matrix_search.specs.Lists.{matrixAt, MatrixList}
 
 -- a matrix of the list has its bytes
-pub list-place : {n count i : ℕ} {scratch : List ℕ} → MatrixList n scratch count → i < 64 → MatrixPlace scratch 8192 i
+pub list-place : {n count i : ℕ} {scratch : List ℕ} → MatrixList n scratch count → i < 64 → MatrixNeeds scratch 8192 i
 list-place k h = let room = k .room in record { room = omega arith }
 
 -- ---- the search

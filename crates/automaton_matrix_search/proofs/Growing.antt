@@ -9,7 +9,7 @@ use Rattle.buchi.proofs.Products.{same-trans, same-sym, same-refl}
 use Rattle.buchi.proofs.MatrixLists.{Among}
 use Rattle.automaton_matrices.specs.Bytes.{letterEntry}
 use Rattle.automaton_matrices.proofs.Letters.{SameSteps, letter-kept, stands-kept}
-use Rattle.automaton_matrix_search.specs.Lists.{ListPlace, StandsHere, MatrixList, KeptBelow, Kept}
+use Rattle.automaton_matrix_search.specs.Lists.{ListNeeds, StandsHere, MatrixList, KeptBelow, Kept}
 use Rattle.automaton_matrix_search.specs.Steps.{Grown}
 
 -- ---- entries
@@ -51,7 +51,7 @@ kept-steps k = record { same-length = k .same-length; same = λ i h. k .same i (
 pub here-kept : {t : Automaton} {kinds : List ℕ} {n k : ℕ} {a b : List ℕ} → Kept a b → StandsHere t kinds n k a → StandsHere t kinds n k b
 here-kept h s = record { stands = stands-kept (kept-steps h) (s .stands); states = s .states; letters = s .letters }
 
-pub place-kept : {kinds : List ℕ} {n k : ℕ} {a b : List ℕ} → Kept a b → ListPlace kinds n k a → ListPlace kinds n k b
+pub place-kept : {kinds : List ℕ} {n k : ℕ} {a b : List ℕ} → Kept a b → ListNeeds kinds n k a → ListNeeds kinds n k b
 place-kept h p = record { few-states = p .few-states; few-letters = p .few-letters; kinds-long = p .kinds-long; room = rw (h .same-length) (p .room) }
 
 -- ---- lists

@@ -7,7 +7,7 @@ use lib.ListN.{length, set, length-set}
 use lib.Seq.{getD-set-same, getD-set-other}
 use Rattle.buchi.proofs.Products.{same-trans}
 use Rattle.automaton_matrix_search.specs.Lists.{stepPlace, parentPlace, letterPlace, MatrixList, Kept, KeptBelow}
-use Rattle.automaton_matrix_search.specs.Steps.{Grown, AddedTo, Full, AddAnswer, Added, RecordPlace, StepRecorded, StepAdded}
+use Rattle.automaton_matrix_search.specs.Steps.{Grown, AddedTo, Full, AddAnswer, Added, RecordNeeds, StepRecorded, StepAdded}
 use Rattle.automaton_matrix_search.specs.declared.Addition.{Addition}
 use Rattle.automaton_matrix_search.specs.declared.Addition.the-variants.{Placed, NoPlace}
 use Rattle.automaton_matrix_search.specs.declared.MatrixCount.the-variants.{Listed, TooMany}
@@ -16,7 +16,7 @@ use Rattle.automaton_matrix_search.proofs.Staying.{matrix-stays, list-s
 
 -- ---- three bytes
 
-module _ {scratch : List ℕ} {p x number next : ℕ} (place : RecordPlace scratch p x number next) where
+module _ {scratch : List ℕ} {p x number next : ℕ} (place : RecordNeeds scratch p x number next) where
   one : List ℕ
   one = set scratch (stepPlace p x) number
 
@@ -62,7 +62,7 @@ module _ {n count p x : ℕ} {entry mid : List ℕ} {m : List (List ℕ)} (list 
     placed : AddedTo n entry count m mid number total
     placed = subst (AddAnswer n entry count m mid) e (a .says)
 
-    pub record-place : RecordPlace mid p x number count
+    pub record-place : RecordNeeds mid p x number count
     record-place =
         let few = list .few in
         record {

@@ -11,7 +11,7 @@ use Rattle.buchi.specs.Rule.{MoreMatrices}
 use Rattle.buchi.proofs.Products.{product}
 use Rattle.buchi.proofs.MatrixLists.{ClosedList, FoundInOrder}
 use Rattle.automaton_products.specs.Arrays.{StateEntries}
-use Rattle.automaton_matrices.specs.Bytes.{Stands, matrixFrom, letterEntry}
+use Rattle.automaton_matrices.specs.Bytes.{MarkingAt, matrixFrom, letterEntry}
 use Rattle.automaton_matrix_search.specs.declared.MatrixCount.{MatrixCount}
 use Rattle.automaton_matrix_search.specs.declared.MatrixCount.the-variants.{Listed, TooMany}
 
@@ -40,7 +40,7 @@ abbrev pub letterAt : List ℕ → ℕ → ℕ
 letterAt scratch j = getD scratch (letterPlace j) 0
 
 -- the bytes of an automaton of n states and k letters are there, and scratch is
-pub record ListPlace (kinds : List ℕ) (n k : ℕ) (scratch : List ℕ) : Type 0 where
+pub record ListNeeds (kinds : List ℕ) (n k : ℕ) (scratch : List ℕ) : Type 0 where
   pub few-states : n ≤ 6
   pub few-letters : k ≤ 16
   pub kinds-long : n ≤ length kinds
@@ -48,7 +48,7 @@ pub record ListPlace (kinds : List ℕ) (n k : ℕ) (scratch : List ℕ) : Type 
 
 -- an automaton of n states and k letters stands in the bytes
 pub record StandsHere (automaton : Automaton) (kinds : List ℕ) (n k : ℕ) (scratch : List ℕ) : Type 0 where
-  pub stands : Stands automaton kinds scratch
+  pub stands : MarkingAt automaton kinds scratch
   pub states : automaton .states ≡ n
   pub letters : automaton .letters ≡ k
 

@@ -10,7 +10,7 @@ use Rattle.buchi.specs.Matrices.{Matrix, SameEntries, OtherEntry}
 use Rattle.buchi.specs.Rule.{MatrixWord}
 use Rattle.buchi.proofs.MatrixLists.{Among}
 use Rattle.automaton_products.specs.Arrays.{entryIn}
-use Rattle.automaton_matrix_search.specs.Lists.{matrixAt, stepPlace, parentPlace, letterPlace, nextAt, parentAt, letterAt, ListPlace, StandsHere, MatrixList, Kept, stepEntry, StepNumber, StepMatrix, TooRich, MatricesAnswer}
+use Rattle.automaton_matrix_search.specs.Lists.{matrixAt, stepPlace, parentPlace, letterPlace, nextAt, parentAt, letterAt, ListNeeds, StandsHere, MatrixList, Kept, stepEntry, StepNumber, StepMatrix, TooRich, MatricesAnswer}
 use Rattle.automaton_matrix_search.specs.declared.Addition.{Addition}
 use Rattle.automaton_matrix_search.specs.declared.Addition.the-variants.{Placed, NoPlace}
 use Rattle.automaton_matrix_search.specs.declared.MatrixCount.{MatrixCount}
@@ -52,7 +52,7 @@ pub record Added (n : ℕ) (entry : List ℕ) (count : ℕ) (m : List (List ℕ)
 -- ---- a step is taken
 
 -- numbers that fit into the places where a step is recorded
-pub record RecordPlace (scratch : List ℕ) (p x number next : ℕ) : Type 0 where
+pub record RecordNeeds (scratch : List ℕ) (p x number next : ℕ) : Type 0 where
   pub entry-small : p ≤ 64
   pub letter-small : x < 16
   pub number-small : number < 64
@@ -132,7 +132,7 @@ pub record LetterList (n k : ℕ) (scratch : List ℕ) (count : ℕ) : Type 0 wh
 
 -- it is that of the search for an automaton with these kinds of states, as far as entry p
 pub record SearchAt (n k : ℕ) (scratch : List ℕ) (count p : ℕ) (kinds : List ℕ) : Type 0 where
-  pub place : ListPlace kinds n k scratch
+  pub place : ListNeeds kinds n k scratch
   pub taken : StepsTaken kinds n k scratch scratch count p 0
 
 -- the first x letters were followed from entry p, whatever the kinds

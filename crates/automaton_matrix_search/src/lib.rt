@@ -10,7 +10,7 @@ ghost use Prim.Native.Nat.{_≤_, _<_};
 ghost use Rattle.buchi.proofs.MatrixLists.{number-of};
 ghost use Rattle.automaton_products.specs.Arrays.{entryIn, MatrixShape};
 ghost use Rattle.automaton_matrix_search.specs.Lists.{matrixAt, MatrixList};
-ghost use Rattle.automaton_matrix_search.specs.Steps.{Added, RecordPlace, StepRecorded, StepAdded};
+ghost use Rattle.automaton_matrix_search.specs.Steps.{Added, RecordNeeds, StepRecorded, StepAdded};
 
 // The number of a matrix in the list and how many it has now, or that there is no place for the matrix.
 pub enum Addition {
@@ -63,7 +63,7 @@ pub fn add_matrix(scratch: &mut [u8], n: usize, count: usize, m: [[u8; 6]; 6]) -
 // Records that a letter leads from an entry to a number, and that the matrix at `next` was found so. Where no matrix was added there,
 // the next one that is takes that place.
 fn record_step(scratch: &mut [u8], parent: usize, letter: usize, number: usize, next: usize)
-    requires { ⌜ RecordPlace (now scratch) parent letter number next ⌝ }
+    requires { ⌜ RecordNeeds (now scratch) parent letter number next ⌝ }
     ensures { λ _. ⌜ StepRecorded (now (scratch .entry)) (now (scratch .exit)) parent letter number next ⌝ }
 {
     scratch[12288 + (parent * 16 + letter)] = number as u8;

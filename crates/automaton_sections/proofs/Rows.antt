@@ -58,7 +58,7 @@ module _ (bytes : List ℕ) where
 
   module _ {m : ℕ} (states : SectionPassed statesSection 0 bytes m) where
     states-good : SectionGood statesSection bytes
-    states-good = passed-good statesSection 1 0 bytes (states .verdict 1)
+    states-good = passed-good statesSection 1 0 bytes (states .refusal 1)
 
     pub states-small : m ≤ 6
     states-small = omega (arith, states .is-count, states-good .within)
@@ -86,11 +86,11 @@ module _ (bytes : List ℕ) where
     pub letters-refuse : {number place : ℕ}
         → ((input : ℕ) → FirstFailure (sectionChecks lettersSection input (lettersAt bytes) (lettersRest bytes)) (numbered number input place))
         → (input : ℕ) → FirstFailure (layoutChecks input bytes) (numbered number input place)
-    letters-refuse f input = passed-before _ _ (states .verdict input) (refused-before _ _ (f input))
+    letters-refuse f input = passed-before _ _ (states .refusal input) (refused-before _ _ (f input))
 
     module _ {k : ℕ} (letters : SectionPassed lettersSection (lettersAt bytes) (lettersRest bytes) k) where
       letters-good : SectionGood lettersSection (lettersRest bytes)
-      letters-good = passed-good lettersSection 1 (lettersAt bytes) (lettersRest bytes) (letters .verdict 1)
+      letters-good = passed-good lettersSection 1 (lettersAt bytes) (lettersRest bytes) (letters .refusal 1)
 
       letters-are : k ≡ lettersOf bytes
       letters-are = letters .is-count ∙ letters-counted bytes
@@ -124,7 +124,7 @@ module _ (bytes : List ℕ) where
       pub transitions-refuse : {number place : ℕ}
           → ((input : ℕ) → FirstFailure (sectionChecks (transitionsSection (statesOf bytes) (lettersOf bytes)) input (transitionsAt bytes) (transitionsRest bytes)) (numbered number input place))
           → (input : ℕ) → FirstFailure (layoutChecks input bytes) (numbered number input place)
-      transitions-refuse f input = passed-before _ _ (states .verdict input) (passed-before _ _ (letters .verdict input) (f input))
+      transitions-refuse f input = passed-before _ _ (states .refusal input) (passed-before _ _ (letters .refusal input) (f input))
 
       -- all three sections pass
       pub layout-passes : {c : ℕ} (counts : Counts) → counts .states ≡ m → counts .letters ≡ k → counts .transitions ≡ c
@@ -135,5 +135,5 @@ module _ (bytes : List ℕ) where
           letters-are = ek ∙ letters-are;
           transitions-are = ec ∙ p .is-count ∙ transitions-counted bytes;
         };
-        verdict = λ input. passed-before _ _ (states .verdict input) (passed-before _ _ (letters .verdict input) (p .verdict input));
+        refusal = λ input. passed-before _ _ (states .refusal input) (passed-before _ _ (letters .refusal input) (p .refusal input));
       }

@@ -20,7 +20,7 @@ module _ (at : ℕ) (rest : List ℕ) where
   pub by-letters : (answer : Counted) → CountAnswer one-byte 1 16 at rest answer → SectionAnswer lettersSection at rest answer
   by-letters (Read count) g = record {
     is-count = g .is-count;
-    verdict = λ input. good-passes lettersSection input at rest (record {
+    refusal = λ input. good-passes lettersSection input at rest (record {
       count-present = g .present;
       above = omega (arith, g .is-count, g .above);
       within = omega (arith, g .is-count, g .within);
@@ -44,7 +44,7 @@ module _ (at : ℕ) (rest : List ℕ) where
     pub by-triples : (answer : Counted) → TriplesAnswer at rest m k count answer → SectionAnswer (transitionsSection m k) at rest answer
     by-triples (Read result) t = record {
       is-count = t .is-count ∙ g .is-count;
-      verdict = triples-pass (subst (TriplesRead rest m k count) (t .is-count) t);
+      refusal = triples-pass (subst (TriplesRead rest m k count) (t .is-count) t);
     }
     by-triples (Refused r place) f = λ input. section-entries-refused (transitionsSection m k) input at rest g (f input)
 

@@ -49,7 +49,7 @@ pub record CountsAre (bytes : List ℕ) (states letters transitions : ℕ) : Typ
 -- sections that pass
 pub record LayoutPassed (bytes : List ℕ) (counts : Counts) : Type 0 where
   pub counts-are : CountsAre bytes (counts .states) (counts .letters) (counts .transitions)
-  pub verdict : (input : ℕ) → FirstFailure (layoutChecks input bytes) passed
+  pub refusal : (input : ℕ) → FirstFailure (layoutChecks input bytes) passed
 
 -- reading the sections: their counts, or the first of their checks that fails, whatever the number of the input
 abbrev pub LayoutAnswer : List ℕ → Layout → Type 0

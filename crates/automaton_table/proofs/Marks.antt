@@ -18,7 +18,7 @@ use Rattle.buchi.proofs.MatrixTests.{recurs-test, recurs-intro, recurs-elim}
 use Rattle.automaton_matrix_search.specs.Lists.{matrixAt, KeptBelow}
 use Rattle.automaton_matrix_search.proofs.Growing.{kept-sym, kept-less}
 use Rattle.automaton_matrix_search.proofs.Staying.{matrix-stays}
-use Rattle.automaton_table.specs.Laying.{laidRule, initialStates, PairPlace, MarkPlace, MarkByte}
+use Rattle.automaton_table.specs.Laying.{laidRule, initialStates, PairNeeds, MarkNeeds, MarkByte}
 use Rattle.automaton_table.proofs.Tests.{not-not}
 
 -- the products of count matrices take up no more than 4096 bytes
@@ -32,7 +32,7 @@ product-place {count} {i} {j} few hi hj =
     square c h = omega (arith, mul-le-mul-right c h, mul-le-mul-left 64 h)
 
 -- the bytes of both matrices of a pair are there
-pub pair-place : {kinds : List ℕ} {n count s e : ℕ} {scratch : List ℕ} → MarkPlace kinds n scratch count → s < count → e < count → PairPlace kinds n scratch s e
+pub pair-place : {kinds : List ℕ} {n count s e : ℕ} {scratch : List ℕ} → MarkNeeds kinds n scratch count → s < count → e < count → PairNeeds kinds n scratch s e
 pair-place p hs he =
     let few = p .few in
     record { few-states = p .few-states; kinds-long = p .kinds-long; room = p .room; start-small = omega arith; cycle-small = omega arith }

@@ -11,11 +11,11 @@ use Rattle.buchi.specs.Matrices.{SameEntries}
 use Rattle.buchi.proofs.Products.{product, product-same, product-along, same-refl, same-sym, same-trans}
 use Rattle.automaton_matrices.specs.Bytes.{letterEntry}
 use Rattle.automaton_matrix_search.specs.Lists.{matrixAt, nextAt, parentAt, letterAt, stepEntry}
-use Rattle.automaton_table.specs.Laying.{StepPlace, StepList, RowLaid, TableNumber}
+use Rattle.automaton_table.specs.Laying.{StepNeeds, StepList, RowLaid, TableNumber}
 use Rattle.automaton_table.proofs.Marks.{product-place}
 
 -- what was recorded of a list is there
-pub step-place : {kinds : List ℕ} {n count : ℕ} {scratch : List ℕ} → StepList kinds n scratch count → StepPlace scratch count
+pub step-place : {kinds : List ℕ} {n count : ℕ} {scratch : List ℕ} → StepList kinds n scratch count → StepNeeds scratch count
 step-place {count = count} l = record {
   few = l .list .few;
   room = l .list .room;
@@ -37,7 +37,7 @@ module _ {kinds : List ℕ} {n count : ℕ} {scratch : List ℕ} (l : StepList k
   source-same : (j p : ℕ) → j < count → parentAt scratch j ≡ p → SameEntries n (stepEntry kinds n scratch p (letterAt scratch j)) (matrixAt scratch j)
   source-same j p h e = subst (λ p. SameEntries n (stepEntry kinds n scratch p (letterAt scratch j)) (matrixAt scratch j)) e (l .recorded .sources j h .same)
 
-module _ {count i j : ℕ} {scratch : List ℕ} (place : StepPlace scratch count) (hi : i < count) (hj : j < count) where
+module _ {count i j : ℕ} {scratch : List ℕ} (place : StepNeeds scratch count) (hi : i < count) (hj : j < count) where
   pub letter-small : letterAt scratch j < 16
   letter-small = place .letters j hj
 

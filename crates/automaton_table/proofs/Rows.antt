@@ -6,14 +6,14 @@ use native.Mathlib.Omega.{arith}
 use lib.ListN.{length, set}
 use Rattle.automaton_matrix_search.specs.Lists.{KeptBelow}
 use Rattle.automaton_matrix_search.proofs.Growing.{kept-sym, kept-less}
-use Rattle.automaton_table.specs.Laying.{RowFilled, RowsFilled, StepPlace, StepList, RowLaid, ProductNumber, TableNumber, MarkPlace, MarkByte}
+use Rattle.automaton_table.specs.Laying.{RowFilled, RowsFilled, StepNeeds, StepList, RowLaid, ProductNumber, TableNumber, MarkNeeds, MarkByte}
 use Rattle.automaton_table.proofs.Filling.{row-more, rows-more, rows-all, rows-known}
 use Rattle.automaton_table.proofs.Staying.{place-stays, number-stays}
 use Rattle.automaton_table.proofs.Marks.{product-place, mark-stays}
 
 -- ---- the products
 
-module _ {count i : ℕ} {entry : List ℕ} (l : StepPlace entry count) (hi : i < count) where
+module _ {count i : ℕ} {entry : List ℕ} (l : StepNeeds entry count) (hi : i < count) where
   pub row-small : i * count < 4096
   row-small = let h : i * count + 0 < 4096 = product-place (l .few) hi (omega arith) in omega arith
 
@@ -21,7 +21,7 @@ module _ {count i : ℕ} {entry : List ℕ} (l : StepPlace entry count) (hi : i 
     kept : KeptBelow 16384 entry now
     kept = kept-less (omega arith) (r .kept)
 
-    pub steps-now : StepPlace now count
+    pub steps-now : StepNeeds now count
     steps-now = place-stays kept l
 
     module _ (hj : j < count) where
@@ -37,8 +37,8 @@ module _ {count i : ℕ} {entry : List ℕ} (l : StepPlace entry count) (hi : i 
           → RowFilled (TableNumber count entry i) (16384 + i * count) (j + 1) entry (set now (16384 + i * count + j) byte)
       product-more p = row-more product-room r (number-stays (kept-sym kept) (l .few) hi hj p)
 
-module _ {count i : ℕ} {entry now : List ℕ} (l : StepPlace entry count) (r : RowsFilled (TableNumber count entry) 16384 count i count entry now) where
-  pub steps-rows-now : StepPlace now count
+module _ {count i : ℕ} {entry now : List ℕ} (l : StepNeeds entry count) (r : RowsFilled (TableNumber count entry) 16384 count i count entry now) where
+  pub steps-rows-now : StepNeeds now count
   steps-rows-now = place-stays (r .kept) l
 
   pub products-more : {next : List ℕ} → i < count → RowFilled (TableNumber count now i) (16384 + i * count) count now next
@@ -51,10 +51,10 @@ module _ {count i : ℕ} {entry now : List ℕ} (l : StepPlace entry count) (r :
 
 -- ---- the marks
 
-pub marks-place : {kinds : List ℕ} {n count limit : ℕ} {entry now : List ℕ} → MarkPlace kinds n entry count → KeptBelow limit entry now → MarkPlace kinds n now count
+pub marks-place : {kinds : List ℕ} {n count limit : ℕ} {entry now : List ℕ} → MarkNeeds kinds n entry count → KeptBelow limit entry now → MarkNeeds kinds n now count
 marks-place p k = record { few-states = p .few-states; kinds-long = p .kinds-long; room = rw (k .same-length) (p .room); few = p .few }
 
-module _ {kinds : List ℕ} {n count s : ℕ} {entry : List ℕ} (l : MarkPlace kinds n entry count) (hs : s < count) where
+module _ {kinds : List ℕ} {n count s : ℕ} {entry : List ℕ} (l : MarkNeeds kinds n entry count) (hs : s < count) where
   module _ {e : ℕ} {now : List ℕ} (r : RowFilled (MarkByte kinds n count entry s) (24576 + s * 64) e entry now) (he : e < count) where
     pub mark-room : 24576 + s * 64 + e < length now
     mark-room = omega (arith, marks-place l (r .kept) .room, l .few)

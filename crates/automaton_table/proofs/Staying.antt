@@ -9,7 +9,7 @@ use Rattle.automaton_matrix_search.specs.Lists.{stepPlace, parentPlace, letterP
 use Rattle.automaton_matrix_search.proofs.Growing.{kept-sym, kept-less}
 use Rattle.automaton_matrix_search.proofs.Staying.{matrix-stays, grown-stays}
 use Rattle.automaton_matrix_list.proofs.Order.{number-grown, made-grown}
-use Rattle.automaton_table.specs.Laying.{StepPlace, StepList, ProductNumber, TableNumber}
+use Rattle.automaton_table.specs.Laying.{StepNeeds, StepList, ProductNumber, TableNumber}
 
 module _ {a b : List ℕ} (kept : KeptBelow 16384 a b) where
   -- ---- what is recorded
@@ -23,7 +23,7 @@ module _ {a b : List ℕ} (kept : KeptBelow 16384 a b) where
   pub letter-stays : (j : ℕ) → j < 64 → letterAt b j ≡ letterAt a j
   letter-stays j h = kept .same (letterPlace j) (omega arith)
 
-  pub place-stays : {count : ℕ} → StepPlace a count → StepPlace b count
+  pub place-stays : {count : ℕ} → StepNeeds a count → StepNeeds b count
   place-stays l =
       let few = l .few in
       record {

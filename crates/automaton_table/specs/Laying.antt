@@ -46,7 +46,7 @@ laidMarks scratch s e = getD scratch (24576 + (s * 64 + e)) 0
 
 -- the bytes along which the products are looked up are there: each matrix was found from an entry before it, and the letter by which it
 -- was leads from every matrix to one of the list
-pub record StepPlace (scratch : List ℕ) (count : ℕ) : Type 0 where
+pub record StepNeeds (scratch : List ℕ) (count : ℕ) : Type 0 where
   pub few : count ≤ 64
   pub room : 65536 ≤ length scratch
   pub parents : (j : ℕ) → j < count → parentAt scratch j ≤ j
@@ -86,7 +86,7 @@ pub record MarkByte (kinds : List ℕ) (n count : ℕ) (scratch : List ℕ) (s e
   pub marked : Linked (laidRule scratch count 0) s e → Recurs (initialStates kinds n) (matrixAt scratch s) (matrixAt scratch e) → 0 < byte
 
 -- the bytes of two matrices and of the states' kinds are there
-pub record PairPlace (kinds : List ℕ) (n : ℕ) (scratch : List ℕ) (s e : ℕ) : Type 0 where
+pub record PairNeeds (kinds : List ℕ) (n : ℕ) (scratch : List ℕ) (s e : ℕ) : Type 0 where
   pub few-states : n ≤ 6
   pub kinds-long : n ≤ length kinds
   pub room : 65536 ≤ length scratch
@@ -94,7 +94,7 @@ pub record PairPlace (kinds : List ℕ) (n : ℕ) (scratch : List ℕ) (s e : �
   pub cycle-small : e < 64
 
 -- and so are those of count matrices
-pub record MarkPlace (kinds : List ℕ) (n : ℕ) (scratch : List ℕ) (count : ℕ) : Type 0 where
+pub record MarkNeeds (kinds : List ℕ) (n : ℕ) (scratch : List ℕ) (count : ℕ) : Type 0 where
   pub few-states : n ≤ 6
   pub kinds-long : n ≤ length kinds
   pub room : 65536 ≤ length scratch
@@ -109,7 +109,7 @@ pub record RuleLaid (kinds : List ℕ) (n count : ℕ) (entry exit : List ℕ) :
 -- ---- writing it
 
 -- a rule within the limits of the format, and room for the longest file
-pub record WritePlace (count k : ℕ) (scratch out : List ℕ) : Type 0 where
+pub record WriteNeeds (count k : ℕ) (scratch out : List ℕ) : Type 0 where
   pub some : 1 ≤ count
   pub few : count ≤ 64
   pub letters-some : 1 ≤ k

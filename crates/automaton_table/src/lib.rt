@@ -5,11 +5,11 @@
 // letter leads from each entry, as automaton_matrix_search recorded them.
 ghost use Prim.Native.Nat.{ℕ, _+_, _*_, _<_};
 ghost use mathlib.Core.List.{List};
-ghost use Rattle.automaton_table.specs.Laying.{StepPlace, StepList, RowLaid, TableNumber, ProductNumber, RowFilled, RowsFilled};
+ghost use Rattle.automaton_table.specs.Laying.{StepNeeds, StepList, RowLaid, TableNumber, ProductNumber, RowFilled, RowsFilled};
 
 // The number of the product of matrices i and j, where those of i with the matrices before j are laid out.
 pub fn product_number(scratch: &[u8], count: usize, i: usize, j: usize) -> u8
-    requires { ⌜ StepPlace (now scratch) count ⌝ }
+    requires { ⌜ StepNeeds (now scratch) count ⌝ }
     requires { ⌜ (i < count) × (j < count) ⌝ }
     requires { ⌜ RowLaid count (now scratch) i j ⌝ }
     ensures { λ r. ⌜ TableNumber count (now (scratch .entry)) i j r ⌝ }
@@ -25,7 +25,7 @@ pub fn product_number(scratch: &[u8], count: usize, i: usize, j: usize) -> u8
 
 // The products that begin with i.
 pub fn lay_products_of(scratch: &mut [u8], count: usize, i: usize)
-    requires { ⌜ StepPlace (now scratch) count ⌝ }
+    requires { ⌜ StepNeeds (now scratch) count ⌝ }
     requires { ⌜ i < count ⌝ }
     ensures { λ _. ⌜ RowFilled (TableNumber count (now (scratch .entry)) i) (16384 + i * count) count (now (scratch .entry)) (now (scratch .exit)) ⌝ }
 {
@@ -38,7 +38,7 @@ pub fn lay_products_of(scratch: &mut [u8], count: usize, i: usize)
 
 // All products.
 pub fn lay_products(scratch: &mut [u8], count: usize)
-    requires { ⌜ StepPlace (now scratch) count ⌝ }
+    requires { ⌜ StepNeeds (now scratch) count ⌝ }
     ensures { λ _. ⌜ ((kinds : List ℕ) (n : ℕ) → StepList kinds n (now (scratch .entry)) count → RowsFilled (ProductNumber n count (now (scratch .entry))) 16384 count count count (now (scratch .entry)) (now (scratch .exit))) ⌝ }
 {
     for i in 0..count {

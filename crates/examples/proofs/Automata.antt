@@ -255,7 +255,7 @@ module _ (before entry : List ℕ) (long : ruleSize ≤ length before) (room : s
     after = fileOf M10-table marks ++ drop (length (fileOf M10-table marks)) before;
     exit = scratchLeft ruleSize before entry;
     promised = record {
-      verdict = passes;
+      refusal = passes;
       answered = record {
         morphism = M10-table;
         matrix = M10-matrix;

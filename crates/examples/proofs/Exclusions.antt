@@ -27,15 +27,15 @@ refused-or-passed : {number input place : ℕ} → passed ≡ numbered number in
 refused-or-passed e = let z : _≡_ {A = ℕ} 0 1 = cc in omega arith
 
 pub not-associative-passes : ¬ ChecksTo not-associative passed
-not-associative-passes c = refused-or-passed (examples .m8 .only passed (c .verdict))
+not-associative-passes c = refused-or-passed (examples .m8 .only passed (c .refusal))
 
 pub unreached-passes : ¬ ChecksTo unreached passed
-unreached-passes c = refused-or-passed (examples .m9 .only passed (c .verdict))
+unreached-passes c = refused-or-passed (examples .m9 .only passed (c .refusal))
 
 -- M9's table associates: 5 is not its refusal
 pub other-number : ¬ ChecksTo unreached (numbered 5 1 1)
 other-number c =
-    let e = examples .m9 .only (numbered 5 1 1) (c .verdict) in
+    let e = examples .m9 .only (numbered 5 1 1) (c .refusal) in
     let z : _≡_ {A = ℕ} 5 6 = cc in
     omega arith
 

@@ -131,4 +131,4 @@ module _ (bytes : List ℕ) where
 
 -- a verdict of the checks is the only one
 pub checks-to : {bytes : List ℕ} {v : Verdict} → FirstFailure (ruleChecks 1 bytes) v → ChecksTo bytes v
-checks-to {bytes} f = record { verdict = f; only = λ w g. one-verdict (rule-single 1 bytes) g f }
+checks-to {bytes} f = record { refusal = f; only = λ w g. one-verdict (rule-single 1 bytes) g f }

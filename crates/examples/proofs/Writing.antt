@@ -84,7 +84,7 @@ module _ (before after entry exit : List ℕ) (long : ruleSize ≤ length before
   promised k =
       subst (ReducePromise W-all before after entry exit) (sym (k .answer-is))
       (record {
-        verdict = all-pass;
+        refusal = all-pass;
         answered = written (subst (λ (file : List ℕ). StandsIn file before after (k .end)) (sym one-bytes) (k .stands));
         scratch = k .scratch-is ∙ sym zeros;
       })
@@ -94,7 +94,7 @@ pub W-all-bytes : ReducesToBytes W-all one-element
 W-all-bytes = record {
   exactly = λ before after entry exit answer long room. (
     λ p. allowed before after entry exit long room answer (p .answered)
-        (one-verdict (strong-rule-single ruleSize before W-all entry) (p .verdict) (all-pass before after entry exit long room)) (p .scratch),
+        (one-verdict (strong-rule-single ruleSize before W-all entry) (p .refusal) (all-pass before after entry exit long room)) (p .scratch),
     promised before after entry exit long room,
   );
 }

@@ -25,7 +25,7 @@ use Rattle.examples.specs.Files.{W, W-all, one-element, Z, Z₀, not-ass
 
 -- the checks of the rule file come to this verdict and to no other
 pub record ChecksTo (bytes : List ℕ) (v : Verdict) : Type 0 where
-  pub verdict : FirstFailure (ruleChecks 1 bytes) v
+  pub refusal : FirstFailure (ruleChecks 1 bytes) v
   pub only : (w : Verdict) → FirstFailure (ruleChecks 1 bytes) w → w ≡ v
 
 -- the rule that the file means is strong

@@ -12,7 +12,7 @@ use Rattle.formats.specs.RuleChecks.{TrailingAt}
 use Rattle.formats.specs.AutomatonFile.{lettersAt, transitionsAt, transitionsOf, transitionAt, automatonEnd, statesSection, lettersSection}
 use Rattle.formats.specs.AutomatonChecks.{RepeatedAt, repeatedChecks, layoutChecks, contentChecks, automatonChecks, readChecks}
 use Rattle.automaton_file.proofs.Passed.{good-sections}
-use Rattle.promises.specs.Automaton.{RichAt, richCheck}
+use Rattle.promises.specs.Automaton.{TooManyMatricesAt, matricesCheck}
 use Rattle.exports.proofs.Limits.{Near, near, at-zero, buffer-limited}
 
 module _ (bytes : List ℕ) where
@@ -45,8 +45,8 @@ module _ (bytes : List ℕ) where
       (λ _. repeated-limited 0 (transitionsOf bytes) (omega (arith, good .states-small, good .transitions-small)))
 
   -- an automaton, with the scratch that is lent; then 14
-  pub translated-limited : (scratch : List ℕ) → Limited Near (readChecks 1 bytes scratch ++ (richCheck bytes ∷ []))
+  pub translated-limited : (scratch : List ℕ) → Limited Near (readChecks 1 bytes scratch ++ (matricesCheck bytes ∷ []))
   unfolding automatonChecks
   translated-limited scratch =
       limited-append (readChecks 1 bytes scratch) (buffer-limited (limited-append (layoutChecks 1 bytes) layout-limited content-limited))
-      (λ _. limited-cons (λ place (f : RichAt _ place). at-zero (f .is-place)) (λ _. limited-nil))
+      (λ _. limited-cons (λ place (f : TooManyMatricesAt _ place). at-zero (f .is-place)) (λ _. limited-nil))

@@ -12,7 +12,7 @@ use Rattle.answer.specs.Refusals.{numberOf}
 use Rattle.answer.specs.Checks.{Check, passed, refused, FirstFailure}
 use Rattle.answer.proofs.Limits.{Limited, limited-nil, limited-cons, limited-append, number-range}
 use Rattle.theory.specs.Rules.{Morphism}
-use Rattle.formats.specs.TableChecks.{NotAssociativeAt, UnreachedAt, UnsettledAt}
+use Rattle.formats.specs.TableChecks.{NotAssociativeAt, UnreachedAt, NoIdempotentPowerAt}
 use Rattle.formats.specs.Sections.{twoBytes, sectionChecks}
 use Rattle.formats.proofs.Sections.{passed-good}
 use Rattle.sections.proofs.Limits.{section-limited}
@@ -21,7 +21,7 @@ use Rattle.formats.specs.RuleChecks.{TrailingAt, UnlinkedAt, RepeatedAt, ShortA
 use Rattle.automaton_sections.proofs.Rows.{first-byte}
 use Rattle.formats.specs.Calls.{checkedChecks}
 use Rattle.rule_check.proofs.Passed.{size-small, letters-small, marks-small}
-use Rattle.formats.specs.WordChecks.{longestWord, LengthOutAt, ForeignAt, lassoChecks}
+use Rattle.formats.specs.WordChecks.{longestWord, LengthOutAt, UnknownLetterAt, lassoChecks}
 use Rattle.packing.proofs.ReadBack.{RefusalFits}
 
 -- where refusals lie: in input 1 or 2, and below 2 to the power 18, which the place of the last triple is just below
@@ -96,7 +96,7 @@ module _ (bytes : List ℕ) where
       (λ _. limited-append (tableChecks 1 (morphismOf bytes)) (table-limited (morphismOf bytes) n-small)
       (λ _. limited-append (markChecks 1 (morphismOf bytes) bytes (marksAt bytes) 0 (marksOf bytes))
       (marks-limited 1 (morphismOf bytes) bytes (marksAt bytes) 0 (marksOf bytes) (omega arith) (omega arith))
-      (λ _. limited-cons (λ place (f : UnsettledAt (morphismOf bytes) place). near (omega arith) (omega (arith, f .inside))) (λ _. limited-nil))))
+      (λ _. limited-cons (λ place (f : NoIdempotentPowerAt (morphismOf bytes) place). near (omega arith) (omega (arith, f .inside))) (λ _. limited-nil))))
 
   -- a rule, with the scratch that is lent
   pub checked-limited : (scratch : List ℕ) → Limited Near (checkedChecks 1 bytes scratch)
@@ -125,5 +125,5 @@ pub lasso-limited : (k : ℕ) (u v : List ℕ) → Limited Near (lassoChecks k u
 lasso-limited k u v =
     limited-cons (λ place (f : LengthOutAt u place). at-zero (f .is-place))
     (λ pu. limited-cons (λ place (f : LengthOutAt v place). near (omega arith) (omega (arith, f .is-place)))
-    (λ pv. limited-cons (λ place (f : ForeignAt k u place). word-short (pu .nowhere) (omega arith) (f .inside))
-    (λ _. limited-cons (λ place (f : ForeignAt k v place). word-short (pv .nowhere) (omega arith) (f .inside)) (λ _. limited-nil))))
+    (λ pv. limited-cons (λ place (f : UnknownLetterAt k u place). word-short (pu .nowhere) (omega arith) (f .inside))
+    (λ _. limited-cons (λ place (f : UnknownLetterAt k v place). word-short (pv .nowhere) (omega arith) (f .inside)) (λ _. limited-nil))))

@@ -13,7 +13,7 @@ use Rattle.rule_check.specs.GoodRule.{GoodRule}
 use Rattle.formats.specs.Calls.{checkedChecks}
 use Rattle.rule_check.proofs.Calls.{called-good}
 use Rattle.promises.specs.declared.Monitor.{Monitor}
-use Rattle.promises.specs.Monitor.{valueOf, numberFor, IsStray, monitorChecks}
+use Rattle.promises.specs.Monitor.{valueOf, numberFor, ValueOutOfRange, monitorChecks}
 use Rattle.monitor_state.specs.Ready.{GoodNumber}
 use Rattle.monitor_state.proofs.Numbers.{value-none, value-element, not-stray}
 use Rattle.promises.specs.Moves.{afterEvent, afterMark, eventChecks}
@@ -36,7 +36,7 @@ module _ (bytes : List ℕ) (f : Monitor) (entry : List ℕ) (all : FirstFailure
   rule : GoodRule bytes
   rule = called-good 1 bytes entry (passed-first (checkedChecks 1 bytes entry) _ all)
 
-  unstray : IsStray (elementsOf bytes) (f .before) ⊎ IsStray (elementsOf bytes) (f .since) → ⊥
+  unstray : ValueOutOfRange (elementsOf bytes) (f .before) ⊎ ValueOutOfRange (elementsOf bytes) (f .since) → ⊥
   unstray s = passes-head (passed-last (checkedChecks 1 bytes entry) _ all) .nowhere 0 (record { stray = s; is-place = refl })
 
   before-good : GoodNumber (elementsOf bytes) (f .before)

@@ -17,8 +17,8 @@ use Rattle.rule_check.proofs.Calls.{called-good}
 use Rattle.formats.specs.ReadBack.{WrittenRule}
 use Rattle.promises.specs.Weak.{WeakAt, weakCheck}
 use Rattle.promises.specs.declared.Monitor.{Monitor}
-use Rattle.promises.specs.Monitor.{freshMonitor, StrayAt, monitorChecks}
-use Rattle.promises.specs.Moves.{LoneForeignAt, EventPromise, MarkPromise}
+use Rattle.promises.specs.Monitor.{freshMonitor, MonitorValueOutOfRangeAt, monitorChecks}
+use Rattle.promises.specs.Moves.{LoneUnknownLetterAt, EventPromise, MarkPromise}
 use Rattle.promises.specs.Verdict.{NoneAt, VerdictPromise}
 use Rattle.promises.specs.declared.Translated.{Translated}
 use Rattle.promises.specs.declared.Translated.the-variants.{Rule as Automaton-rule, Refused as Not-translated}
@@ -44,9 +44,9 @@ use Rattle.promises.specs.Reduce.{ReducePromise}
 use Rattle.promises.specs.declared.Strength.{Strength}
 use Rattle.promises.specs.declared.Strength.the-variants.{Strong, Weak, Refused as Not-decided}
 use Rattle.promises.specs.Strong.{StrongPromise}
-use Rattle.promises.specs.declared.Judged.{Judged}
-use Rattle.promises.specs.declared.Judged.the-variants.{Accepted as Judged-accepted, NotAccepted as Judged-not-accepted, Refused as Not-judged}
-use Rattle.packing.specs.Packing.{unpack, listedContents, strengthContents, membershipContents, complementedContents, reducedContents, translatedContents, inclusionContents, monitorContents, movedContents, judgedContents, packMonitor}
+use Rattle.promises.specs.declared.MonitorVerdict.{MonitorVerdict}
+use Rattle.promises.specs.declared.MonitorVerdict.the-variants.{Accepted as Judged-accepted, NotAccepted as Judged-not-accepted, Refused as Not-judged}
+use Rattle.packing.specs.Packing.{unpack, listedContents, strengthContents, membershipContents, complementedContents, reducedContents, translatedContents, inclusionContents, monitorContents, movedContents, monitorVerdictContents, packMonitor}
 use Rattle.packing.proofs.ReadBack.{FieldsFit, Fits, read-back}
 use Rattle.packing.proofs.Contents.{listed-told, strength-told, membership-told, complemented-told, reduced-told, translated-told, inclusion-told, judged-told, moved-told}
 use Rattle.exports.specs.Exports.{ExportedClasses, ExportedStrength, ExportedMember, ExportedComplement, ExportedInclusion, ExportedEvent, ExportedMark, ExportedReduction, ExportedVerdict, ExportedAutomaton}
@@ -71,56 +71,56 @@ strong-rule-limited bytes entry =
 monitor-limited : (bytes : List ℕ) (f : Monitor) (entry : List ℕ) → Limited Near (monitorChecks bytes f entry)
 monitor-limited bytes f entry =
     limited-append (checkedChecks 1 bytes entry) (checked-limited bytes entry)
-    (λ _. limited-cons (λ place (a : StrayAt _ _ place). at-zero (a .is-place)) (λ _. limited-nil))
+    (λ _. limited-cons (λ place (a : MonitorValueOutOfRangeAt _ _ place). at-zero (a .is-place)) (λ _. limited-nil))
 
 -- classes
 listed-fits : {bytes before after entry exit : List ℕ} (answer : Listed) → ListPromise bytes before after entry exit answer → Fits (listedContents answer)
 unfolding LinkedPairs Classes
 listed-fits {bytes} {entry = entry} (Counts linked classes joins) p =
-    let small = called-good 1 bytes entry (passes-tail (p .verdict)) .table .small in
+    let small = called-good 1 bytes entry (passes-tail (p .refusal)) .table .small in
     let square : elementsOf bytes * elementsOf bytes ≤ 64 * 64 = mul-le-mul small small in
     let counts = p .answered .1 in
     let l = counted-le (counts .linked-pairs) in
     let c = counted-le (counts .class-count) in
     record { first = omega arith; second = omega arith; third = omega (arith, counts .difference) }
-listed-fits {bytes} {entry = entry} (Not-listed r i place) p = refused-fits r (buffer-limited (checked-limited bytes entry)) (p .verdict)
+listed-fits {bytes} {entry = entry} (Not-listed r i place) p = refused-fits r (buffer-limited (checked-limited bytes entry)) (p .refusal)
 
 -- strong
 strength-fits : {bytes entry exit : List ℕ} (answer : Strength) → StrongPromise bytes entry exit answer → Fits (strengthContents answer)
 strength-fits Strong p = bit-fits (omega arith)
 strength-fits Weak p = bit-fits (omega arith)
-strength-fits {bytes} {entry} (Not-decided r i place) p = refused-fits r (checked-limited bytes entry) (p .verdict)
+strength-fits {bytes} {entry} (Not-decided r i place) p = refused-fits r (checked-limited bytes entry) (p .refusal)
 
 -- member
 member-fits : {bytes u v entry exit : List ℕ} (answer : Membership) → MemberPromise bytes u v entry exit answer → Fits (membershipContents answer)
 member-fits Accepted p = bit-fits (omega arith)
 member-fits NotAccepted p = bit-fits (omega arith)
 member-fits {bytes} {u} {v} {entry} (Not-a-member r i place) p =
-    refused-fits r (limited-append (checkedChecks 1 bytes entry) (checked-limited bytes entry) (λ _. lasso-limited (lettersOf bytes) u v)) (p .verdict)
+    refused-fits r (limited-append (checkedChecks 1 bytes entry) (checked-limited bytes entry) (λ _. lasso-limited (lettersOf bytes) u v)) (p .refusal)
 
 -- complement
 complement-fits : {bytes before after entry exit : List ℕ} (answer : Complemented) → ComplementPromise bytes before after entry exit answer
     → Fits (complementedContents answer)
 complement-fits (Complement-rule length) p = written-fits (p .answered .written)
-complement-fits {bytes} {entry = entry} (Not-complemented r i place) p = refused-fits r (strong-rule-limited bytes entry) (p .verdict)
+complement-fits {bytes} {entry = entry} (Not-complemented r i place) p = refused-fits r (strong-rule-limited bytes entry) (p .refusal)
 
 -- reduce
 reduce-fits : {bytes before after entry exit : List ℕ} (answer : Reduced) → ReducePromise bytes before after entry exit answer → Fits (reducedContents answer)
 reduce-fits (Reduced-rule length) p = written-fits (p .answered .written)
-reduce-fits {bytes} {entry = entry} (Not-reduced r i place) p = refused-fits r (strong-rule-limited bytes entry) (p .verdict)
+reduce-fits {bytes} {entry = entry} (Not-reduced r i place) p = refused-fits r (strong-rule-limited bytes entry) (p .refusal)
 
 -- automaton_rule
 automaton-fits : {bytes before after entry exit : List ℕ} (answer : Translated) → RulePromise bytes before after entry exit answer
     → Fits (translatedContents answer)
 automaton-fits (Automaton-rule length) p = written-fits (p .answered .written)
-automaton-fits {bytes} {entry = entry} (Not-translated r i place) p = refused-fits r (buffer-limited (translated-limited bytes entry)) (p .verdict)
+automaton-fits {bytes} {entry = entry} (Not-translated r i place) p = refused-fits r (buffer-limited (translated-limited bytes entry)) (p .refusal)
 
 -- included
 inclusion-fits : {bytes second u-entry u-exit v-entry v-exit entry exit : List ℕ} (answer : Inclusion)
     → InclusionPromise bytes second u-entry u-exit v-entry v-exit entry exit answer → Fits (inclusionContents answer)
 inclusion-fits Included p = bit-fits (omega arith)
 inclusion-fits {bytes} {entry = entry} (NotIncluded u v) p =
-    let checked = passed-first (checkedChecks 1 bytes entry) _ (passes-tail (passes-tail (p .verdict))) in
+    let checked = passed-first (checkedChecks 1 bytes entry) _ (passes-tail (passes-tail (p .refusal))) in
     let small = called-good 1 bytes entry checked .table .small in
     let side : elementsOf bytes + 1 ≤ 65 = omega arith in
     let square : (elementsOf bytes + 1) * (elementsOf bytes + 1) ≤ 65 * 65 = mul-le-mul side side in
@@ -131,7 +131,7 @@ inclusion-fits {bytes} {entry = entry} (NotIncluded u v) p =
       third = omega (arith, apart .cycle-written .counts, apart .witness .cycle-short);
     }
 inclusion-fits {bytes} {second} {entry = entry} (Not-compared r i place) p =
-    refused-fits r (buffer-limited (buffer-limited (limited-append (checkedChecks 1 bytes entry) (checked-limited bytes entry) (λ _. second-limited bytes second)))) (p .verdict)
+    refused-fits r (buffer-limited (buffer-limited (limited-append (checkedChecks 1 bytes entry) (checked-limited bytes entry) (λ _. second-limited bytes second)))) (p .refusal)
 
 -- event, mark
 moved-fits : {f g : Monitor} → f ≡ g → Fits (monitorContents g) → Fits (monitorContents f)
@@ -139,23 +139,23 @@ moved-fits e h = subst (λ (x : Monitor). Fits (monitorContents x)) (sym e) h
 
 event-answer-fits : {bytes : List ℕ} {f : Monitor} {letter : ℕ} {entry exit : List ℕ} (answer : Moved) → EventPromise bytes f letter entry exit answer
     → Fits (movedContents answer)
-event-answer-fits {bytes} {f} {letter} {entry} (To g) p = moved-fits (p .monitor) (event-fits bytes f letter entry (p .verdict))
+event-answer-fits {bytes} {f} {letter} {entry} (To g) p = moved-fits (p .monitor) (event-fits bytes f letter entry (p .refusal))
 event-answer-fits {bytes} {f} {letter} {entry} (Not-moved g r i place) p =
     refused-fits r (limited-append (monitorChecks bytes f entry) (monitor-limited bytes f entry)
-    (λ _. limited-cons (λ place (a : LoneForeignAt _ _ place). at-zero (a .is-place)) (λ _. limited-nil))) (p .verdict)
+    (λ _. limited-cons (λ place (a : LoneUnknownLetterAt _ _ place). at-zero (a .is-place)) (λ _. limited-nil))) (p .refusal)
 
 mark-answer-fits : {bytes : List ℕ} {f : Monitor} {entry exit : List ℕ} (answer : Moved) → MarkPromise bytes f entry exit answer → Fits (movedContents answer)
-mark-answer-fits {bytes} {f} {entry} (To g) p = moved-fits (p .monitor) (mark-fits bytes f entry (p .verdict))
-mark-answer-fits {bytes} {f} {entry} (Not-moved g r i place) p = refused-fits r (monitor-limited bytes f entry) (p .verdict)
+mark-answer-fits {bytes} {f} {entry} (To g) p = moved-fits (p .monitor) (mark-fits bytes f entry (p .refusal))
+mark-answer-fits {bytes} {f} {entry} (Not-moved g r i place) p = refused-fits r (monitor-limited bytes f entry) (p .refusal)
 
 -- verdict
-verdict-fits : {bytes : List ℕ} {f : Monitor} {entry exit : List ℕ} (answer : Judged) → VerdictPromise bytes f entry exit answer → Fits (judgedContents answer)
+verdict-fits : {bytes : List ℕ} {f : Monitor} {entry exit : List ℕ} (answer : MonitorVerdict) → VerdictPromise bytes f entry exit answer → Fits (monitorVerdictContents answer)
 verdict-fits Judged-accepted p = bit-fits (omega arith)
 verdict-fits Judged-not-accepted p = bit-fits (omega arith)
 verdict-fits {bytes} {f} {entry} (Not-judged r i place) p =
     refused-fits r (limited-append (monitorChecks bytes f entry) (monitor-limited bytes f entry)
     (λ _. limited-cons (λ place (a : NoneAt _ place). at-zero (a .is-place))
-    (λ _. limited-cons (λ place (a : WeakAt _ place). at-zero (a .is-place)) (λ _. limited-nil)))) (p .verdict)
+    (λ _. limited-cons (λ place (a : WeakAt _ place). at-zero (a .is-place)) (λ _. limited-nil)))) (p .refusal)
 
 -- the number of a call is read back as what its answer holds
 pub fresh-read : unpack (packMonitor freshMonitor) ≡ monitorContents freshMonitor
@@ -172,7 +172,7 @@ module _ {bytes entry exit : List ℕ} {r : ℕ} where
     pub mark-read : (x : ExportedMark bytes f entry exit r) → unpack r ≡ movedContents (x .answer)
     mark-read x = ap unpack (x .packed) ∙ read-back _ (mark-answer-fits (x .answer) (x .promise))
 
-    pub verdict-read : (x : ExportedVerdict bytes f entry exit r) → unpack r ≡ judgedContents (x .answer)
+    pub verdict-read : (x : ExportedVerdict bytes f entry exit r) → unpack r ≡ monitorVerdictContents (x .answer)
     verdict-read x = ap unpack (x .packed) ∙ read-back _ (verdict-fits (x .answer) (x .promise))
 
   module _ {before after : List ℕ} where

@@ -19,9 +19,9 @@ use Rattle.promises.specs.declared.Reduced.{Reduced}
 use Rattle.promises.specs.Reduce.{ReducePromise}
 use Rattle.promises.specs.declared.Strength.{Strength}
 use Rattle.promises.specs.Strong.{StrongPromise}
-use Rattle.promises.specs.declared.Judged.{Judged}
+use Rattle.promises.specs.declared.MonitorVerdict.{MonitorVerdict}
 use Rattle.promises.specs.Verdict.{VerdictPromise}
-use Rattle.packing.specs.Packing.{packListed, packStrength, packMembership, packComplemented, packReduced, packTranslated, packInclusion, packMoved, packJudged}
+use Rattle.packing.specs.Packing.{packListed, packStrength, packMembership, packComplemented, packReduced, packTranslated, packInclusion, packMoved, packMonitorVerdict}
 
 pub record ExportedClasses (bytes out-entry out-exit entry exit : List ℕ) (r : ℕ) : Type 0 where
   pub answer : Listed
@@ -64,9 +64,9 @@ pub record ExportedReduction (bytes out-entry out-exit entry exit : List ℕ) (r
   pub packed : r ≡ packReduced answer
 
 pub record ExportedVerdict (bytes : List ℕ) (m : Monitor) (entry exit : List ℕ) (r : ℕ) : Type 0 where
-  pub answer : Judged
+  pub answer : MonitorVerdict
   pub promise : VerdictPromise bytes m entry exit answer
-  pub packed : r ≡ packJudged answer
+  pub packed : r ≡ packMonitorVerdict answer
 
 pub record ExportedAutomaton (bytes out-entry out-exit entry exit : List ℕ) (r : ℕ) : Type 0 where
   pub answer : Translated

@@ -4,9 +4,9 @@
 use packing::pack_complemented;
 use packing::pack_fields;
 use packing::pack_inclusion;
-use packing::pack_judged;
 use packing::pack_listed;
 use packing::pack_membership;
+use packing::pack_monitor_verdict;
 use packing::pack_moved;
 use packing::pack_reduced;
 use packing::pack_strength;
@@ -104,7 +104,7 @@ pub extern "C" fn duknavet_verdict(
 ) -> u64
     ensures { λ r. ⌜ ExportedVerdict (now (rule .entry)) (record { before = before; since = since }) (now (scratch .entry)) (now (scratch .exit)) r ⌝ }
 {
-    pack_judged(rules::verdict(rule, Monitor { before, since }, scratch))
+    pack_monitor_verdict(rules::verdict(rule, Monitor { before, since }, scratch))
 }
 
 // How many bytes the reduction has, which stands in `out`.

@@ -9,7 +9,7 @@ use Rattle.theory.specs.Pairs.{Idempotent, Linked, power}
 use Rattle.theory.proofs.Values.{Inside, inside-none, inside-element, value-inside}
 use Rattle.theory.proofs.Powers.{times-inside, idempotent-power}
 use Rattle.theory.proofs.Conjugacy.{semigroup}
-use Rattle.formats.specs.TableChecks.{Settles}
+use Rattle.formats.specs.TableChecks.{HasIdempotentPower}
 use Rattle.formats.proofs.Tables.{power-times}
 
 -- the second morphism has the first one's size, letters, products and images
@@ -98,7 +98,7 @@ module _ {m m′ : Morphism} (agree : Agree m m′) where
         ap (λ (y : ℕ). m′ .product y x) (agree-power h i) ∙ agree .same-product (power m x i) x (power-inside law h i) h
 
     -- so an element with an idempotent power keeps it
-    pub agree-settles : {x : ℕ} → x < m .size → Settles m x → Settles m′ x
+    pub agree-settles : {x : ℕ} → x < m .size → HasIdempotentPower m x → HasIdempotentPower m′ x
     agree-settles {x} h s = record {
       index = s .index;
       below = below-second (s .below);
@@ -106,7 +106,7 @@ module _ {m m′ : Morphism} (agree : Agree m m′) where
     }
 
 -- every element of a lawful table has an idempotent power
-pub lawful-settles : {m : Morphism} {x : ℕ} → Lawful m → x < m .size → Settles m x
+pub lawful-settles : {m : Morphism} {x : ℕ} → Lawful m → x < m .size → HasIdempotentPower m x
 lawful-settles {m} {x} law h =
     let p = idempotent-power (semigroup law) h in
     record {

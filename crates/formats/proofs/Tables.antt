@@ -4,7 +4,7 @@ use mathlib.Core.Path.{_≡_, refl, sym, ap}
 use native.Mathlib.Omega.{arith}
 use Rattle.theory.specs.Rules.{Morphism}
 use Rattle.theory.specs.Pairs.{Idempotent, power}
-use Rattle.formats.specs.TableChecks.{Associates, TripleBefore, by-a, by-b, by-c, NotAssociativeAt, UnsettledAt, UnreachedAt}
+use Rattle.formats.specs.TableChecks.{Associates, TripleBefore, by-a, by-b, by-c, NotAssociativeAt, NoIdempotentPowerAt, UnreachedAt}
 use Rattle.finite.proofs.Numbers.{Compared, lesser, level, greater, compared}
 use Rattle.theory.proofs.Powers.{times}
 
@@ -63,7 +63,7 @@ power-times m x zero = refl
 power-times m x (suc i) = ap (λ (y : ℕ). m .product y x) (power-times m x i)
 
 -- the place of line 9 is one
-pub unsettled-unique : {m : Morphism} {p q : ℕ} → UnsettledAt m p → UnsettledAt m q → p ≡ q
+pub unsettled-unique : {m : Morphism} {p q : ℕ} → NoIdempotentPowerAt m p → NoIdempotentPowerAt m q → p ≡ q
 unsettled-unique {m} {p} {q} s t = go (compared p q)
   where
     go : Compared p q → p ≡ q

@@ -4,12 +4,12 @@ use mathlib.Core.List.{List}
 use native.Mathlib.Omega.{arith}
 use Rattle.answer.specs.declared.Refusal.the-variants.{UnknownLetter, WordLength}
 use Rattle.answer.proofs.Order.{Single, AllSingle, single-nil, single-at, single-cons}
-use Rattle.formats.specs.WordChecks.{LengthOutAt, ForeignAt, lassoChecks}
+use Rattle.formats.specs.WordChecks.{LengthOutAt, UnknownLetterAt, lassoChecks}
 
 length-single : (input : ℕ) (w : List ℕ) → Single (record { refusal = WordLength; input = input; Fails = LengthOutAt w })
 length-single input w = single-at (λ place a. a .is-place)
 
-foreign-single : (input k : ℕ) (w : List ℕ) → Single (record { refusal = UnknownLetter; input = input; Fails = ForeignAt k w })
+foreign-single : (input k : ℕ) (w : List ℕ) → Single (record { refusal = UnknownLetter; input = input; Fails = UnknownLetterAt k w })
 foreign-single input k w = record {
   one-place = λ p q a b.
       (let f : p < q → ⊥ = λ h. omega (arith, b .first p h, a .foreign) in

@@ -8,7 +8,7 @@ use Rattle.answer.specs.declared.Refusal.the-variants.{TrailingBytes, NotAssoci
 use Rattle.answer.specs.Checks.{Check}
 use Rattle.theory.specs.Rules.{Morphism}
 use Rattle.theory.specs.Pairs.{Linked}
-use Rattle.formats.specs.TableChecks.{NotAssociativeAt, UnreachedAt, UnsettledAt}
+use Rattle.formats.specs.TableChecks.{NotAssociativeAt, UnreachedAt, NoIdempotentPowerAt}
 use Rattle.formats.specs.Sections.{twoBytes, sectionChecks}
 use Rattle.formats.specs.RuleFile.{elementsOf, lettersAt, marksAt, marksOf, ruleEnd, morphismOf, markStart, markCycle, markWidth, elementsSection, lettersSection, marksSection}
 
@@ -57,7 +57,7 @@ tableChecks input m =
 
 -- 9
 abbrev pub powerChecks : ℕ → Morphism → List Check
-powerChecks input m = record { refusal = NoIdempotentPower; input = input; Fails = UnsettledAt m } ∷ []
+powerChecks input m = record { refusal = NoIdempotentPower; input = input; Fails = NoIdempotentPowerAt m } ∷ []
 
 -- 4, then 5, 6, then 7 and 8, then 9
 abbrev pub contentChecks : ℕ → List ℕ → List Check

@@ -33,13 +33,13 @@ pub record UnreachedAt (m : Morphism) (place : ℕ) : Type 0 where
   pub least : (s : ℕ) → s < place → WordOf m s
 
 -- some power with an exponent 1 to n of the element is idempotent
-pub record Settles (m : Morphism) (x : ℕ) : Type 0 where
+pub record HasIdempotentPower (m : Morphism) (x : ℕ) : Type 0 where
   pub index : ℕ
   pub below : index < m .size
   pub idempotent : Idempotent m (power m x index)
 
 -- 9 "no power 1 to n of an element is idempotent": "the least"
-pub record UnsettledAt (m : Morphism) (place : ℕ) : Type 0 where
+pub record NoIdempotentPowerAt (m : Morphism) (place : ℕ) : Type 0 where
   pub inside : place < m .size
-  pub unsettled : Settles m place → ⊥
-  pub least : (x : ℕ) → x < place → Settles m x
+  pub unsettled : HasIdempotentPower m place → ⊥
+  pub least : (x : ℕ) → x < place → HasIdempotentPower m x

@@ -20,7 +20,7 @@ pub record LengthOutAt (w : List ℕ) (place : ℕ) : Type 0 where
   pub is-place : place ≡ 0
 
 -- 10 "a word .. has a letter of k or more"; place "its position", the first
-pub record ForeignAt (k : ℕ) (w : List ℕ) (place : ℕ) : Type 0 where
+pub record UnknownLetterAt (k : ℕ) (w : List ℕ) (place : ℕ) : Type 0 where
   pub inside : place < length w
   pub foreign : k ≤ getD w place 0
   pub first : (i : ℕ) → i < place → getD w i 0 < k
@@ -30,6 +30,6 @@ abbrev pub lassoChecks : ℕ → List ℕ → List ℕ → List Check
 lassoChecks k u v =
     record { refusal = WordLength; input = 1; Fails = LengthOutAt u }
     ∷ record { refusal = WordLength; input = 2; Fails = LengthOutAt v }
-    ∷ record { refusal = UnknownLetter; input = 1; Fails = ForeignAt k u }
-    ∷ record { refusal = UnknownLetter; input = 2; Fails = ForeignAt k v }
+    ∷ record { refusal = UnknownLetter; input = 1; Fails = UnknownLetterAt k u }
+    ∷ record { refusal = UnknownLetter; input = 2; Fails = UnknownLetterAt k v }
     ∷ []

@@ -11,7 +11,7 @@ use Rattle.theory.specs.Words.{Over, over-nil, over-cons}
 use Rattle.theory.specs.Rules.{Morphism, Lawful, Value, none, element, join, value}
 use Rattle.theory.proofs.Words.{over-take, over-drop, over-at}
 use Rattle.theory.proofs.Values.{value-append, join-none, join-elements, inside-of}
-use Rattle.rule_table.specs.Table.{Table, ImagePlace}
+use Rattle.rule_table.specs.Table.{Table, ImageNeeds}
 use Rattle.formats.specs.Table.{productAt, imageAt, morphismAt}
 use Rattle.rule_table.proofs.Facts.{image-place}
 use Rattle.lasso_cuts.specs.WordValues.{CallWord}
@@ -69,7 +69,7 @@ pub record Ended (bytes : List ℕ) (n k : ℕ) (w : List ℕ) (s i : ℕ) : Typ
 
 module _ {bytes : List ℕ} {n k : ℕ} {w : List ℕ} where
   -- a letter's element stands in the table
-  pub letter-place : Reading bytes n k w → (j : ℕ) → j < length w → ImagePlace bytes n (getD w j 0)
+  pub letter-place : Reading bytes n k w → (j : ℕ) → j < length w → ImageNeeds bytes n (getD w j 0)
   letter-place r j h = image-place (r .table) (over-at k w (r .word .over) j h)
 
   -- a letter's element is an element

@@ -48,11 +48,11 @@ call-word {k} {w} g = record { over = over-from k w (g .letters); some = g .some
 module _ (bytes u v entry : List ℕ) where
   -- the rule is refused
   pub rule-refused : {exit : List ℕ} {r : Refusal} {i place : ℕ} → CheckPromise 1 bytes entry exit (Checked-refused r i place) → MemberPromise bytes u v entry exit (Refused r i place)
-  rule-refused p = record { verdict = refused-before _ _ (p .verdict); answered = tt; scratch = p .scratch }
+  rule-refused p = record { refusal = refused-before _ _ (p .refusal); answered = tt; scratch = p .scratch }
 
   module _ {shape : Shape} {mid : List ℕ} (p : CheckPromise 1 bytes entry mid (Rule shape)) where
     good : GoodRule bytes
-    good = called-good 1 bytes entry (p .verdict)
+    good = called-good 1 bytes entry (p .refusal)
 
     pub table : Table bytes (shape .elements) (shape .letters)
     table = shape-table (p .scratch .shape-is) (good .table)
@@ -64,7 +64,7 @@ module _ (bytes u v entry : List ℕ) where
     linked = subst (λ (m : Morphism). LinkedOnly m (pairsOf bytes)) (sym (shape-morphism (p .scratch .shape-is))) (good .linked)
 
     pub long : scratchSize ≤ length mid
-    long = omega (arith, scratch-long 1 bytes entry (p .verdict), checked-length (p .scratch))
+    long = omega (arith, scratch-long 1 bytes entry (p .refusal), checked-length (p .scratch))
 
     -- the table of marks in scratch marks the file's pairs
     agrees : Agrees (shape .elements) (pairsOf bytes) (markedIn mid)
@@ -76,13 +76,13 @@ module _ (bytes u v entry : List ℕ) where
 
     -- zeros after the marks or after their use
     left : (was exit : List ℕ) → length was ≡ length mid → exit ≡ replicate (length was) 0 → exit ≡ afterCall entry
-    left was exit e z = zeros-left 1 bytes entry (p .verdict) was exit (e ∙ checked-length (p .scratch)) z
+    left was exit e z = zeros-left 1 bytes entry (p .refusal) was exit (e ∙ checked-length (p .scratch)) z
 
     -- a word is refused
     pub word-refused : (exit : List ℕ) {r : Refusal} {i place : ℕ} → FirstFailure (lassoChecks (shape .letters) u v) (refused r i place) → exit ≡ replicate (length mid) 0
         → MemberPromise bytes u v entry exit (Refused r i place)
     word-refused exit {r} {i} {place} f z = record {
-      verdict = passed-before _ _ (p .verdict) (subst (λ (k : ℕ). FirstFailure (lassoChecks k u v) (refused r i place)) (p .scratch .shape-is .letters) f);
+      refusal = passed-before _ _ (p .refusal) (subst (λ (k : ℕ). FirstFailure (lassoChecks k u v) (refused r i place)) (p .scratch .shape-is .letters) f);
       answered = tt;
       scratch = left mid exit refl z;
     }
@@ -95,14 +95,14 @@ module _ (bytes u v entry : List ℕ) where
       cycle-word = call-word (g .cycle)
 
       words-passed : FirstFailure (lassoChecks (lettersOf bytes) u v) passed
-      words-passed = subst (λ (k : ℕ). FirstFailure (lassoChecks k u v) passed) (p .scratch .shape-is .letters) (g .verdict)
+      words-passed = subst (λ (k : ℕ). FirstFailure (lassoChecks k u v) passed) (p .scratch .shape-is .letters) (g .refusal)
 
       module _ {b : Bool} (answer : b ≡ accepts-test (morphismAt bytes (shape .elements) (shape .letters)) (markedIn mid) u v)
           (was exit : List ℕ) (kept : length was ≡ length mid) (z : exit ≡ replicate (length was) 0) where
         -- the lasso is accepted
         pub says-yes : b ≡ true → MemberPromise bytes u v entry exit Accepted
         says-yes e = record {
-          verdict = passed-before _ _ (p .verdict) words-passed;
+          refusal = passed-before _ _ (p .refusal) words-passed;
           answered =
               subst (λ (m : Morphism). Accepts m (pairsOf bytes) u v) (shape-morphism (p .scratch .shape-is))
               (accepted table lawful linked start-word cycle-word mid agrees answer e);
@@ -112,7 +112,7 @@ module _ (bytes u v entry : List ℕ) where
         -- or it is not
         pub says-no : b ≡ false → MemberPromise bytes u v entry exit NotAccepted
         says-no e = record {
-          verdict = passed-before _ _ (p .verdict) words-passed;
+          refusal = passed-before _ _ (p .refusal) words-passed;
           answered = λ a.
               not-accepted table lawful linked start-word cycle-word mid agrees answer e
               (subst (λ (m : Morphism). Accepts m (pairsOf bytes) u v) (sym (shape-morphism (p .scratch .shape-is))) a);

@@ -13,7 +13,7 @@ use Rattle.sections.specs.declared.Found.{Found}
 use Rattle.sections.specs.declared.Found.the-variants.{At, Nothing}
 use Rattle.sections.specs.Answers.{FoundOut}
 use Rattle.formats.proofs.Sections.{FirstOut}
-use Rattle.formats.specs.WordChecks.{shortestWord, longestWord, LengthOutAt, ForeignAt, lassoChecks}
+use Rattle.formats.specs.WordChecks.{shortestWord, longestWord, LengthOutAt, UnknownLetterAt, lassoChecks}
 use Rattle.lasso_words.specs.Answers.{GoodLasso}
 
 -- a length in the range
@@ -26,10 +26,10 @@ length-passes g place o = ⊎-elim (λ l. omega (arith, g .some)) (λ l. omega (
 
 -- the search for a letter that is not below k, from the first letter on
 module _ (k : ℕ) (w : List ℕ) (answer : Found) (known : FoundOut w 0 (length w) k answer) where
-  pub foreign-at : {i : ℕ} → answer ≡ At i → ForeignAt k w i
+  pub foreign-at : {i : ℕ} → answer ≡ At i → UnknownLetterAt k w i
   foreign-at {i} e = go (subst (FoundOut w 0 (length w) k) e known)
     where
-      go : FirstOut w 0 (length w) k i → ForeignAt k w i
+      go : FirstOut w 0 (length w) k i → UnknownLetterAt k w i
       go o = record {
         inside = o .below;
         foreign = subst (λ (x : ℕ). k ≤ getD w x 0) (zero-add i) (o .outside);
@@ -39,7 +39,7 @@ module _ (k : ℕ) (w : List ℕ) (answer : Found) (known : FoundOut w 0 (length
   pub letters-below : answer ≡ Nothing → (i : ℕ) → i < length w → getD w i 0 < k
   letters-below e i h = subst (λ (x : ℕ). getD w x 0 < k) (zero-add i) (subst (FoundOut w 0 (length w) k) e known .below i h)
 
-letters-pass : {k : ℕ} {w : List ℕ} → ((i : ℕ) → i < length w → getD w i 0 < k) → (place : ℕ) → ForeignAt k w place → ⊥
+letters-pass : {k : ℕ} {w : List ℕ} → ((i : ℕ) → i < length w → getD w i 0 < k) → (place : ℕ) → UnknownLetterAt k w place → ⊥
 letters-pass f place o = omega (arith, f place (o .inside), o .foreign)
 
 module _ (k : ℕ) (u v : List ℕ) where
@@ -59,24 +59,24 @@ module _ (k : ℕ) (u v : List ℕ) where
 
   module _ (gu : GoodLength u) (gv : GoodLength v) where
     -- a foreign letter in the start
-    pub start-foreign : {i : ℕ} → ForeignAt k u i → FirstFailure (lassoChecks k u v) (refused UnknownLetter 1 i)
+    pub start-foreign : {i : ℕ} → UnknownLetterAt k u i → FirstFailure (lassoChecks k u v) (refused UnknownLetter 1 i)
     start-foreign f =
         first-passes (record { nowhere = length-passes gu }) (first-passes (record { nowhere = length-passes gv })
-        (first-fails (record { refusal = UnknownLetter; input = 1; Fails = ForeignAt k u }) f))
+        (first-fails (record { refusal = UnknownLetter; input = 1; Fails = UnknownLetterAt k u }) f))
 
     module _ (lu : (i : ℕ) → i < length u → getD u i 0 < k) where
       -- a foreign letter in the cycle
-      pub cycle-foreign : {i : ℕ} → ForeignAt k v i → FirstFailure (lassoChecks k u v) (refused UnknownLetter 2 i)
+      pub cycle-foreign : {i : ℕ} → UnknownLetterAt k v i → FirstFailure (lassoChecks k u v) (refused UnknownLetter 2 i)
       cycle-foreign f =
           first-passes (record { nowhere = length-passes gu }) (first-passes (record { nowhere = length-passes gv })
-          (first-passes (record { nowhere = letters-pass lu }) (first-fails (record { refusal = UnknownLetter; input = 2; Fails = ForeignAt k v }) f)))
+          (first-passes (record { nowhere = letters-pass lu }) (first-fails (record { refusal = UnknownLetter; input = 2; Fails = UnknownLetterAt k v }) f)))
 
       -- two good words
       pub good-lasso : ((i : ℕ) → i < length v → getD v i 0 < k) → GoodLasso k u v
       good-lasso lv = record {
         start = record { some = gu .some; short = gu .short; letters = lu };
         cycle = record { some = gv .some; short = gv .short; letters = lv };
-        verdict =
+        refusal =
             first-passes (record { nowhere = length-passes gu }) (first-passes (record { nowhere = length-passes gv })
             (first-passes (record { nowhere = letters-pass lu }) (first-passes (record { nowhere = letters-pass lv }) none-left)));
       }

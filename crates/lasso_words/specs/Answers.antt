@@ -17,7 +17,7 @@ pub record GoodWord (k : ℕ) (w : List ℕ) : Type 0 where
 pub record GoodLasso (k : ℕ) (u v : List ℕ) : Type 0 where
   pub start : GoodWord k u
   pub cycle : GoodWord k v
-  pub verdict : FirstFailure (lassoChecks k u v) passed
+  pub refusal : FirstFailure (lassoChecks k u v) passed
 
 abbrev pub LassoAnswer : ℕ → List ℕ → List ℕ → LassoFault → Type 0
 LassoAnswer k u v Nothing = GoodLasso k u v

@@ -17,12 +17,12 @@ pub pairs-small : {n : ℕ} → n ≤ 64 → n * n ≤ 4096
 pairs-small h = mul-le-mul h h
 
 -- where the number of (s, e) stands: each step of the way there is small, and both bytes are inside
-pub record CellPlace (n s e : ℕ) (bytes : List ℕ) : Type 0 where
+pub record CellNeeds (n s e : ℕ) (bytes : List ℕ) : Type 0 where
   pub below : s * n + e < n * n
   pub small : n * n ≤ 4096
   pub inside : 2 * (s * n + e) + 1 < length bytes
 
-pub cell-place : {n s e : ℕ} {bytes : List ℕ} → n ≤ 64 → s < n → e < n → 2 * (n * n) ≤ length bytes → CellPlace n s e bytes
+pub cell-place : {n s e : ℕ} {bytes : List ℕ} → n ≤ 64 → s < n → e < n → 2 * (n * n) ≤ length bytes → CellNeeds n s e bytes
 cell-place h hs he long =
     let b = digits-lt hs he in
     record { below = b; small = pairs-small h; inside = omega arith }

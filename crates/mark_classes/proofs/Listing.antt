@@ -25,7 +25,7 @@ use Rattle.mark_classes.proofs.Counting.{class-counts}
 -- a short buffer is refused, and both are left as they came
 pub out-short : (bytes out scratch : List ℕ) → length out < classesSize → ListPromise bytes out out scratch scratch (Refused BufferTooShort 1 0)
 out-short bytes out scratch h = record {
-  verdict = buffer-short h;
+  refusal = buffer-short h;
   answered = refl;
   scratch = short-left classesSize out scratch h;
 }
@@ -37,18 +37,18 @@ module _ (bytes entry mid : List ℕ) (answer : Checked) (known : CheckPromise 1
 
   -- its table
   pub listed-table : Table bytes (shape .elements) (shape .letters)
-  listed-table = shape-table (rule-known .scratch .shape-is) (called-good 1 bytes entry (rule-known .verdict) .table)
+  listed-table = shape-table (rule-known .scratch .shape-is) (called-good 1 bytes entry (rule-known .refusal) .table)
 
   -- which is lawful
   pub listed-lawful : Lawful (morphismAt bytes (shape .elements) (shape .letters))
-  listed-lawful = subst Lawful (sym (shape-morphism (rule-known .scratch .shape-is))) (called-good 1 bytes entry (rule-known .verdict) .lawful)
+  listed-lawful = subst Lawful (sym (shape-morphism (rule-known .scratch .shape-is))) (called-good 1 bytes entry (rule-known .refusal) .lawful)
 
 module _ (bytes out entry mid : List ℕ) (answer : Checked) (long : classesSize ≤ length out) (known : CheckPromise 1 bytes entry mid answer) where
   -- the check's refusal is handed on
   pub listed-refused : {r : Refusal} {input place : ℕ} → answer ≡ Checked-refused r input place → ListPromise bytes out out entry mid (Refused r input place)
   listed-refused e =
       let p = checked-refused 1 bytes entry mid answer known e in
-      record { verdict = buffer-long long (p .verdict); answered = refl; scratch = long-left classesSize out entry long (p .scratch) }
+      record { refusal = buffer-long long (p .refusal); answered = refl; scratch = long-left classesSize out entry long (p .scratch) }
 
   -- the classes of a checked rule are written and counted, and scratch is cleared
   pub listed-counts : {shape : Shape} {out-exit exit : List ℕ} {linked classes : ℕ} → answer ≡ Rule shape → exit ≡ replicate (length mid) 0
@@ -60,10 +60,10 @@ module _ (bytes out entry mid : List ℕ) (answer : Checked) (long : classesSize
       let same = shape-morphism (p .scratch .shape-is) in
       let t = listed-table bytes entry mid answer known e in
       record {
-        verdict = buffer-long long (p .verdict);
+        refusal = buffer-long long (p .refusal);
         answered = (
           subst (λ (m : Morphism). ClassesWritten m out out-exit) same w,
           subst (λ (m : Morphism). ClassCounts m linked classes (linked - classes)) same (class-counts (t .some) (t .small) w k),
         );
-        scratch = long-left classesSize out entry long (zeros-left 1 bytes entry (p .verdict) mid exit (checked-length (p .scratch)) z);
+        scratch = long-left classesSize out entry long (zeros-left 1 bytes entry (p .refusal) mid exit (checked-length (p .scratch)) z);
       }

@@ -11,24 +11,24 @@ use Rattle.formats.specs.Table.{morphismAt}
 use Rattle.rule_reach.specs.Reach.{placeAt, Empty, WordOrder}
 use Rattle.rule_reach.proofs.Words.{wordAt, found-word, reached-found}
 use Rattle.scratch.specs.Map.{pairsFrom}
-use Rattle.mark_spelling.specs.Spelling.{SpellPlace}
+use Rattle.mark_spelling.specs.Spelling.{SpellNeeds}
 use Rattle.promises.specs.Inclusion.{WordWritten}
 use Rattle.mark_spelling.proofs.Entries.{spell-place}
-use Rattle.mark_search.specs.Search.{Stands, EscapePlace, EscapeAnswer, EscapedAt, Escaped}
+use Rattle.mark_search.specs.Search.{MarkingAt, EscapeNeeds, EscapeAnswer, EscapedAt, Escaped}
 use Rattle.mark_search.specs.declared.Escape.{Escape}
 use Rattle.mark_search.specs.declared.Escape.the-variants.{At, Nothing as No-escape}
-use Rattle.mark_cycles.specs.Cycles.{CyclePlace, CycleWritten}
+use Rattle.mark_cycles.specs.Cycles.{CycleNeeds, CycleWritten}
 use Rattle.mark_cycles.proofs.Spelled.{cycle-place, spelled-escapes, ended-short}
-use Rattle.mark_comparison.specs.Comparison.{StartPlace, StartWritten, ComparePlace, answered-included, answered-apart, Compared}
+use Rattle.mark_comparison.specs.Comparison.{StartNeeds, StartWritten, CompareNeeds, answered-included, answered-apart, Compared}
 use Rattle.promises.specs.declared.Inclusion.the-variants.{Included as Is-included, NotIncluded}
 
 -- the first word of an element
-module _ {bytes : List ℕ} {n k : ℕ} {before queue : List ℕ} {count s : ℕ} {out : List ℕ} (table : Table bytes n k) (place : StartPlace (morphismAt bytes n k) s out)
+module _ {bytes : List ℕ} {n k : ℕ} {before queue : List ℕ} {count s : ℕ} {out : List ℕ} (table : Table bytes n k) (place : StartNeeds (morphismAt bytes n k) s out)
     (order : WordOrder bytes n k before queue count) (blank : Empty before) where
   found : 0 < placeAt queue s
   found = reached-found order (place .lawful) (place .reached .word-of s (place .inside))
 
-  pub start-place : SpellPlace queue n s out
+  pub start-place : SpellNeeds queue n s out
   start-place = spell-place order (omega (arith, blank .room, order .same-length)) (table .small) (place .inside) found (omega (arith, table .small, place .room))
 
   pub start-written : {exit : List ℕ} {r : ℕ} → WordWritten (wordAt queue (placeAt queue s)) out exit r → StartWritten (morphismAt bytes n k) s out exit r
@@ -36,9 +36,9 @@ module _ {bytes : List ℕ} {n k : ℕ} {before queue : List ℕ} {count s : ℕ
       let f = found-word order (place .lawful) (place .inside) found in
       record { found = record { word = wordAt queue (placeAt queue s); over = f .over; its-value = f .its-value; short = f .short }; written = w }
 
-module _ {m : Morphism} {entry : List ℕ} (place : ComparePlace m entry) where
+module _ {m : Morphism} {entry : List ℕ} (place : CompareNeeds m entry) where
   -- the search compares the first marking with the second
-  pub compare-search : EscapePlace m 0 4096 entry
+  pub compare-search : EscapeNeeds m 0 4096 entry
   compare-search = record {
     lawful = place .lawful;
     first-base = omega arith;
@@ -60,17 +60,17 @@ module _ {m : Morphism} {entry : List ℕ} (place : ComparePlace m entry) where
     }
 
     module _ {s i : ℕ} (e : answer ≡ At s i) where
-      escaped : (P P′ : Pairs) → Stands (m .size) P entry 0 → Stands (m .size) P′ entry 4096 → EscapedAt m P P′ s mid i
+      escaped : (P P′ : Pairs) → MarkingAt (m .size) P entry 0 → MarkingAt (m .size) P′ entry 4096 → EscapedAt m P P′ s mid i
       escaped P P′ t t′ = subst (EscapeAnswer m P P′ mid) e (r .says P P′ t t′)
 
       -- the markings stand as the table itself says
       itself : EscapedAt m (pairsFrom entry 0) (pairsFrom entry 4096) s mid i
       itself = escaped (pairsFrom entry 0) (pairsFrom entry 4096) (record { same = λ u f hu hf. refl }) (record { same = λ u f hu hf. refl })
 
-      pub start-room : {u : List ℕ} → 64 ≤ length u → StartPlace m s u
+      pub start-room : {u : List ℕ} → 64 ≤ length u → StartNeeds m s u
       start-room h = record { lawful = place .lawful; reached = place .reached; inside = itself .start-inside; room = h }
 
-      pub cycle-room : {v : List ℕ} → 4224 ≤ length v → CyclePlace (m .size) mid i v
+      pub cycle-room : {v : List ℕ} → 4224 ≤ length v → CycleNeeds (m .size) mid i v
       cycle-room h = cycle-place (place .lawful) (itself .ended) h
 
       -- a cycle escapes: with the first word of its start it is a lasso that tells the markings apart

@@ -6,13 +6,13 @@ use lib.ListN.{length, replicate}
 use Rattle.theory.specs.Rules.{Morphism, Lawful, Pairs, AllReached}
 use Rattle.theory.specs.Pairs.{LinkedOnly}
 use Rattle.theory.proofs.ShortWords.{ShortWord}
-use Rattle.mark_search.specs.Search.{Stands}
+use Rattle.mark_search.specs.Search.{MarkingAt}
 use Rattle.promises.specs.Inclusion.{WordWritten, InclusionAnswer}
 use Rattle.promises.specs.declared.Inclusion.{Inclusion}
 use Rattle.promises.specs.declared.Inclusion.the-variants.{Included as Is-included, NotIncluded}
 
 -- a table whose elements are all reached, one of them, and room for its first word
-pub record StartPlace (m : Morphism) (s : ℕ) (out : List ℕ) : Type 0 where
+pub record StartNeeds (m : Morphism) (s : ℕ) (out : List ℕ) : Type 0 where
   pub lawful : Lawful m
   pub reached : AllReached m
   pub inside : s < m .size
@@ -24,7 +24,7 @@ pub record StartWritten (m : Morphism) (s : ℕ) (entry exit : List ℕ) (r : �
   pub written : WordWritten (found .word) entry exit r
 
 -- a lawful table whose elements are all reached, and room, whatever stands behind both tables of marks
-pub record ComparePlace (m : Morphism) (scratch : List ℕ) : Type 0 where
+pub record CompareNeeds (m : Morphism) (scratch : List ℕ) : Type 0 where
   pub lawful : Lawful m
   pub reached : AllReached m
   pub room : 65536 ≤ length scratch
@@ -36,7 +36,7 @@ pub data Answered : Inclusion → Type 0 where
 
 -- two markings compared; scratch is zeros then
 pub record Compared (m : Morphism) (u-entry u-exit v-entry v-exit entry exit : List ℕ) (answer : Inclusion) : Type 0 where
-  pub answers : (P P′ : Pairs) → LinkedOnly m P → LinkedOnly m P′ → Stands (m .size) P entry 0 → Stands (m .size) P′ entry 4096
+  pub answers : (P P′ : Pairs) → LinkedOnly m P → LinkedOnly m P′ → MarkingAt (m .size) P entry 0 → MarkingAt (m .size) P′ entry 4096
       → InclusionAnswer m P P′ u-entry u-exit v-entry v-exit answer
   pub answered : Answered answer
   pub scratch : exit ≡ replicate (length entry) 0

@@ -12,12 +12,12 @@ ghost use Prim.Native.Nat.{_≤_};
 ghost use lib.ListN.{length};
 ghost use Rattle.rule_table.specs.Table.{Table};
 ghost use Rattle.formats.specs.Table.{morphismAt};
-ghost use Rattle.mark_comparison.specs.Comparison.{StartPlace, StartWritten, ComparePlace, Compared};
+ghost use Rattle.mark_comparison.specs.Comparison.{StartNeeds, StartWritten, CompareNeeds, Compared};
 
 // Writes the first word of an element, and answers how many letters it has.
 fn write_start(rule: &[u8], n: usize, k: usize, s: usize, out: &mut [u8]) -> usize
     requires { ⌜ Table (now rule) n k ⌝ }
-    requires { ⌜ StartPlace (morphismAt (now rule) n k) s (now out) ⌝ }
+    requires { ⌜ StartNeeds (morphismAt (now rule) n k) s (now out) ⌝ }
     ensures { λ r. ⌜ StartWritten (morphismAt (now (rule .entry)) n k) s (now (out .entry)) (now (out .exit)) r ⌝ }
 {
     let mut queue = [0u8; 256];
@@ -35,7 +35,7 @@ pub fn compare(
     scratch: &mut [u8],
 ) -> Inclusion
     requires { ⌜ Table (now rule) n k ⌝ }
-    requires { ⌜ ComparePlace (morphismAt (now rule) n k) (now scratch) ⌝ }
+    requires { ⌜ CompareNeeds (morphismAt (now rule) n k) (now scratch) ⌝ }
     requires { ⌜ (64 ≤ length (now u)) × (4224 ≤ length (now v)) ⌝ }
     ensures { λ r. ⌜ Compared (morphismAt (now (rule .entry)) n k) (now (u .entry)) (now (u .exit)) (now (v .entry)) (now (v .exit)) (now (scratch .entry)) (now (scratch .exit)) r ⌝ }
 {

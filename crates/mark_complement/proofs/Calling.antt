@@ -29,7 +29,7 @@ use Rattle.promises.specs.Weak.{weakCheck}
 use Rattle.mark_strong.proofs.Calling.{checked-table, checked-lawful, checked-reached, checked-linked, marks-stand, checked-room, decided-file}
 use Rattle.promises.specs.Complement.{ComplementMarks, ComplementPromise}
 use Rattle.mark_complement_marks.specs.Complement.{ComplementLaid}
-use Rattle.mark_complement.specs.Promise.{WritePlace, secondMarking, TablesWritten}
+use Rattle.mark_complement.specs.Promise.{WriteNeeds, secondMarking, TablesWritten}
 use Rattle.promises.specs.declared.Complemented.the-variants.{Rule, Refused}
 use Rattle.mark_complement.proofs.Complements.{laid-complement}
 
@@ -41,7 +41,7 @@ module _ (bytes out entry : List ℕ) where
   -- a short buffer is refused, and both are left as they came
   pub out-short : length out < ruleSize → ComplementPromise bytes out out entry entry (Refused BufferTooShort 1 0)
   out-short h = record {
-    verdict = buffer-short h;
+    refusal = buffer-short h;
     answered = refl;
     scratch = short-left ruleSize out entry h;
   }
@@ -50,7 +50,7 @@ module _ (bytes out entry : List ℕ) where
     -- the rule is refused
     pub rule-refused : {exit : List ℕ} {r : Refusal} {i place : ℕ} → CheckPromise 1 bytes entry exit (Checked-refused r i place)
         → ComplementPromise bytes out out entry exit (Refused r i place)
-    rule-refused p = record { verdict = buffer-long long (refused-before _ _ (p .verdict)); answered = refl; scratch = long-left ruleSize out entry long (p .scratch) }
+    rule-refused p = record { refusal = buffer-long long (refused-before _ _ (p .refusal)); answered = refl; scratch = long-left ruleSize out entry long (p .scratch) }
 
     module _ {shape : Shape} {mid decided : List ℕ} {answer : Bool} (p : CheckPromise 1 bytes entry mid (Checked-rule shape))
         (d : Decided (morphismAt bytes (shape .elements) (shape .letters)) mid decided answer) where
@@ -61,23 +61,23 @@ module _ (bytes out entry : List ℕ) where
       same = shape-morphism (p .scratch .shape-is)
 
       zeros : (was end : List ℕ) → length was ≡ length decided → end ≡ replicate (length was) 0 → end ≡ scratchLeft ruleSize out entry
-      zeros was end e z = long-left ruleSize out entry long (zeros-left 1 bytes entry (p .verdict) was end (e ∙ d .same-length ∙ checked-length (p .scratch)) z)
+      zeros was end e z = long-left ruleSize out entry long (zeros-left 1 bytes entry (p .refusal) was end (e ∙ d .same-length ∙ checked-length (p .scratch)) z)
 
       -- the rule is weak
       pub weak-refused : {end : List ℕ} → not answer ≡ true → end ≡ replicate (length decided) 0 → ComplementPromise bytes out out entry end (Refused NotStrong 1 0)
       weak-refused {end} n z =
           let e : answer ≡ false = sym (not-not answer) ∙ ap not n in
           record {
-            verdict = buffer-long long (passed-before _ _ (p .verdict)
+            refusal = buffer-long long (passed-before _ _ (p .refusal)
                 (first-fails (weakCheck 1 bytes) (record { weak = subst (StrongIf (morphismOf bytes) (pairsOf bytes)) e (decided-file 1 bytes entry p d); is-place = refl })));
             answered = refl;
             scratch = zeros decided end refl z;
           }
 
       module _ {laid : List ℕ} (l : ComplementLaid m decided laid) where
-        pub write-place : WritePlace (shape .letters) laid out
+        pub write-place : WriteNeeds (shape .letters) laid out
         write-place = record {
-          letters-some = omega (arith, called-good 1 bytes entry (p .verdict) .letters-some, p .scratch .shape-is .letters);
+          letters-some = omega (arith, called-good 1 bytes entry (p .refusal) .letters-some, p .scratch .shape-is .letters);
           marks-long = omega (arith, checked-room 1 bytes entry p, d .same-length, l .same-length);
           room = long;
         }
@@ -87,7 +87,7 @@ module _ (bytes out entry : List ℕ) where
           e = sym (not-not answer) ∙ ap not n
 
           strong : Strong m (pairsOf bytes)
-          strong = subst (StrongIf m (pairsOf bytes)) e (d .verdict (pairsOf bytes) (checked-linked 1 bytes entry p) (marks-stand 1 bytes entry p))
+          strong = subst (StrongIf m (pairsOf bytes)) e (d .decision (pairsOf bytes) (checked-linked 1 bytes entry p) (marks-stand 1 bytes entry p))
 
           -- the second table marks the complement
           second-marks : ComplementMarks m (pairsOf bytes) (marked (secondMarking laid))
@@ -107,7 +107,7 @@ module _ (bytes out entry : List ℕ) where
           pub complement-written : {exit end : List ℕ} {r : ℕ} → TablesWritten m laid out exit r → end ≡ replicate (length laid) 0
               → ComplementPromise bytes out exit entry end (Rule r)
           complement-written {exit} {end} {r} w z = record {
-            verdict = buffer-long long (passed-before _ _ (p .verdict)
+            refusal = buffer-long long (passed-before _ _ (p .refusal)
                 (first-passes (record { nowhere = λ place f. f .weak (subst (λ (x : Morphism). Strong x (pairsOf bytes)) same strong) }) none-left));
             answered = record {
               marks = secondMarking laid;

@@ -11,13 +11,13 @@ use Rattle.theory.specs.Rules.{Morphism}
 use Rattle.rule_table.specs.Table.{Table}
 use Rattle.formats.specs.Table.{productAt, imageAt, morphismAt}
 use Rattle.formats.specs.WrittenFile.{fileOf}
-use Rattle.rule_writer.specs.Writing.{tableMorphism, tableMarks, RulePlace, RuleWritten}
+use Rattle.rule_writer.specs.Writing.{tableMorphism, tableMarks, RuleNeeds, RuleWritten}
 use Rattle.formats.proofs.Agree.{Agree}
 use Rattle.formats.proofs.Same.{SameMarks, file-same}
 use Rattle.scratch.proofs.Parts.{part-length, part-byte}
-use Rattle.mark_complement.specs.Promise.{WritePlace, secondMarking, TablesWritten}
+use Rattle.mark_complement.specs.Promise.{WriteNeeds, secondMarking, TablesWritten}
 
-module _ {rule : List ℕ} {n k : ℕ} (table : Table rule n k) {scratch out : List ℕ} (place : WritePlace k scratch out) where
+module _ {rule : List ℕ} {n k : ℕ} (table : Table rule n k) {scratch out : List ℕ} (place : WriteNeeds k scratch out) where
   abbrev products : List ℕ
   products = take (length rule - 1) (drop 1 rule)
 
@@ -36,7 +36,7 @@ module _ {rule : List ℕ} {n k : ℕ} (table : Table rule n k) {scratch out : L
   marks-from : 4096 ≤ length scratch
   marks-from = omega (arith, place .marks-long)
 
-  pub rule-place : RulePlace (take (length rule - 1) (drop 1 rule)) (take (length rule - (2 + n * n)) (drop (2 + n * n) rule)) (take (length scratch - 4096) (drop 4096 scratch)) n k out
+  pub rule-place : RuleNeeds (take (length rule - 1) (drop 1 rule)) (take (length rule - (2 + n * n)) (drop (2 + n * n) rule)) (take (length scratch - 4096) (drop 4096 scratch)) n k out
   rule-place = record {
     some = table .some;
     small = table .small;

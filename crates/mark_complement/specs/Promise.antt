@@ -8,7 +8,7 @@ use Rattle.formats.specs.RuleChecks.{ruleSize}
 use Rattle.formats.specs.WrittenFile.{fileOf}
 
 -- a second table of marks, and room for the longest file
-pub record WritePlace (k : ℕ) (scratch out : List ℕ) : Type 0 where
+pub record WriteNeeds (k : ℕ) (scratch out : List ℕ) : Type 0 where
   pub letters-some : 1 ≤ k
   pub marks-long : 8192 ≤ length scratch
   pub room : ruleSize ≤ length out

@@ -12,13 +12,13 @@ ghost use Prim.Native.Nat.{_<_};
 ghost use lib.ListN.{length};
 ghost use Rattle.rule_table.specs.Table.{Table};
 ghost use Rattle.formats.specs.Table.{morphismAt};
-ghost use Rattle.mark_complement.specs.Promise.{WritePlace, TablesWritten};
+ghost use Rattle.mark_complement.specs.Promise.{WriteNeeds, TablesWritten};
 ghost use Rattle.promises.specs.Complement.{ComplementPromise};
 
 // Writes the rule with the marks of the second table, and answers how many bytes it has.
 fn write_marked(rule: &[u8], n: usize, k: usize, scratch: &[u8], out: &mut [u8]) -> usize
     requires { ⌜ Table (now rule) n k ⌝ }
-    requires { ⌜ WritePlace k (now scratch) (now out) ⌝ }
+    requires { ⌜ WriteNeeds k (now scratch) (now out) ⌝ }
     ensures { λ r. ⌜ TablesWritten (morphismAt (now (rule .entry)) n k) (now (scratch .entry)) (now (out .entry)) (now (out .exit)) r ⌝ }
 {
     let table = &rule[1..];

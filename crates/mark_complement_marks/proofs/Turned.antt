@@ -15,7 +15,7 @@ use Rattle.theory.proofs.Closure.{linked-test, linked-intro, linked-elim}
 use Rattle.scratch.specs.Map.{pairsFrom}
 use Rattle.mark_closure.specs.Closing.{place, Kept}
 use Rattle.mark_closure.proofs.Tables.{place-same, pair-in, pair-byte, pair-kept, kept-before, kept-after}
-use Rattle.mark_complement_marks.specs.Complement.{ComplementLaid, ByteTurned, RowTurned, RowsTurned}
+use Rattle.mark_complement_marks.specs.Complement.{ComplementLaid, ComplementByte, ComplementRow, ComplementRows}
 
 -- a test is not passed together with one that is false
 and-false : (a : Bool) → a && false ≡ false
@@ -32,16 +32,16 @@ module _ (m : Morphism) (bytes : List ℕ) (s e : ℕ) where
   not-in-table : getD bytes (place s e) 0 ≡ 0 → pairsFrom bytes 4096 s e ≡ false
   not-in-table z = T-false (pairsFrom bytes 4096 s e) (λ t. (let b = pair-byte bytes 4096 s e t in omega arith))
 
-  pub turned-in : (getD bytes (place s e) 0 ≡ 0 → ⊥) → ByteTurned m bytes s e 0
+  pub turned-in : (getD bytes (place s e) 0 ≡ 0 → ⊥) → ComplementByte m bytes s e 0
   turned-in g = record { says = sym (ap (λ (b : Bool). linked-test m s e && not b) (in-table g) ∙ and-false (linked-test m s e)); bit = omega arith }
 
-  pub turned-unlinked : (Linked m s e → ⊥) → ByteTurned m bytes s e 0
+  pub turned-unlinked : (Linked m s e → ⊥) → ComplementByte m bytes s e 0
   turned-unlinked g = record {
     says = sym (ap (λ (b : Bool). b && not (pairsFrom bytes 4096 s e)) (T-false (linked-test m s e) (λ t. g (linked-elim m s e t))));
     bit = omega arith;
   }
 
-  pub turned-new : getD bytes (place s e) 0 ≡ 0 → Linked m s e → ByteTurned m bytes s e 1
+  pub turned-new : getD bytes (place s e) 0 ≡ 0 → Linked m s e → ComplementByte m bytes s e 1
   turned-new z l = record {
     says = sym (ap (λ (b : Bool). b && not (pairsFrom bytes 4096 s e)) (T-true (linked-test m s e) (linked-intro l)) ∙ ap not (not-in-table z));
     bit = omega arith;
@@ -49,31 +49,31 @@ module _ (m : Morphism) (bytes : List ℕ) (s e : ℕ) where
 
 -- the byte to be depends on the byte that is there only
 turned-same : {m : Morphism} {s e byte : ℕ} (now entry : List ℕ) → getD now (place s e) 0 ≡ getD entry (place s e) 0
-    → ByteTurned m now s e byte → ByteTurned m entry s e byte
+    → ComplementByte m now s e byte → ComplementByte m entry s e byte
 turned-same {m} {s} {e} now entry q d = record {
   says = d .says ∙ ap (λ (b : Bool). linked-test m s e && not b) (pair-kept entry now 4096 s e q);
   bit = d .bit;
 }
 
 -- no pair of the row has its byte yet
-pub row-none : (m : Morphism) (s : ℕ) (l : List ℕ) → RowTurned m s 0 l l
+pub row-none : (m : Morphism) (s : ℕ) (l : List ℕ) → ComplementRow m s 0 l l
 row-none m s l = record { same-length = refl; row = λ e h. absurd (omega arith); others = λ i g. refl }
 
 -- one more has
 module _ {m : Morphism} {s e : ℕ} {entry now : List ℕ} {byte : ℕ} (he : e < 64) (inside : place s e < length now)
-    (l : RowTurned m s e entry now) (d : ByteTurned m now s e byte) where
+    (l : ComplementRow m s e entry now) (d : ComplementByte m now s e byte) where
   fresh : getD now (place s e) 0 ≡ getD entry (place s e) 0
   fresh = l .others (place s e) (λ a h q. let p = place-same s e s a he (omega arith) q .1 in omega arith)
 
-  stored : (a : ℕ) → Dec (a ≡ e) → a < e + 1 → ByteTurned m entry s a (getD (set now (place s e) byte) (place s a) 0)
+  stored : (a : ℕ) → Dec (a ≡ e) → a < e + 1 → ComplementByte m entry s a (getD (set now (place s e) byte) (place s a) 0)
   stored a (yes q) h =
-      subst (λ (a : ℕ). ByteTurned m entry s a (getD (set now (place s e) byte) (place s a) 0)) (sym q)
+      subst (λ (a : ℕ). ComplementByte m entry s a (getD (set now (place s e) byte) (place s a) 0)) (sym q)
       (rw (getD-set-same now (place s e) byte 0 inside) (turned-same now entry fresh d))
   stored a (no g) h =
       rw (getD-set-other now (place s e) (place s a) byte 0 (λ q. g (place-same s a s e (omega arith) he q .1)))
       (l .row a (let w : a ≢ e = g in omega arith))
 
-  pub row-more : RowTurned m s (e + 1) entry (set now (place s e) byte)
+  pub row-more : ComplementRow m s (e + 1) entry (set now (place s e) byte)
   row-more = record {
     same-length = length-set now (place s e) byte ∙ l .same-length;
     row = λ a h. stored a (ℕ-discrete a e) h;
@@ -81,20 +81,20 @@ module _ {m : Morphism} {s e : ℕ} {entry now : List ℕ} {byte : ℕ} (he : e 
   }
 
 -- no row is done
-pub rows-none : (m : Morphism) (l : List ℕ) → RowsTurned m 0 l l
+pub rows-none : (m : Morphism) (l : List ℕ) → ComplementRows m 0 l l
 rows-none m l = record { same-length = refl; rows = λ s e h. absurd (omega arith); others = λ i g. refl }
 
 -- one more is
-module _ {m : Morphism} {s : ℕ} {entry now next : List ℕ} (small : m .size ≤ 64) (l : RowsTurned m s entry now) (r : RowTurned m s (m .size) now next) where
-  row-byte : (a e : ℕ) → e < m .size → Dec (a ≡ s) → a < s + 1 → ByteTurned m entry a e (getD next (place a e) 0)
+module _ {m : Morphism} {s : ℕ} {entry now next : List ℕ} (small : m .size ≤ 64) (l : ComplementRows m s entry now) (r : ComplementRow m s (m .size) now next) where
+  row-byte : (a e : ℕ) → e < m .size → Dec (a ≡ s) → a < s + 1 → ComplementByte m entry a e (getD next (place a e) 0)
   row-byte a e he (yes q) h =
-      subst (λ (a : ℕ). ByteTurned m entry a e (getD next (place a e) 0)) (sym q)
+      subst (λ (a : ℕ). ComplementByte m entry a e (getD next (place a e) 0)) (sym q)
       (turned-same now entry (l .others (place s e) (λ b d hb hd p. let w = place-same s e b d (omega arith) (omega arith) p .0 in omega arith)) (r .row e he))
   row-byte a e he (no g) h =
       rw (r .others (place a e) (λ d hd p. g (place-same a e s d (omega arith) (omega arith) p .0)))
       (l .rows a e (let w : a ≢ s = g in omega arith) he)
 
-  pub rows-more : RowsTurned m (s + 1) entry next
+  pub rows-more : ComplementRows m (s + 1) entry next
   rows-more = record {
     same-length = r .same-length ∙ l .same-length;
     rows = λ a e h he. row-byte a e he (ℕ-discrete a s) h;
@@ -102,7 +102,7 @@ module _ {m : Morphism} {s : ℕ} {entry now next : List ℕ} (small : m .size �
   }
 
 -- all rows are
-module _ {m : Morphism} {entry exit : List ℕ} (small : m .size ≤ 64) (l : RowsTurned m (m .size) entry exit) where
+module _ {m : Morphism} {entry exit : List ℕ} (small : m .size ≤ 64) (l : ComplementRows m (m .size) entry exit) where
   rows-kept : Kept (m .size) entry exit
   rows-kept = record { same-length = l .same-length; kept = l .others }
 

@@ -24,18 +24,18 @@ pub record ComplementLaid (m : Morphism) (entry exit : List ℕ) : Type 0 where
   pub between : (i : ℕ) → ((s e : ℕ) → s < m .size → e < m .size → i ≡ 4096 + (s * 64 + e) → ⊥) → getD exit i 0 ≡ getD entry i 0
 
 -- the byte that a pair is to have: 1 where it is linked and its byte is 0, else 0
-pub record ByteTurned (m : Morphism) (bytes : List ℕ) (s e byte : ℕ) : Type 0 where
+pub record ComplementByte (m : Morphism) (bytes : List ℕ) (s e byte : ℕ) : Type 0 where
   pub says : ltb 0 byte ≡ linkedOutside m (pairsFrom bytes 4096) s e
   pub bit : byte ≤ 1
 
 -- the first pairs that begin with s have their bytes, and every other byte is as it was
-pub record RowTurned (m : Morphism) (s count : ℕ) (entry exit : List ℕ) : Type 0 where
+pub record ComplementRow (m : Morphism) (s count : ℕ) (entry exit : List ℕ) : Type 0 where
   pub same-length : length exit ≡ length entry
-  pub row : (e : ℕ) → e < count → ByteTurned m entry s e (getD exit (place s e) 0)
+  pub row : (e : ℕ) → e < count → ComplementByte m entry s e (getD exit (place s e) 0)
   pub others : (i : ℕ) → ((e : ℕ) → e < count → i ≡ place s e → ⊥) → getD exit i 0 ≡ getD entry i 0
 
 -- the pairs that begin with one of the first elements have their bytes, and every other byte is as it was
-pub record RowsTurned (m : Morphism) (count : ℕ) (entry exit : List ℕ) : Type 0 where
+pub record ComplementRows (m : Morphism) (count : ℕ) (entry exit : List ℕ) : Type 0 where
   pub same-length : length exit ≡ length entry
-  pub rows : (s e : ℕ) → s < count → e < m .size → ByteTurned m entry s e (getD exit (place s e) 0)
+  pub rows : (s e : ℕ) → s < count → e < m .size → ComplementByte m entry s e (getD exit (place s e) 0)
   pub others : (i : ℕ) → ((s e : ℕ) → s < count → e < m .size → i ≡ place s e → ⊥) → getD exit i 0 ≡ getD entry i 0

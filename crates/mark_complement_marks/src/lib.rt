@@ -4,14 +4,14 @@ ghost use Prim.Native.Nat.{_≤_, _<_};
 ghost use lib.ListN.{length};
 ghost use Rattle.rule_table.specs.Table.{Table};
 ghost use Rattle.formats.specs.Table.{morphismAt};
-ghost use Rattle.mark_complement_marks.specs.Complement.{ComplementLaid, ByteTurned, RowTurned};
+ghost use Rattle.mark_complement_marks.specs.Complement.{ComplementLaid, ComplementByte, ComplementRow};
 
 // The byte of (s, e): 1 where the pair is linked and not in the second table, else 0.
-pub fn byte_turned(rule: &[u8], n: usize, k: usize, scratch: &[u8], s: usize, e: usize) -> u8
+pub fn complement_byte(rule: &[u8], n: usize, k: usize, scratch: &[u8], s: usize, e: usize) -> u8
     requires { ⌜ Table (now rule) n k ⌝ }
     requires { ⌜ 8192 ≤ length (now scratch) ⌝ }
     requires { ⌜ (s < n) × (e < n) ⌝ }
-    ensures { λ r. ⌜ ByteTurned (morphismAt (now (rule .entry)) n k) (now (scratch .entry)) s e r ⌝ }
+    ensures { λ r. ⌜ ComplementByte (morphismAt (now (rule .entry)) n k) (now (scratch .entry)) s e r ⌝ }
 {
     if scratch[4096 + (s * 64 + e)] != 0 {
         return 0;
@@ -27,10 +27,10 @@ pub fn turn_row(rule: &[u8], n: usize, k: usize, scratch: &mut [u8], s: usize)
     requires { ⌜ Table (now rule) n k ⌝ }
     requires { ⌜ 8192 ≤ length (now scratch) ⌝ }
     requires { ⌜ s < n ⌝ }
-    ensures { λ r. ⌜ RowTurned (morphismAt (now (rule .entry)) n k) s n (now (scratch .entry)) (now (scratch .exit)) ⌝ }
+    ensures { λ r. ⌜ ComplementRow (morphismAt (now (rule .entry)) n k) s n (now (scratch .entry)) (now (scratch .exit)) ⌝ }
 {
     for e in 0..n {
-        let byte = byte_turned(rule, n, k, scratch, s, e);
+        let byte = complement_byte(rule, n, k, scratch, s, e);
         scratch[4096 + (s * 64 + e)] = byte;
     }
 }

@@ -19,7 +19,7 @@ use Rattle.mark_search_list.specs.Steps.{beforeLetter, splitMarked}
 use Rattle.mark_search.specs.Search.{Source, a-start, a-step, Entries, EndedAt}
 use Rattle.mark_search_list.proofs.Growth.{queue-few, queue-bound}
 use Rattle.mark_search.proofs.Meeting.{stateAt, value-at-element, value-at-none, after-join, before-join, before-below}
-use Rattle.mark_cycles.specs.Cycles.{Spells, spells-none, spells-more, CyclePlace}
+use Rattle.mark_cycles.specs.Cycles.{Spells, spells-none, spells-more, CycleNeeds}
 
 -- a cycle that an entry spells, with no more letters than there are entries before it
 pub record EntrySpelled (n : ℕ) (scratch : List ℕ) (i : ℕ) : Type 0 where
@@ -93,7 +93,7 @@ module _ {m : Morphism} (law : Lawful m) {P P′ : Pairs} {s : ℕ} {scratch : L
 
 module _ {m : Morphism} (law : Lawful m) {P P′ : Pairs} {s : ℕ} {scratch : List ℕ} {i : ℕ} (k : EndedAt m P P′ s scratch i) where
   -- room for the cycle in a buffer for the longest
-  pub cycle-place : {out : List ℕ} → 4224 ≤ length out → CyclePlace (m .size) scratch i out
+  pub cycle-place : {out : List ℕ} → 4224 ≤ length out → CycleNeeds (m .size) scratch i out
   cycle-place h = record {
     room = k .entries .queue .room;
     few = omega (arith, k .below, queue-few (k .entries .queue));

@@ -7,7 +7,7 @@ use lib.ListN.{length, getD, drop, set, length-set, length-append}
 use lib.Seq.{drop-cons, set-at}
 use Rattle.promises.specs.Inclusion.{WordWritten}
 use Rattle.mark_search_list.specs.Queue.{backAt, letterAt, parentAt}
-use Rattle.mark_cycles.specs.Cycles.{Spells, spells-none, spells-more, CyclePlace, CycleWritten}
+use Rattle.mark_cycles.specs.Cycles.{Spells, spells-none, spells-more, CycleNeeds, CycleWritten}
 
 -- the letters from the entry `start` to the entry i were written
 pub record CycleSoFar (n : ℕ) (scratch : List ℕ) (start : ℕ) (entry now : List ℕ) (letters i : ℕ) : Type 0 where
@@ -18,7 +18,7 @@ pub record CycleSoFar (n : ℕ) (scratch : List ℕ) (start : ℕ) (entry now : 
   pub short : letters + i ≤ start
   pub whole : (w : List ℕ) → Spells n scratch i w → Spells n scratch start (front ++ w)
 
-module _ {n : ℕ} {scratch : List ℕ} {start : ℕ} {entry : List ℕ} (place : CyclePlace n scratch start entry) where
+module _ {n : ℕ} {scratch : List ℕ} {start : ℕ} {entry : List ℕ} (place : CycleNeeds n scratch start entry) where
   -- none was
   pub cycle-start : CycleSoFar n scratch start entry entry 0 start
   cycle-start = record { front = []; counts = refl; same-length = refl; written = refl; short = omega arith; whole = λ w s. s }

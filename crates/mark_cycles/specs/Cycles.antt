@@ -13,7 +13,7 @@ pub data Spells (n : ℕ) (scratch : List ℕ) : ℕ → List ℕ → Type 0 whe
   spells-more : {i : ℕ} {w : List ℕ} → (backAt scratch i ≡ n → ⊥) → Spells n scratch (parentAt scratch i) w → Spells n scratch i (letterAt scratch i ∷ w)
 
 -- an entry whose parents come before it, and room for its cycle
-pub record CyclePlace (n : ℕ) (scratch : List ℕ) (i : ℕ) (out : List ℕ) : Type 0 where
+pub record CycleNeeds (n : ℕ) (scratch : List ℕ) (i : ℕ) (out : List ℕ) : Type 0 where
   pub room : 65536 ≤ length scratch
   pub few : i < 4225
   pub parents : (j : ℕ) → j ≤ i → (backAt scratch j ≡ n → ⊥) → parentAt scratch j < j

@@ -4,7 +4,7 @@ ghost use mathlib.Core.Path.{_≡_};
 ghost use Prim.Native.Nat.{_≤_, _<_};
 ghost use lib.ListN.{length};
 ghost use Rattle.mark_search_list.specs.Queue.{parentAt};
-ghost use Rattle.mark_cycles.specs.Cycles.{CyclePlace, CycleWritten};
+ghost use Rattle.mark_cycles.specs.Cycles.{CycleNeeds, CycleWritten};
 
 // The entry that an entry was found from.
 fn parent(scratch: &[u8], i: usize) -> usize
@@ -18,7 +18,7 @@ fn parent(scratch: &[u8], i: usize) -> usize
 
 // Writes the cycle of an entry to the front of a buffer, and answers how many letters it has.
 pub fn write_cycle(scratch: &[u8], n: usize, entry: usize, out: &mut [u8]) -> usize
-    requires { ⌜ CyclePlace n (now scratch) entry (now out) ⌝ }
+    requires { ⌜ CycleNeeds n (now scratch) entry (now out) ⌝ }
     ensures { λ r. ⌜ CycleWritten n (now (scratch .entry)) entry (now (out .entry)) (now (out .exit)) r ⌝ }
 {
     let mut i = entry;

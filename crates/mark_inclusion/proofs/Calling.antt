@@ -27,10 +27,10 @@ use Rattle.formats.specs.Calls.{checkedChecks, afterCall}
 use Rattle.rule_check.proofs.Calls.{zeros-left, checked-length, shape-morphism}
 use Rattle.rule_check.proofs.MarksPassed.{passed-marks, marking-linked}
 use Rattle.scratch.specs.Map.{pairsFrom}
-use Rattle.mark_search.specs.Search.{Stands}
+use Rattle.mark_search.specs.Search.{MarkingAt}
 use Rattle.mark_strong.proofs.Calling.{checked-table, checked-lawful, checked-reached, checked-linked, marks-stand, checked-room}
 use Rattle.mark_inclusion.specs.Laying.{SecondLaid, LaidAnswer}
-use Rattle.mark_comparison.specs.Comparison.{ComparePlace, Answered, answered-included, answered-apart, Compared}
+use Rattle.mark_comparison.specs.Comparison.{CompareNeeds, Answered, answered-included, answered-apart, Compared}
 use Rattle.promises.specs.Inclusion.{InclusionAnswer, startSize, cycleSize, secondPairs, inclusionChecks, inclusionVerdict, inclusionLeft, InclusionPromise}
 use Rattle.promises.specs.declared.Inclusion.{Inclusion}
 use Rattle.promises.specs.declared.Inclusion.the-variants.{Refused}
@@ -40,7 +40,7 @@ module _ (bytes second u v entry : List ℕ) where
   -- a short buffer is refused, and all are left as they came
   pub start-short : length u < startSize → InclusionPromise bytes second u u v v entry entry (Refused BufferTooShort 1 0)
   start-short h = record {
-    verdict = buffer-short h;
+    refusal = buffer-short h;
     answered = record { start-kept = refl; cycle-kept = refl };
     scratch = sym (simp (lt-ltb (length u) startSize h));
   }
@@ -48,7 +48,7 @@ module _ (bytes second u v entry : List ℕ) where
   module _ (long : startSize ≤ length u) where
     pub cycle-short : length v < cycleSize → InclusionPromise bytes second u u v v entry entry (Refused BufferTooShort 1 0)
     cycle-short h = record {
-      verdict = buffer-long long (buffer-short h);
+      refusal = buffer-long long (buffer-short h);
       answered = record { start-kept = refl; cycle-kept = refl };
       scratch = sym (simp (le-ltb (length u) startSize long, lt-ltb (length v) cycleSize h));
     }
@@ -64,7 +64,7 @@ module _ (bytes second u v entry : List ℕ) where
       pub rule-refused : {exit : List ℕ} {r : Refusal} {i place : ℕ} → CheckPromise 1 bytes entry exit (Checked-refused r i place)
           → InclusionPromise bytes second u u v v entry exit (Refused r i place)
       rule-refused p = record {
-        verdict = after-buffers (refused-before _ _ (p .verdict));
+        refusal = after-buffers (refused-before _ _ (p .refusal));
         answered = record { start-kept = refl; cycle-kept = refl };
         scratch = left (p .scratch);
       }
@@ -77,7 +77,7 @@ module _ (bytes second u v entry : List ℕ) where
         second-room = checked-room 1 bytes entry p
 
         zeros : (was end : List ℕ) → length was ≡ length mid → end ≡ replicate (length was) 0 → end ≡ inclusionLeft u v entry
-        zeros was end e z = left (zeros-left 1 bytes entry (p .verdict) was end (e ∙ checked-length (p .scratch)) z)
+        zeros was end e z = left (zeros-left 1 bytes entry (p .refusal) was end (e ∙ checked-length (p .scratch)) z)
 
         module _ (answer : Fault) (verdict : FaultAnswer (λ input. secondMarksChecks input bytes second) answer) (laid : List ℕ)
             (l : LaidAnswer second (shape .elements) mid laid answer) where
@@ -85,7 +85,7 @@ module _ (bytes second u v entry : List ℕ) where
           pub second-refused : {end : List ℕ} {r : Refusal} {place : ℕ} → answer ≡ Fault-refused r place → end ≡ replicate (length laid) 0
               → InclusionPromise bytes second u u v v entry end (Refused r 2 place)
           second-refused {end} e z = record {
-            verdict = after-buffers (passed-before _ _ (p .verdict) (subst (FaultAnswer (λ input. secondMarksChecks input bytes second)) e verdict 2));
+            refusal = after-buffers (passed-before _ _ (p .refusal) (subst (FaultAnswer (λ input. secondMarksChecks input bytes second)) e verdict 2));
             answered = record { start-kept = refl; cycle-kept = refl };
             scratch = zeros laid end (subst (LaidAnswer second (shape .elements) mid laid) e l) z;
           }
@@ -98,7 +98,7 @@ module _ (bytes second u v entry : List ℕ) where
             second-laid = subst (LaidAnswer second (shape .elements) mid laid) e l
 
             -- both tables of marks stand
-            pub compare-place : ComparePlace m laid
+            pub compare-place : CompareNeeds m laid
             compare-place = record {
               lawful = checked-lawful 1 bytes entry p;
               reached = checked-reached 1 bytes entry p;
@@ -113,17 +113,17 @@ module _ (bytes second u v entry : List ℕ) where
                 subst (λ (x : Morphism). LinkedOnly x (secondPairs second)) (sym (shape-morphism (p .scratch .shape-is)))
                 (marking-linked second 0 (passed-marks 2 (twoBytes second 0) (passes-tail rest)))
 
-            second-stands : Stands (shape .elements) (secondPairs second) laid 4096
+            second-stands : MarkingAt (shape .elements) (secondPairs second) laid 4096
             unfolding marked level pairsFrom
             second-stands = record { same = λ s c hs hc. ap (λ (x : ℕ). leb 1 x) (sym (second-laid .mark s c hs hc)) }
 
-            first-stands : Stands (shape .elements) (pairsOf bytes) laid 0
+            first-stands : MarkingAt (shape .elements) (pairsOf bytes) laid 0
             first-stands = moved-marks (checked-table 1 bytes entry p .small) (second-laid .before) (marks-stand 1 bytes entry p)
 
             -- the markings are compared
             pub both-compared : {u′ v′ end : List ℕ} {r : Inclusion} → Compared m u u′ v v′ laid end r → InclusionPromise bytes second u u′ v v′ entry end r
             both-compared {u′} {v′} {end} {r} c = record {
-              verdict = after-buffers (subst (FirstFailure _) (sym (no-refusal (c .answered))) (passed-before _ _ (p .verdict) second-passed));
+              refusal = after-buffers (subst (FirstFailure _) (sym (no-refusal (c .answered))) (passed-before _ _ (p .refusal) second-passed));
               answered = subst (λ (x : Morphism). InclusionAnswer x (pairsOf bytes) (secondPairs second) u u′ v v′ r) (shape-morphism (p .scratch .shape-is))
                   (c .answers (pairsOf bytes) (secondPairs second) (checked-linked 1 bytes entry p) second-linked first-stands second-stands);
               scratch = zeros laid end (second-laid .same-length) (c .scratch);

@@ -17,7 +17,7 @@ use Rattle.rule_marks.specs.Faults.{MarksLaid}
 use Rattle.rule_second_marks.specs.SecondMarks.{MarksSpace, SecondAnswer}
 use Rattle.sections.specs.Answers.{PartZeroed}
 use Rattle.scratch.specs.Map.{pairsFrom, secondBase, tablesEnd}
-use Rattle.mark_search.specs.Search.{Stands}
+use Rattle.mark_search.specs.Search.{MarkingAt}
 use Rattle.mark_inclusion.specs.Laying.{SecondLaid, LaidAnswer}
 use Rattle.scratch.proofs.Parts.{part-length, part-byte, before-part, in-part}
 
@@ -80,6 +80,6 @@ module _ {entry scratch : List ℕ} (room : scratchSize ≤ length entry) (z : P
     laid-answer (Fault-refused refusal place) l = put-length l ∙ z .outside .same-length
 
 -- the first marks stand where they stood
-pub moved-marks : {n : ℕ} {P : Pairs} {entry exit : List ℕ} → n ≤ 64 → ((i : ℕ) → i < 4096 → getD exit i 0 ≡ getD entry i 0) → Stands n P entry 0 → Stands n P exit 0
+pub moved-marks : {n : ℕ} {P : Pairs} {entry exit : List ℕ} → n ≤ 64 → ((i : ℕ) → i < 4096 → getD exit i 0 ≡ getD entry i 0) → MarkingAt n P entry 0 → MarkingAt n P exit 0
 unfolding pairsFrom
 moved-marks small k t = record { same = λ s e hs he. t .same s e hs he ∙ ap (ltb 0) (sym (k (0 + (s * 64 + e)) (omega arith))) }

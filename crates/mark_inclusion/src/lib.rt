@@ -24,7 +24,7 @@ fn lay_second(rule: &[u8], n: usize, k: usize, second: &[u8], scratch: &mut [u8]
     requires { ⌜ Table (now rule) n k ⌝ }
     requires { ⌜ (n ≡ elementsOf (now rule)) × (k ≡ lettersOf (now rule)) ⌝ }
     requires { ⌜ scratchSize ≤ length (now scratch) ⌝ }
-    ensures verdict { λ r. ⌜ FaultAnswer (λ input. secondMarksChecks input (now (rule .entry)) (now (second .entry))) r ⌝ }
+    ensures refusal { λ r. ⌜ FaultAnswer (λ input. secondMarksChecks input (now (rule .entry)) (now (second .entry))) r ⌝ }
     ensures laid { λ r. ⌜ LaidAnswer (now (second .entry)) n (now (scratch .entry)) (now (scratch .exit)) r ⌝ }
 {
     zero_part(scratch, 4096, 8192);

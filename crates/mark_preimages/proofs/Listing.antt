@@ -10,11 +10,11 @@ use lib.ListN.{length, getD, set, length-set}
 use lib.Seq.{getD-set-same, getD-set-other}
 use Rattle.theory.specs.Rules.{Morphism}
 use Rattle.scratch.specs.Preimages.{afterLetter, LastBelow, firstAt, nextAt, Listed, PreimagesRoom, KeptBut, PreimagesListed}
-use Rattle.mark_preimages.specs.Listing.{ValuePlace, ValueListed, LetterRoom, OthersKept, LetterListed, LettersListed}
+use Rattle.mark_preimages.specs.Listing.{ValueNeeds, ValueListed, LetterRoom, OthersKept, LetterListed, LettersListed}
 use Rattle.mark_preimages.proofs.LastBelow.{last-none, last-found, last-kept}
 
 -- the two stores of a value
-pub value-listed : {l : List ℕ} {a c x : ℕ} → ValuePlace l a c x
+pub value-listed : {l : List ℕ} {a c x : ℕ} → ValueNeeds l a c x
     → ValueListed l (set (set l (59392 + (a * 65 + c)) (getD l (57344 + (a * 65 + x)) 0)) (57344 + (a * 65 + x)) (c + 1)) a c x
 unfolding firstAt nextAt
 value-listed {l} {a} {c} {x} p =

@@ -7,7 +7,7 @@ use Rattle.theory.specs.Rules.{Morphism}
 use Rattle.scratch.specs.Preimages.{firstAt, nextAt, Listed, KeptBut}
 
 -- a letter, a value and an element whose bytes stand within the lists
-pub record ValuePlace (scratch : List ℕ) (a c x : ℕ) : Type 0 where
+pub record ValueNeeds (scratch : List ℕ) (a c x : ℕ) : Type 0 where
   pub room : 61440 ≤ length scratch
   pub letter : a < 16
   pub value : c < 65

@@ -9,7 +9,7 @@ ghost use Prim.Native.Nat.{_+_, _<_};
 ghost use Rattle.rule_table.specs.Table.{Table};
 ghost use Rattle.formats.specs.Table.{morphismAt};
 ghost use Rattle.scratch.specs.Preimages.{afterLetter, PreimagesRoom, PreimagesListed};
-ghost use Rattle.mark_preimages.specs.Listing.{ValuePlace, ValueListed, LetterRoom, LetterListed};
+ghost use Rattle.mark_preimages.specs.Listing.{ValueNeeds, ValueListed, LetterRoom, LetterListed};
 
 // The element of the value with number c and then the letter a.
 fn after_letter(rule: &[u8], n: usize, k: usize, a: usize, c: usize) -> usize
@@ -26,7 +26,7 @@ fn after_letter(rule: &[u8], n: usize, k: usize, a: usize, c: usize) -> usize
 
 // Puts the value c in front of the list of the letter a and the element x.
 fn list_value(scratch: &mut [u8], a: usize, c: usize, x: usize)
-    requires { ⌜ ValuePlace (now scratch) a c x ⌝ }
+    requires { ⌜ ValueNeeds (now scratch) a c x ⌝ }
     ensures { λ r. ⌜ ValueListed (now (scratch .entry)) (now (scratch .exit)) a c x ⌝ }
 {
     scratch[59392 + (a * 65 + c)] = scratch[57344 + (a * 65 + x)];

@@ -13,7 +13,7 @@ use Rattle.sections.specs.Answers.{PartZeroed}
 use Rattle.scratch.specs.Map.{pairsFrom, statesBase, listsEnd}
 use Rattle.scratch.specs.Preimages.{Preimages, PreimagesRoom, KeptBut, PreimagesListed}
 use Rattle.mark_search_list.specs.Queue.{seenAt, Kept}
-use Rattle.mark_search.specs.Search.{Stands, SearchPlace, Searched, AllPlace, EscapePlace, Escaped}
+use Rattle.mark_search.specs.Search.{MarkingAt, SearchNeeds, Searched, AllNeeds, EscapeNeeds, Escaped}
 use Rattle.mark_search.specs.declared.Ended.{Ended}
 use Rattle.mark_search.specs.declared.Ended.the-variants.{At, Nothing}
 use Rattle.mark_search.specs.declared.Escape.{Escape}
@@ -23,7 +23,7 @@ use Rattle.mark_search_list.proofs.Taking.{preimages-kept}
 
 -- a set of pairs that stands in a table in front of the worklist stays there
 pub stands-kept : {n : ℕ} {P : Pairs} {entry exit : List ℕ} (base : ℕ) → n ≤ 64 → base ≤ 4096 → ((i : ℕ) → i < 8192 → getD exit i 0 ≡ getD entry i 0)
-    → Stands n P entry base → Stands n P exit base
+    → MarkingAt n P entry base → MarkingAt n P exit base
 unfolding pairsFrom
 stands-kept base small h k t = record { same = λ s e hs he. t .same s e hs he ∙ ap (ltb 0) (sym (k (base + (s * 64 + e)) (omega arith))) }
 
@@ -31,14 +31,14 @@ stands-kept base small h k t = record { same = λ s e hs he. t .same s e hs he �
 pub record SearchedTo (m : Morphism) (first second s : ℕ) (entry now : List ℕ) : Type 0 where
   pub kept : Kept entry now
   pub seen : (c : ℕ) → c < 4225 → seenAt now c ≤ s
-  pub none : (P P′ : Pairs) → Stands (m .size) P entry first → Stands (m .size) P′ entry second → (t : ℕ) → t < s → (v : List ℕ) → Escapes m P P′ t v → ⊥
+  pub none : (P P′ : Pairs) → MarkingAt (m .size) P entry first → MarkingAt (m .size) P′ entry second → (t : ℕ) → t < s → (v : List ℕ) → Escapes m P P′ t v → ⊥
 
-module _ {m : Morphism} {first second : ℕ} {entry : List ℕ} (small : m .size ≤ 64) (place : AllPlace m first second entry) where
+module _ {m : Morphism} {first second : ℕ} {entry : List ℕ} (small : m .size ≤ 64) (place : AllNeeds m first second entry) where
   pub searched-start : SearchedTo m first second 0 entry entry
   searched-start = record { kept = kept-refl entry; seen = place .unseen; none = λ P P′ t t′ u h. absurd (omega arith) }
 
   module _ {s : ℕ} {now : List ℕ} (k : SearchedTo m first second s entry now) where
-    pub next-place : s < m .size → SearchPlace m first second s now
+    pub next-place : s < m .size → SearchNeeds m first second s now
     next-place h = record {
       lawful = place .lawful;
       start-inside = h;
@@ -49,11 +49,11 @@ module _ {m : Morphism} {first second : ℕ} {entry : List ℕ} (small : m .size
       unseen = k .seen;
     }
 
-    module _ (P P′ : Pairs) (t : Stands (m .size) P entry first) (t′ : Stands (m .size) P′ entry second) where
-      first-stands : Stands (m .size) P now first
+    module _ (P P′ : Pairs) (t : MarkingAt (m .size) P entry first) (t′ : MarkingAt (m .size) P′ entry second) where
+      first-stands : MarkingAt (m .size) P now first
       first-stands = stands-kept first small (place .first-base) (k .kept .marks) t
 
-      second-stands : Stands (m .size) P′ now second
+      second-stands : MarkingAt (m .size) P′ now second
       second-stands = stands-kept second small (place .second-base) (k .kept .marks) t′
 
     -- the search at s ends at an entry
@@ -80,7 +80,7 @@ module _ {m : Morphism} {first second : ℕ} {entry : List ℕ} (small : m .size
           none = λ P P′ t t′ u h v. go P P′ t t′ u v (d .ends P P′ (first-stands P P′ t t′) (second-stands P P′ t t′)) (below-cases (omega arith));
         }
       where
-        go : (P P′ : Pairs) → Stands (m .size) P entry first → Stands (m .size) P′ entry second → (u : ℕ) (v : List ℕ)
+        go : (P P′ : Pairs) → MarkingAt (m .size) P entry first → MarkingAt (m .size) P′ entry second → (u : ℕ) (v : List ℕ)
             → ((w : List ℕ) → Escapes m P P′ s w → ⊥) → (u ≡ s) ⊎ (u < s) → Escapes m P P′ u v → ⊥
         go P P′ t t′ u v d (inl p) x = d v (subst (λ (y : ℕ). Escapes m P P′ y v) p x)
         go P P′ t t′ u v d (inr l) x = k .none P P′ t t′ u l v x
@@ -95,13 +95,13 @@ module _ {m : Morphism} {first second : ℕ} {entry : List ℕ} (small : m .size
     }
 
 -- with the states and the lists of preimages made blank first, and the lists made then
-module _ {m : Morphism} {first second : ℕ} {entry blank : List ℕ} (small : m .size ≤ 64) (place : EscapePlace m first second entry)
+module _ {m : Morphism} {first second : ℕ} {entry blank : List ℕ} (small : m .size ≤ 64) (place : EscapeNeeds m first second entry)
     (z : PartZeroed statesBase listsEnd entry blank) where
   pub preimages-room : PreimagesRoom blank
   preimages-room = record { room = omega (arith, place .room, z .outside .same-length); blank = λ i h l. z .zeros i (omega arith) l }
 
   module _ {mid : List ℕ} (l : PreimagesListed m blank mid) where
-    pub all-place : AllPlace m first second mid
+    pub all-place : AllNeeds m first second mid
     unfolding seenAt
     all-place = record {
       lawful = place .lawful;
@@ -123,5 +123,5 @@ module _ {m : Morphism} {first second : ℕ} {entry blank : List ℕ} (small : m
         same : (i : ℕ) → i < 8192 → getD mid i 0 ≡ getD entry i 0
         same i h = l .kept .before i (omega arith) ∙ z .outside .before i (omega arith)
 
-        moved : {P : Pairs} (base : ℕ) → base ≤ 4096 → Stands (m .size) P entry base → Stands (m .size) P mid base
+        moved : {P : Pairs} (base : ℕ) → base ≤ 4096 → MarkingAt (m .size) P entry base → MarkingAt (m .size) P mid base
         moved base h t = stands-kept base small h same t

@@ -22,7 +22,7 @@ use Rattle.scratch.specs.Map.{pairsFrom}
 use Rattle.scratch.specs.Preimages.{afterLetter}
 use Rattle.mark_search_list.specs.Queue.{frontAt, backAt, letterAt, parentAt, Queue, HasState}
 use Rattle.mark_search_list.specs.Steps.{beforeLetter, Takes, splitMarked}
-use Rattle.mark_search.specs.Search.{Stands, Source, a-start, a-step, Entries, Tried}
+use Rattle.mark_search.specs.Search.{MarkingAt, Source, a-start, a-step, Entries, Tried}
 use Rattle.mark_search_list.proofs.Values.{before-element, before-none, turned-element, turned-none}
 
 -- the state of an entry
@@ -67,7 +67,7 @@ module _ {m : Morphism} (law : Lawful m) where
   turned-below x y h = ⊎-elim (λ l. rw (turned-none m x y l) h) (λ l. rw (turned-element m x y l) (law .closed y x l h)) (le-or-lt (m .size) y)
 
   -- the pair of a split is one of elements, so any set of pairs that stands in the table says the same of it
-  pub split-inside : {P : Pairs} {scratch : List ℕ} {base s x : ℕ} (y : ℕ) → Stands (m .size) P scratch base → s < m .size → x < m .size
+  pub split-inside : {P : Pairs} {scratch : List ℕ} {base s x : ℕ} (y : ℕ) → MarkingAt (m .size) P scratch base → s < m .size → x < m .size
       → splitMarked m P s x y ≡ splitMarked m (pairsFrom scratch base) s x y
   unfolding splitMarked turn-square
   split-inside {s = s} {x = x} y t hs hx =
@@ -75,7 +75,7 @@ module _ {m : Morphism} (law : Lawful m) where
 
 -- the sources under other sets of pairs that stand in the tables
 module _ {m : Morphism} (law : Lawful m) {P P′ : Pairs} {first second s : ℕ} {entry : List ℕ} (hs : s < m .size)
-    (t : Stands (m .size) P entry first) (t′ : Stands (m .size) P′ entry second) where
+    (t : MarkingAt (m .size) P entry first) (t′ : MarkingAt (m .size) P′ entry second) where
   source-as : {scratch : List ℕ} {i : ℕ} → Source m (pairsFrom entry first) (pairsFrom entry second) s scratch i → Source m P P′ s scratch i
   source-as (a-start f k b) = a-start f (subst T (sym (t .same s _ hs f)) k) b
   source-as (a-step p l f a b u) = a-step p l f a b (λ k. u (subst T (split-inside law _ t′ hs f) k))

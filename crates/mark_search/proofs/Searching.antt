@@ -14,8 +14,8 @@ use Rattle.theory.proofs.Escapes.{Escapes}
 use Rattle.scratch.specs.Map.{pairsFrom}
 use Rattle.scratch.specs.Preimages.{afterLetter, Preimages}
 use Rattle.mark_search_list.specs.Queue.{frontAt, backAt, letterAt, parentAt, seenAt, Queue, HasState, Kept, SameEntry, Grown}
-use Rattle.mark_search_list.specs.Steps.{BeginPlace, Begun, ExpandPlace, beforeLetter, FoundFrom, Takes, splitMarked, Visited}
-use Rattle.mark_search.specs.Search.{Stands, Source, a-start, a-step, Entries, EndedAt, Tried, Searching, SearchPlace, RunPlace, Searched}
+use Rattle.mark_search_list.specs.Steps.{BeginNeeds, Begun, ExpandNeeds, beforeLetter, FoundFrom, Takes, splitMarked, Visited}
+use Rattle.mark_search.specs.Search.{MarkingAt, Source, a-start, a-step, Entries, EndedAt, Tried, Searching, SearchNeeds, RunNeeds, Searched}
 use Rattle.mark_search.specs.declared.Ended.{Ended}
 use Rattle.mark_search.specs.declared.Ended.the-variants.{At, Nothing}
 use Rattle.mark_search_list.proofs.Growth.{kept-refl, kept-trans, grown-trans, state-grown, queue-few}
@@ -39,14 +39,14 @@ source-grown {m} {P} {P′} {s} {i = i} {entry = entry} {exit = exit} g h (a-ste
         (rw (e .parent, d .back, e .letter, e .back) b) (rw (e .parent, d .front, d .back) u)
 
 -- the marks and the lists stand, and no state was found for s
-module _ {m : Morphism} {first second s : ℕ} {entry : List ℕ} (place : SearchPlace m first second s entry) where
+module _ {m : Morphism} {first second s : ℕ} {entry : List ℕ} (place : SearchNeeds m first second s entry) where
   abbrev P : Pairs
   P = pairsFrom entry first
 
   abbrev P′ : Pairs
   P′ = pairsFrom entry second
 
-  pub begin-place : m .size ≤ 64 → BeginPlace (m .size) s entry first 0
+  pub begin-place : m .size ≤ 64 → BeginNeeds (m .size) s entry first 0
   begin-place small = record { queue = queue-none small (place .start-inside) (place .room) (place .unseen); base = place .first-base }
 
   -- the entries that the search begins with
@@ -64,7 +64,7 @@ module _ {m : Morphism} {first second s : ℕ} {entry : List ℕ} (place : Searc
       same-mark : {e : ℕ} → e < m .size → pairsFrom now first s e ≡ P s e
       same-mark h = pairs-kept first (b .grown .kept) (place .first-base) (omega (arith, b .grown .queue .small, place .start-inside)) (omega (arith, b .grown .queue .small))
 
-  pub place-begun : {now : List ℕ} {count : ℕ} → Begun (m .size) s P (m .size) entry now count → RunPlace m first second s
+  pub place-begun : {now : List ℕ} {count : ℕ} → Begun (m .size) s P (m .size) entry now count → RunNeeds m first second s
   place-begun b = record { lawful = place .lawful; start-inside = place .start-inside; first-base = place .first-base; second-base = place .second-base }
 
   -- what the entries after the beginning find holds of the marks before it
@@ -79,11 +79,11 @@ module _ {m : Morphism} {first second s : ℕ} {entry : List ℕ} (place : Searc
       small : m .size ≤ 64
       small = b .grown .queue .small
 
-      moved : {Q : Pairs} (base : ℕ) → base ≤ 4096 → Stands (m .size) Q entry base → Stands (m .size) Q now base
+      moved : {Q : Pairs} (base : ℕ) → base ≤ 4096 → MarkingAt (m .size) Q entry base → MarkingAt (m .size) Q now base
       moved base h t = record { same = λ u e hu he. t .same u e hu he ∙ sym (pairs-kept base (b .grown .kept) h (omega arith) (omega arith)) }
 
 -- the loop over the entries
-module _ {m : Morphism} {first second s : ℕ} {entry : List ℕ} (place : RunPlace m first second s) where
+module _ {m : Morphism} {first second s : ℕ} {entry : List ℕ} (place : RunNeeds m first second s) where
   module _ {now : List ℕ} {count at : ℕ} (k : Searching m (pairsFrom entry first) (pairsFrom entry second) s entry now count at) where
     queue : Queue (m .size) s now count
     queue = k .grown .queue
@@ -96,7 +96,7 @@ module _ {m : Morphism} {first second s : ℕ} {entry : List ℕ} (place : RunPl
     searching-room = queue .room
 
     -- the entry at hand has an element in front
-    pub visit-place : at < count → (getD now (8192 + at) 0 ≡ m .size → ⊥) → ExpandPlace m s now count at
+    pub visit-place : at < count → (getD now (8192 + at) 0 ≡ m .size → ⊥) → ExpandNeeds m s now count at
     unfolding frontAt
     visit-place h f = record {
       queue = queue;
@@ -108,7 +108,7 @@ module _ {m : Morphism} {first second s : ℕ} {entry : List ℕ} (place : RunPl
     same-split : {x : ℕ} (y : ℕ) → x < m .size → splitMarked m (pairsFrom now second) s x y ≡ splitMarked m (pairsFrom entry second) s x y
     same-split y h = sym (split-inside (place .lawful) y stands (place .start-inside) h)
       where
-        stands : Stands (m .size) (pairsFrom entry second) now second
+        stands : MarkingAt (m .size) (pairsFrom entry second) now second
         stands = record {
           same = λ u e hu he. sym (pairs-kept second (k .grown .kept) (place .second-base) (omega (arith, queue .small)) (omega (arith, queue .small)));
         }

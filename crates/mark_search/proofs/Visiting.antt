@@ -8,10 +8,10 @@ use lib.ListN.{length, getD}
 use lib.Dec.{T}
 use Rattle.theory.specs.Rules.{Morphism, Pairs}
 use Rattle.mark_search_list.specs.Queue.{frontAt, backAt}
-use Rattle.mark_search_list.specs.Steps.{ExpandPlace, Expanded, splitMarked, Visited}
+use Rattle.mark_search_list.specs.Steps.{ExpandNeeds, Expanded, splitMarked, Visited}
 use Rattle.mark_search_list.proofs.Taking.{found-none}
 
-module _ {m : Morphism} {s : ℕ} {entry : List ℕ} {count from : ℕ} (P : Pairs) (place : ExpandPlace m s entry count from) {b : Bool}
+module _ {m : Morphism} {s : ℕ} {entry : List ℕ} {count from : ℕ} (P : Pairs) (place : ExpandNeeds m s entry count from) {b : Bool}
     (answer : b ≡ splitMarked m P s (getD entry (8192 + from) 0) (getD entry (16384 + from) 0)) where
   is-answer : b ≡ splitMarked m P s (frontAt entry from) (backAt entry from)
   unfolding frontAt backAt

@@ -16,7 +16,7 @@ use Rattle.mark_search.specs.declared.Ended.{Ended}
 use Rattle.mark_search.specs.declared.Ended.the-variants.{At, Nothing}
 
 -- a set of pairs of n elements stands in a table of marks that begins at a byte
-pub record Stands (n : ℕ) (P : Pairs) (scratch : List ℕ) (base : ℕ) : Type 0 where
+pub record MarkingAt (n : ℕ) (P : Pairs) (scratch : List ℕ) (base : ℕ) : Type 0 where
   pub same : (s e : ℕ) → s < n → e < n → P s e ≡ pairsFrom scratch base s e
 
 -- where an entry comes from: it is a cycle value that P pairs with s, or it is found from an earlier entry whose split P′ has not
@@ -56,7 +56,7 @@ pub record EndedAt (m : Morphism) (P P′ : Pairs) (s : ℕ) (scratch : List ℕ
   pub no-front : frontAt scratch i ≡ m .size
 
 -- tables of marks, the lists of preimages, and no state found for s yet
-pub record SearchPlace (m : Morphism) (first second s : ℕ) (scratch : List ℕ) : Type 0 where
+pub record SearchNeeds (m : Morphism) (first second s : ℕ) (scratch : List ℕ) : Type 0 where
   pub lawful : Lawful m
   pub start-inside : s < m .size
   pub first-base : first ≤ 4096
@@ -66,7 +66,7 @@ pub record SearchPlace (m : Morphism) (first second s : ℕ) (scratch : List ℕ
   pub unseen : (c : ℕ) → c < 4225 → seenAt scratch c ≤ s
 
 -- the same without what only its beginning asks for
-pub record RunPlace (m : Morphism) (first second s : ℕ) : Type 0 where
+pub record RunNeeds (m : Morphism) (first second s : ℕ) : Type 0 where
   pub lawful : Lawful m
   pub start-inside : s < m .size
   pub first-base : first ≤ 4096
@@ -78,12 +78,12 @@ Ends m P P′ s scratch (At i) = EndedAt m P P′ s scratch i
 Ends m P P′ s scratch Nothing = (v : List ℕ) → Escapes m P P′ s v → ⊥
 
 pub record Searched (m : Morphism) (first second s : ℕ) (entry exit : List ℕ) (answer : Ended) : Type 0 where
-  pub ends : (P P′ : Pairs) → Stands (m .size) P entry first → Stands (m .size) P′ entry second → Ends m P P′ s exit answer
+  pub ends : (P P′ : Pairs) → MarkingAt (m .size) P entry first → MarkingAt (m .size) P′ entry second → Ends m P P′ s exit answer
   pub kept : Kept entry exit
   pub seen : (c : ℕ) → c < 4225 → seenAt exit c ≤ s + 1
 
 -- tables of marks and the lists of preimages, and no state found yet
-pub record AllPlace (m : Morphism) (first second : ℕ) (scratch : List ℕ) : Type 0 where
+pub record AllNeeds (m : Morphism) (first second : ℕ) (scratch : List ℕ) : Type 0 where
   pub lawful : Lawful m
   pub first-base : first ≤ 4096
   pub second-base : second ≤ 4096
@@ -92,7 +92,7 @@ pub record AllPlace (m : Morphism) (first second : ℕ) (scratch : List ℕ) : T
   pub unseen : (c : ℕ) → c < 4225 → seenAt scratch c ≤ 0
 
 -- the same whatever stands behind the tables of marks
-pub record EscapePlace (m : Morphism) (first second : ℕ) (scratch : List ℕ) : Type 0 where
+pub record EscapeNeeds (m : Morphism) (first second : ℕ) (scratch : List ℕ) : Type 0 where
   pub lawful : Lawful m
   pub first-base : first ≤ 4096
   pub second-base : second ≤ 4096
@@ -111,6 +111,6 @@ EscapeAnswer m P P′ scratch No-escape = (s : ℕ) → s < m .size → (v : Lis
 -- the answer; the tables of marks and the bytes behind the lists of preimages are as they were
 pub record Escaped (m : Morphism) (first second : ℕ) (entry exit : List ℕ) (answer : Escape) : Type 0 where
   pub same-length : length exit ≡ length entry
-  pub says : (P P′ : Pairs) → Stands (m .size) P entry first → Stands (m .size) P′ entry second → EscapeAnswer m P P′ exit answer
+  pub says : (P P′ : Pairs) → MarkingAt (m .size) P entry first → MarkingAt (m .size) P′ entry second → EscapeAnswer m P P′ exit answer
   pub marks : (i : ℕ) → i < 8192 → getD exit i 0 ≡ getD entry i 0
   pub behind : (i : ℕ) → 61440 ≤ i → getD exit i 0 ≡ getD entry i 0

@@ -17,8 +17,8 @@ ghost use Rattle.formats.specs.Table.{morphismAt};
 ghost use Rattle.theory.proofs.Codes.{value-at};
 ghost use Rattle.theory.proofs.Turns.{turned};
 ghost use Rattle.scratch.specs.Map.{pairsFrom};
-ghost use Rattle.mark_search_list.specs.Steps.{ExpandPlace, splitMarked, Visited};
-ghost use Rattle.mark_search.specs.Search.{SearchPlace, RunPlace, Searching, Searched, AllPlace, EscapePlace, Escaped};
+ghost use Rattle.mark_search_list.specs.Steps.{ExpandNeeds, splitMarked, Visited};
+ghost use Rattle.mark_search.specs.Search.{SearchNeeds, RunNeeds, Searching, Searched, AllNeeds, EscapeNeeds, Escaped};
 
 // The value with number y and then the element x.
 fn turn(rule: &[u8], n: usize, k: usize, x: usize, y: usize) -> usize
@@ -66,7 +66,7 @@ fn visit(
     from: usize,
 ) -> usize
     requires { ⌜ Table (now rule) n k ⌝ }
-    requires { ⌜ ExpandPlace (morphismAt (now rule) n k) s (now scratch) count from ⌝ }
+    requires { ⌜ ExpandNeeds (morphismAt (now rule) n k) s (now scratch) count from ⌝ }
     requires { ⌜ second ≤ 4096 ⌝ }
     ensures { λ r. ⌜ Visited (morphismAt (now (rule .entry)) n k) (pairsFrom (now (scratch .entry)) second) s (now (scratch .entry)) count from (now (scratch .exit)) r ⌝ }
 {
@@ -96,7 +96,7 @@ fn run(
     begun: usize,
 ) -> Ended
     requires { ⌜ Table (now rule) n k ⌝ }
-    requires { ⌜ RunPlace (morphismAt (now rule) n k) first second s ⌝ }
+    requires { ⌜ RunNeeds (morphismAt (now rule) n k) first second s ⌝ }
     requires { ⌜ Searching (morphismAt (now rule) n k) (pairsFrom (now scratch) first) (pairsFrom (now scratch) second) s (now scratch) (now scratch) begun 0 ⌝ }
     ensures { λ r. ⌜ Searched (morphismAt (now (rule .entry)) n k) first second s (now (scratch .entry)) (now (scratch .exit)) r ⌝ }
 {
@@ -124,7 +124,7 @@ fn search_from(
     s: usize,
 ) -> Ended
     requires { ⌜ Table (now rule) n k ⌝ }
-    requires { ⌜ SearchPlace (morphismAt (now rule) n k) first second s (now scratch) ⌝ }
+    requires { ⌜ SearchNeeds (morphismAt (now rule) n k) first second s (now scratch) ⌝ }
     ensures { λ r. ⌜ Searched (morphismAt (now (rule .entry)) n k) first second s (now (scratch .entry)) (now (scratch .exit)) r ⌝ }
 {
     let begun = begin(scratch, n, s, first);
@@ -147,7 +147,7 @@ fn search_all(
     second: usize,
 ) -> Escape
     requires { ⌜ Table (now rule) n k ⌝ }
-    requires { ⌜ AllPlace (morphismAt (now rule) n k) first second (now scratch) ⌝ }
+    requires { ⌜ AllNeeds (morphismAt (now rule) n k) first second (now scratch) ⌝ }
     ensures { λ r. ⌜ Escaped (morphismAt (now (rule .entry)) n k) first second (now (scratch .entry)) (now (scratch .exit)) r ⌝ }
 {
     for s in 0..n {
@@ -173,7 +173,7 @@ pub fn first_escape(
     second: usize,
 ) -> Escape
     requires { ⌜ Table (now rule) n k ⌝ }
-    requires { ⌜ EscapePlace (morphismAt (now rule) n k) first second (now scratch) ⌝ }
+    requires { ⌜ EscapeNeeds (morphismAt (now rule) n k) first second (now scratch) ⌝ }
     ensures { λ r. ⌜ Escaped (morphismAt (now (rule .entry)) n k) first second (now (scratch .entry)) (now (scratch .exit)) r ⌝ }
 {
     zero_part(scratch, 49152, 59392);

@@ -13,7 +13,7 @@ use Rattle.finite.proofs.Numbers.{below-cases, le-or-lt}
 use Rattle.theory.specs.Rules.{Pairs}
 use Rattle.scratch.specs.Map.{pairsFrom}
 use Rattle.mark_search_list.specs.Queue.{frontAt, backAt, seenAt, Queue, HasState, Kept, Grown}
-use Rattle.mark_search_list.specs.Steps.{AddPlace, Added, BeginPlace, BegunWith, Begun}
+use Rattle.mark_search_list.specs.Steps.{AddNeeds, Added, BeginNeeds, BegunWith, Begun}
 use Rattle.mark_search_list.proofs.Growth.{grown-refl, grown-trans, state-grown}
 
 -- a worklist with no entry: no state was found for s yet
@@ -35,7 +35,7 @@ pub pairs-kept : {entry exit : List ℕ} (base : ℕ) {s e : ℕ} → Kept entry
 unfolding pairsFrom
 pairs-kept base {s} {e} k h hs he = ap (ltb 0) (k .marks (base + (s * 64 + e)) (omega arith))
 
-module _ {n s first count e : ℕ} {entry : List ℕ} (place : BeginPlace n s entry first count) (he : e < n) where
+module _ {n s first count e : ℕ} {entry : List ℕ} (place : BeginNeeds n s entry first count) (he : e < n) where
   -- the pair is not marked
   pub not-begun : getD entry (first + (s * 64 + e)) 0 ≤ 0 → BegunWith n s (pairsFrom entry first) e entry count entry count
   unfolding pairsFrom
@@ -60,7 +60,7 @@ module _ {n s first count e : ℕ} {entry : List ℕ} (place : BeginPlace n s en
   }
 
 module _ {n s first : ℕ} {entry : List ℕ} (base : first ≤ 4096) where
-  pub begun-start : BeginPlace n s entry first 0 → Begun n s (pairsFrom entry first) 0 entry entry 0
+  pub begun-start : BeginNeeds n s entry first 0 → Begun n s (pairsFrom entry first) 0 entry entry 0
   begun-start place = record {
     within = omega arith;
     grown = grown-refl (place .queue);
@@ -71,7 +71,7 @@ module _ {n s first : ℕ} {entry : List ℕ} (base : first ≤ 4096) where
   }
 
   module _ {e count : ℕ} {now : List ℕ} (b : Begun n s (pairsFrom entry first) e entry now count) where
-    pub begun-place : BeginPlace n s now first count
+    pub begun-place : BeginNeeds n s now first count
     begun-place = record { queue = b .grown .queue; base = base }
 
     -- one element more

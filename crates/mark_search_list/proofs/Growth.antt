@@ -14,7 +14,7 @@ use Rattle.finite.proofs.Pigeonhole.{injection-le, update, update-cases, update
 use Rattle.finite.proofs.Numbers.{below-cases, Compared, lesser, level, greater, compared}
 use Rattle.finite.proofs.Worklist.{Entry}
 use Rattle.mark_search_list.specs.Queue.{frontAt, backAt, letterAt, parentAt, stateCode, codeAt, seenAt, Queue, HasState, Kept, SameEntry, Grown}
-use Rattle.mark_search_list.specs.Steps.{StorePlace, Stored, AddPlace, Added, OnlyState}
+use Rattle.mark_search_list.specs.Steps.{StoreNeeds, Stored, AddNeeds, Added, OnlyState}
 
 -- nothing changed
 pub kept-refl : (scratch : List ℕ) → Kept scratch scratch
@@ -120,7 +120,7 @@ module _ {n s : ℕ} {scratch : List ℕ} {count : ℕ} (q : Queue n s scratch c
       other : (i : ℕ) → i < count → codeAt scratch i ≢ c
       other i l d = f (ap (seenAt scratch) (sym d) ∙ q .seen i l)
 
-module _ {n s : ℕ} {entry : List ℕ} {count x y from letter : ℕ} (place : AddPlace n s entry count x y from letter) where
+module _ {n s : ℕ} {entry : List ℕ} {count x y from letter : ℕ} (place : AddNeeds n s entry count x y from letter) where
   small-front : x ≤ 64
   small-front = omega (arith, place .queue .small, place .front-inside)
 
@@ -246,7 +246,7 @@ module _ {n s : ℕ} {entry : List ℕ} {count x y from letter : ℕ} (place : A
       }
 
 -- the same by the byte that the code reads and sets
-module _ {n s : ℕ} {entry : List ℕ} {count x y from letter : ℕ} (place : AddPlace n s entry count x y from letter) where
+module _ {n s : ℕ} {entry : List ℕ} {count x y from letter : ℕ} (place : AddNeeds n s entry count x y from letter) where
   pub add-there : getD entry (49152 + (x * 65 + y)) 0 ≡ s + 1 → Added n s entry count x y from letter entry count
   unfolding seenAt stateCode
   add-there e = added-old place e
@@ -256,7 +256,7 @@ module _ {n s : ℕ} {entry : List ℕ} {count x y from letter : ℕ} (place : A
     unfolding seenAt stateCode
     add-room = room-left place new
 
-    pub new-place : StorePlace (set entry (49152 + (x * 65 + y)) (s + 1)) count x y from letter
+    pub new-place : StoreNeeds (set entry (49152 + (x * 65 + y)) (s + 1)) count x y from letter
     new-place = record {
       room = omega (arith, length-set entry (49152 + (x * 65 + y)) (s + 1), place .queue .room);
       few = add-room;

@@ -7,7 +7,7 @@ use native.Mathlib.Omega.{arith}
 use lib.ListN.{length, getD, set, length-set}
 use lib.Seq.{getD-set-same, getD-set-other}
 use Rattle.mark_search_list.specs.Queue.{frontAt, backAt, letterAt, parentAt, SameEntry}
-use Rattle.mark_search_list.specs.Steps.{StorePlace, Stored}
+use Rattle.mark_search_list.specs.Steps.{StoreNeeds, Stored}
 
 module _ (scratch : List ℕ) (count x y from letter : ℕ) where
   abbrev pub after-stores : List ℕ
@@ -18,7 +18,7 @@ module _ (scratch : List ℕ) (count x y from letter : ℕ) where
       → (i ≡ 40960 + count → ⊥) → getD after-stores i 0 ≡ getD scratch i 0
   outside i h₁ h₂ h₃ h₄ h₅ = rw (getD-set-other, getD-set-other, getD-set-other, getD-set-other, getD-set-other)
 
-  module _ (place : StorePlace scratch count x y from letter) where
+  module _ (place : StoreNeeds scratch count x y from letter) where
     low-high : from % 256 + 256 * (from / 256) ≡ from
     low-high = omega arith
 

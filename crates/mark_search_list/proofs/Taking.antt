@@ -14,7 +14,7 @@ use Rattle.rule_table.specs.Table.{Table}
 use Rattle.formats.specs.Table.{morphismAt}
 use Rattle.scratch.specs.Preimages.{afterLetter, LastBelow, firstAt, nextAt, Listed, Preimages}
 use Rattle.mark_search_list.specs.Queue.{frontAt, backAt, letterAt, parentAt, Queue, HasState, Kept, SameEntry, Grown}
-use Rattle.mark_search_list.specs.Steps.{AddPlace, Added, ExpandPlace, beforeLetter, FoundFrom, Takes, Taken, Expanded}
+use Rattle.mark_search_list.specs.Steps.{AddNeeds, Added, ExpandNeeds, beforeLetter, FoundFrom, Takes, Taken, Expanded}
 use Rattle.mark_search_list.proofs.Growth.{grown-refl, grown-trans, state-grown, queue-few}
 use Rattle.mark_search_list.proofs.Values.{before-inside}
 
@@ -29,7 +29,7 @@ preimages-kept {m} {entry} {exit} k p = record {
 }
 
 module _ (m : Morphism) (s : ℕ) {entry : List ℕ} {count from : ℕ} where
-  pub found-none : ExpandPlace m s entry count from → FoundFrom m s entry count from entry count
+  pub found-none : ExpandNeeds m s entry count from → FoundFrom m s entry count from entry count
   found-none place = record {
     grown = grown-refl (place .queue);
     parent = λ j h l. omega arith;
@@ -70,7 +70,7 @@ pub record Taking (m : Morphism) (s : ℕ) (entry : List ℕ) (count from a : �
   pub within : rest ≤ m .size + 1
   pub done : (c : ℕ) → rest ≤ c → c ≤ m .size → afterLetter m a c ≡ frontAt entry from → HasState now total c (beforeLetter m a (backAt entry from))
 
-module _ (m : Morphism) {s : ℕ} {entry : List ℕ} {count from a : ℕ} (place : ExpandPlace m s entry count from) (ha : a < m .letters) where
+module _ (m : Morphism) {s : ℕ} {entry : List ℕ} {count from a : ℕ} (place : ExpandNeeds m s entry count from) (ha : a < m .letters) where
   -- the whole list is to be done
   pub taking-start : Taking m s entry count from a entry count (getD entry (57344 + (a * 65 + frontAt entry from)) 0)
   unfolding firstAt
@@ -87,7 +87,7 @@ module _ (m : Morphism) {s : ℕ} {entry : List ℕ} {count from a : ℕ} (place
   module _ {now : List ℕ} {total rest : ℕ} (t : Taking m s entry count from a now total rest) where
     -- the value at hand may be added
     pub taking-add : (c back : ℕ) → m .letters ≤ 16 → c + 1 ≡ rest → back ≡ beforeLetter m a (backAt entry from) → back ≤ m .size
-        → AddPlace (m .size) s now total c back from a
+        → AddNeeds (m .size) s now total c back from a
     taking-add c back few e b h = record {
       queue = t .found .grown .queue;
       front-inside = omega (arith, t .within);
@@ -147,12 +147,12 @@ module _ (m : Morphism) {s : ℕ} {entry : List ℕ} {count from a : ℕ} (place
     taking-done z = record { found = t .found; takes = record { holds = λ c h e. t .done c (omega arith) h e } }
 
 -- letter after letter
-module _ {m : Morphism} {s : ℕ} {entry : List ℕ} {count from : ℕ} (place : ExpandPlace m s entry count from) where
+module _ {m : Morphism} {s : ℕ} {entry : List ℕ} {count from : ℕ} (place : ExpandNeeds m s entry count from) where
   pub expanded-start : Expanded m s entry count from 0 entry count
   expanded-start = record { found = found-none m s place; takes = λ a h. absurd (omega arith) }
 
   module _ {a : ℕ} {now : List ℕ} {total : ℕ} (x : Expanded m s entry count from a now total) where
-    pub expanded-place : ExpandPlace m s now total from
+    pub expanded-place : ExpandNeeds m s now total from
     expanded-place = record {
       queue = x .found .grown .queue;
       preimages = preimages-kept (x .found .grown .kept) (place .preimages);

@@ -14,7 +14,7 @@ use Rattle.theory.specs.Rules.{Morphism, Lawful}
 use Rattle.theory.proofs.Codes.{value-at}
 use Rattle.theory.proofs.Turns.{turned}
 use Rattle.theory.proofs.Splits.{turn-square}
-use Rattle.rule_table.specs.Table.{Table, ProductPlace}
+use Rattle.rule_table.specs.Table.{Table, ProductNeeds}
 use Rattle.formats.specs.Table.{productAt, imageAt, morphismAt}
 use Rattle.scratch.specs.Map.{pairsFrom}
 use Rattle.mark_search_list.specs.Steps.{beforeLetter, splitMarked}
@@ -46,7 +46,7 @@ module _ (bytes : List ℕ) (n k : ℕ) (table : Table bytes n k) where
   pub product-inside : {a b r : ℕ} → a < n → b < n → r ≡ productAt bytes n a b → r < n
   product-inside {a} {b} ha hb e = rw e (table .products a b ha hb)
 
-  pub product-place : {a b : ℕ} → a < n → b < n → ProductPlace bytes n a b
+  pub product-place : {a b : ℕ} → a < n → b < n → ProductNeeds bytes n a b
   product-place ha hb = record { small = table .small; long = omega (arith, table .long); left-inside = ha; right-inside = hb }
 
   -- the letter's element times the value, or alone

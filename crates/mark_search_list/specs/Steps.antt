@@ -12,7 +12,7 @@ use Rattle.scratch.specs.Preimages.{afterLetter, Preimages}
 use Rattle.mark_search_list.specs.Queue.{frontAt, backAt, letterAt, parentAt, seenAt, stateCode, Queue, HasState, Kept, SameEntry, Grown}
 
 -- room for one entry more, and every number to store fits its bytes
-pub record StorePlace (scratch : List ℕ) (count x y from letter : ℕ) : Type 0 where
+pub record StoreNeeds (scratch : List ℕ) (count x y from letter : ℕ) : Type 0 where
   pub room : 65536 ≤ length scratch
   pub few : count < 4225
   pub front-small : x ≤ 64
@@ -32,7 +32,7 @@ pub record Stored (entry exit : List ℕ) (count x y from letter : ℕ) : Type 0
       → (i ≡ 40960 + count → ⊥) → getD exit i 0 ≡ getD entry i 0
 
 -- a state of n elements that may be added
-pub record AddPlace (n s : ℕ) (scratch : List ℕ) (count x y from letter : ℕ) : Type 0 where
+pub record AddNeeds (n s : ℕ) (scratch : List ℕ) (count x y from letter : ℕ) : Type 0 where
   pub queue : Queue n s scratch count
   pub front-inside : x ≤ n
   pub back-inside : y ≤ n
@@ -53,7 +53,7 @@ pub record Added (n s : ℕ) (entry : List ℕ) (count x y from letter : ℕ) (e
   pub only : OnlyState exit count total x y from letter
 
 -- a table of marks that begins at a byte in front of the worklist
-pub record BeginPlace (n s : ℕ) (scratch : List ℕ) (first count : ℕ) : Type 0 where
+pub record BeginNeeds (n s : ℕ) (scratch : List ℕ) (first count : ℕ) : Type 0 where
   pub queue : Queue n s scratch count
   pub base : first ≤ 4096
 
@@ -101,7 +101,7 @@ pub record Expanded (m : Morphism) (s : ℕ) (entry : List ℕ) (count from belo
   pub takes : (a : ℕ) → a < below → Takes m a (frontAt entry from) (backAt entry from) exit total
 
 -- an entry with an element in front, and the lists of the values that each letter takes to it
-pub record ExpandPlace (m : Morphism) (s : ℕ) (scratch : List ℕ) (count from : ℕ) : Type 0 where
+pub record ExpandNeeds (m : Morphism) (s : ℕ) (scratch : List ℕ) (count from : ℕ) : Type 0 where
   pub queue : Queue (m .size) s scratch count
   pub preimages : Preimages m scratch
   pub there : from < count

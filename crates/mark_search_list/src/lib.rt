@@ -8,11 +8,11 @@ ghost use Prim.Native.Nat.{_≤_, _<_};
 ghost use Rattle.rule_table.specs.Table.{Table};
 ghost use Rattle.formats.specs.Table.{morphismAt};
 ghost use Rattle.scratch.specs.Map.{pairsFrom};
-ghost use Rattle.mark_search_list.specs.Steps.{StorePlace, Stored, AddPlace, Added, BeginPlace, BegunWith, Begun, beforeLetter, ExpandPlace, Taken, Expanded};
+ghost use Rattle.mark_search_list.specs.Steps.{StoreNeeds, Stored, AddNeeds, Added, BeginNeeds, BegunWith, Begun, beforeLetter, ExpandNeeds, Taken, Expanded};
 
 // Writes an entry of the worklist.
 pub fn store(scratch: &mut [u8], count: usize, x: usize, y: usize, from: usize, letter: usize)
-    requires { ⌜ StorePlace (now scratch) count x y from letter ⌝ }
+    requires { ⌜ StoreNeeds (now scratch) count x y from letter ⌝ }
     ensures { λ r. ⌜ Stored (now (scratch .entry)) (now (scratch .exit)) count x y from letter ⌝ }
 {
     scratch[8192 + count] = x as u8;
@@ -33,7 +33,7 @@ pub fn add(
     from: usize,
     letter: usize,
 ) -> usize
-    requires { ⌜ AddPlace n s (now scratch) count x y from letter ⌝ }
+    requires { ⌜ AddNeeds n s (now scratch) count x y from letter ⌝ }
     ensures { λ r. ⌜ Added n s (now (scratch .entry)) count x y from letter (now (scratch .exit)) r ⌝ }
 {
     let place = 49152 + (x * 65 + y);
@@ -55,7 +55,7 @@ pub fn begin_with(
     e: usize,
     count: usize,
 ) -> usize
-    requires { ⌜ BeginPlace n s (now scratch) first count ⌝ }
+    requires { ⌜ BeginNeeds n s (now scratch) first count ⌝ }
     requires { ⌜ e < n ⌝ }
     ensures { λ r. ⌜ BegunWith n s (pairsFrom (now (scratch .entry)) first) e (now (scratch .entry)) count (now (scratch .exit)) r ⌝ }
 {
@@ -68,7 +68,7 @@ pub fn begin_with(
 
 // Adds every state that the search begins with.
 pub fn begin(scratch: &mut [u8], n: usize, s: usize, first: usize) -> usize
-    requires { ⌜ BeginPlace n s (now scratch) first 0 ⌝ }
+    requires { ⌜ BeginNeeds n s (now scratch) first 0 ⌝ }
     ensures { λ r. ⌜ Begun n s (pairsFrom (now (scratch .entry)) first) n (now (scratch .entry)) (now (scratch .exit)) r ⌝ }
 {
     let mut count = 0;
@@ -103,7 +103,7 @@ pub fn take_letter(
     a: usize,
 ) -> usize
     requires { ⌜ Table (now rule) n k ⌝ }
-    requires { ⌜ ExpandPlace (morphismAt (now rule) n k) s (now scratch) count from ⌝ }
+    requires { ⌜ ExpandNeeds (morphismAt (now rule) n k) s (now scratch) count from ⌝ }
     requires { ⌜ a < k ⌝ }
     ensures { λ r. ⌜ Taken (morphismAt (now (rule .entry)) n k) s (now (scratch .entry)) count from a (now (scratch .exit)) r ⌝ }
 {
@@ -131,7 +131,7 @@ pub fn expand(
     from: usize,
 ) -> usize
     requires { ⌜ Table (now rule) n k ⌝ }
-    requires { ⌜ ExpandPlace (morphismAt (now rule) n k) s (now scratch) count from ⌝ }
+    requires { ⌜ ExpandNeeds (morphismAt (now rule) n k) s (now scratch) count from ⌝ }
     ensures { λ r. ⌜ Expanded (morphismAt (now (rule .entry)) n k) s (now (scratch .entry)) count from k (now (scratch .exit)) r ⌝ }
 {
     let mut total = count;

@@ -10,15 +10,15 @@ use Rattle.finite.proofs.Shortlex.{snoc, length-snoc}
 use Rattle.finite.proofs.FirstWords.{word-zero, word-step, word-short}
 use Rattle.rule_reach.specs.Reach.{parentAt, letterAt, placeAt, WordOrder}
 use Rattle.rule_reach.proofs.Words.{wordAt}
-use Rattle.mark_spelling.specs.Spelling.{EntryPlace, SpellPlace}
+use Rattle.mark_spelling.specs.Spelling.{EntryNeeds, SpellNeeds}
 
 -- an entry was found from an entry before it, by a letter: its word is that entry's and then the letter
 pub record FoundFrom (queue : List ℕ) (at parent letter : ℕ) : Type 0 where
   pub earlier : parent < at
-  pub parent-place : EntryPlace queue parent
+  pub parent-place : EntryNeeds queue parent
   pub spelled : wordAt queue at ≡ snoc (wordAt queue parent) letter
 
-module _ {queue : List ℕ} {at : ℕ} (p : EntryPlace queue at) where
+module _ {queue : List ℕ} {at : ℕ} (p : EntryNeeds queue at) where
   -- there are at most 64 entries besides the first
   pub entry-small : at ≤ 64
   entry-small = omega (arith, p .within, p .words .order .few, p .words .small)
@@ -48,12 +48,12 @@ module _ {queue : List ℕ} {at : ℕ} (p : EntryPlace queue at) where
 
 -- so many letters lead from entry `place` to entry `at`
 pub record LettersCounted (queue : List ℕ) (at place letters : ℕ) : Type 0 where
-  pub here : EntryPlace queue place
+  pub here : EntryNeeds queue place
   pub counts : letters + length (wordAt queue place) ≡ length (wordAt queue at)
 
 module _ {queue : List ℕ} {at : ℕ} where
   -- no letter was passed
-  pub counted-none : EntryPlace queue at → LettersCounted queue at at 0
+  pub counted-none : EntryNeeds queue at → LettersCounted queue at at 0
   counted-none p = record { here = p; counts = omega arith }
 
   -- one letter more
@@ -67,16 +67,16 @@ module _ {queue : List ℕ} {at : ℕ} where
       }
 
   -- the letters fit a machine word
-  pub counted-small : {place letters : ℕ} → EntryPlace queue at → LettersCounted queue at place letters → letters ≤ 64
+  pub counted-small : {place letters : ℕ} → EntryNeeds queue at → LettersCounted queue at place letters → letters ≤ 64
   counted-small p c = omega (arith, c .counts, entry-short p, entry-small p)
 
   -- all letters were passed
   pub counted-all : {place letters : ℕ} → LettersCounted queue at place letters → place ≤ 0 → letters ≡ length (wordAt queue at)
   counted-all {place} c h = omega (arith, c .counts, ap length (entry-first (c .here) (let e : place ≡ 0 = omega arith in e)))
 
-module _ {queue : List ℕ} {n s : ℕ} {out : List ℕ} (p : SpellPlace queue n s out) where
+module _ {queue : List ℕ} {n s : ℕ} {out : List ℕ} (p : SpellNeeds queue n s out) where
   -- the entry of an element that was found
-  pub spell-entry : EntryPlace queue (placeAt queue s)
+  pub spell-entry : EntryNeeds queue (placeAt queue s)
   spell-entry = record { size = n; words = p .words; within = p .words .order .places .of-element s (p .inside) (p .found) .0 }
 
   -- there is room for its word
@@ -86,7 +86,7 @@ module _ {queue : List ℕ} {n s : ℕ} {out : List ℕ} (p : SpellPlace queue n
 
 -- an element that a search of words found may be spelled
 pub spell-place : {bytes : List ℕ} {n k : ℕ} {before queue : List ℕ} {count s : ℕ} {out : List ℕ} → WordOrder bytes n k before queue count
-    → 256 ≤ length queue → n ≤ 64 → s < n → 0 < placeAt queue s → n ≤ length out → SpellPlace queue n s out
+    → 256 ≤ length queue → n ≤ 64 → s < n → 0 < placeAt queue s → n ≤ length out → SpellNeeds queue n s out
 spell-place order room small inside found long = record {
   words = record { bytes = _; letters = _; before = _; count = _; order = order; small = small; room = room };
   inside = inside;

@@ -8,7 +8,7 @@ use lib.ListN.{length, getD, take, drop, set, length-set, take-append-drop, leng
 use lib.Seq.{length-take-le, take-suc, set-at}
 use Rattle.finite.proofs.Shortlex.{snoc, length-snoc}
 use Rattle.rule_reach.proofs.Words.{wordAt}
-use Rattle.mark_spelling.specs.Spelling.{EntryPlace}
+use Rattle.mark_spelling.specs.Spelling.{EntryNeeds}
 use Rattle.promises.specs.Inclusion.{WordWritten}
 use Rattle.mark_spelling.proofs.Entries.{entry-first, entry-step}
 
@@ -68,12 +68,12 @@ module _ {word front entry now : List ℕ} {left : ℕ} (w : RestWritten word fr
 
 -- the letters that lead from entry `place` to entry `at` were written, and the word of `place` is left to write
 pub record Spelling (queue : List ℕ) (at place : ℕ) (entry now : List ℕ) (left : ℕ) : Type 0 where
-  pub here : EntryPlace queue place
+  pub here : EntryNeeds queue place
   pub rest-written : RestWritten (wordAt queue at) (wordAt queue place) entry now left
   pub long : length (wordAt queue at) ≤ length entry
 
 -- no letter was written
-pub spelling-none : {queue : List ℕ} {at : ℕ} {entry : List ℕ} {letters : ℕ} → EntryPlace queue at → letters ≡ length (wordAt queue at)
+pub spelling-none : {queue : List ℕ} {at : ℕ} {entry : List ℕ} {letters : ℕ} → EntryNeeds queue at → letters ≡ length (wordAt queue at)
     → letters ≤ length entry → Spelling queue at at entry entry letters
 spelling-none p e h = record { here = p; rest-written = rest-none e; long = omega arith }
 

@@ -15,13 +15,13 @@ pub record WordsFound (queue : List ℕ) (n : ℕ) : Type 0 where
   pub room : 256 ≤ length queue
 
 -- an entry of such a worklist
-pub record EntryPlace (queue : List ℕ) (at : ℕ) : Type 0 where
+pub record EntryNeeds (queue : List ℕ) (at : ℕ) : Type 0 where
   pub size : ℕ
   pub words : WordsFound queue size
   pub within : at ≤ words .count
 
 -- an element that was found, and room for its word: no first word has more letters than there are elements
-pub record SpellPlace (queue : List ℕ) (n s : ℕ) (out : List ℕ) : Type 0 where
+pub record SpellNeeds (queue : List ℕ) (n s : ℕ) (out : List ℕ) : Type 0 where
   pub words : WordsFound queue n
   pub inside : s < n
   pub found : 0 < placeAt queue s

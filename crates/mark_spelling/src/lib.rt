@@ -6,12 +6,12 @@ ghost use Prim.Native.Nat.{_≤_};
 ghost use lib.ListN.{length};
 ghost use Rattle.rule_reach.specs.Reach.{placeAt};
 ghost use Rattle.rule_reach.proofs.Words.{wordAt};
-ghost use Rattle.mark_spelling.specs.Spelling.{EntryPlace, SpellPlace};
+ghost use Rattle.mark_spelling.specs.Spelling.{EntryNeeds, SpellNeeds};
 ghost use Rattle.promises.specs.Inclusion.{WordWritten};
 
 // How many letters the word of an entry has.
 fn count_letters(queue: &[u8], at: usize) -> usize
-    requires { ⌜ EntryPlace (now queue) at ⌝ }
+    requires { ⌜ EntryNeeds (now queue) at ⌝ }
     ensures { λ r. ⌜ r ≡ length (wordAt (now (queue .entry)) at) ⌝ }
 {
     let mut place = at;
@@ -26,7 +26,7 @@ fn count_letters(queue: &[u8], at: usize) -> usize
 
 // Writes the word of an entry, whose letters were counted, to the front of `out`: the last letter first.
 fn write_letters(queue: &[u8], at: usize, letters: usize, out: &mut [u8])
-    requires { ⌜ EntryPlace (now queue) at ⌝ }
+    requires { ⌜ EntryNeeds (now queue) at ⌝ }
     requires { ⌜ letters ≡ length (wordAt (now queue) at) ⌝ }
     requires { ⌜ letters ≤ length (now out) ⌝ }
     ensures { λ r. ⌜ WordWritten (wordAt (now (queue .entry)) at) (now (out .entry)) (now (out .exit)) letters ⌝ }
@@ -43,7 +43,7 @@ fn write_letters(queue: &[u8], at: usize, letters: usize, out: &mut [u8])
 
 // Writes the first word of an element to the front of `out`; answers how many letters it has.
 pub fn write_first_word(queue: &[u8], n: usize, s: usize, out: &mut [u8]) -> usize
-    requires { ⌜ SpellPlace (now queue) n s (now out) ⌝ }
+    requires { ⌜ SpellNeeds (now queue) n s (now out) ⌝ }
     ensures { λ r. ⌜ WordWritten (wordAt (now (queue .entry)) (placeAt (now (queue .entry)) s)) (now (out .entry)) (now (out .exit)) r ⌝ }
 {
     let at = queue[192 + s] as usize;

@@ -22,14 +22,14 @@ use Rattle.rule_check.specs.GoodRule.{GoodRule}
 use Rattle.rule_check.proofs.Calls.{scratch-long, called-good, zeros-left, checked-length, shape-morphism, shape-table}
 use Rattle.scratch.specs.Map.{pairsFrom}
 use Rattle.mark_closure.proofs.Agreement.{linked-agrees}
-use Rattle.mark_search.specs.Search.{Stands}
-use Rattle.mark_strong.specs.Deciding.{DecidePlace, StrongIf, Decided}
+use Rattle.mark_search.specs.Search.{MarkingAt}
+use Rattle.mark_strong.specs.Deciding.{DecideNeeds, StrongIf, Decided}
 use Rattle.promises.specs.Strong.{StrongPromise}
 use Rattle.promises.specs.declared.Strength.the-variants.{Strong as Is-strong, Weak, Refused}
 
 module _ (input : ℕ) (bytes entry : List ℕ) {shape : Shape} {mid : List ℕ} (p : CheckPromise input bytes entry mid (Rule shape)) where
   good : GoodRule bytes
-  good = called-good input bytes entry (p .verdict)
+  good = called-good input bytes entry (p .refusal)
 
   pub checked-table : Table bytes (shape .elements) (shape .letters)
   checked-table = shape-table (p .scratch .shape-is) (good .table)
@@ -44,7 +44,7 @@ module _ (input : ℕ) (bytes entry : List ℕ) {shape : Shape} {mid : List ℕ}
   checked-linked = subst (λ (m : Morphism). LinkedOnly m (pairsOf bytes)) (sym (shape-morphism (p .scratch .shape-is))) (good .linked)
 
   -- the marks of the file stand at the front of scratch
-  pub marks-stand : Stands (shape .elements) (pairsOf bytes) mid 0
+  pub marks-stand : MarkingAt (shape .elements) (pairsOf bytes) mid 0
   unfolding marked level pairsFrom
   marks-stand = record {
     same = λ s e hs he. ap (λ (x : ℕ). leb 1 x)
@@ -52,9 +52,9 @@ module _ (input : ℕ) (bytes entry : List ℕ) {shape : Shape} {mid : List ℕ}
   }
 
   pub checked-room : 65536 ≤ length mid
-  checked-room = omega (arith, scratch-long input bytes entry (p .verdict), checked-length (p .scratch))
+  checked-room = omega (arith, scratch-long input bytes entry (p .refusal), checked-length (p .scratch))
 
-  pub decide-place : DecidePlace (morphismAt bytes (shape .elements) (shape .letters)) mid
+  pub decide-place : DecideNeeds (morphismAt bytes (shape .elements) (shape .letters)) mid
   decide-place = record {
     lawful = checked-lawful;
     reached = checked-reached;
@@ -65,28 +65,28 @@ module _ (input : ℕ) (bytes entry : List ℕ) {shape : Shape} {mid : List ℕ}
   module _ {exit : List ℕ} {answer : Bool} (d : Decided (morphismAt bytes (shape .elements) (shape .letters)) mid exit answer) where
     -- the verdict on the file
     pub decided-file : StrongIf (morphismOf bytes) (pairsOf bytes) answer
-    decided-file = subst (λ (m : Morphism). StrongIf m (pairsOf bytes) answer) (shape-morphism (p .scratch .shape-is)) (d .verdict (pairsOf bytes) checked-linked marks-stand)
+    decided-file = subst (λ (m : Morphism). StrongIf m (pairsOf bytes) answer) (shape-morphism (p .scratch .shape-is)) (d .decision (pairsOf bytes) checked-linked marks-stand)
 
     pub decided-left : (was end : List ℕ) → length was ≡ length exit → end ≡ replicate (length was) 0 → end ≡ afterCall entry
-    decided-left was end e z = zeros-left input bytes entry (p .verdict) was end (e ∙ d .same-length ∙ checked-length (p .scratch)) z
+    decided-left was end e z = zeros-left input bytes entry (p .refusal) was end (e ∙ d .same-length ∙ checked-length (p .scratch)) z
 
 -- the call for the verdict alone
 module _ (bytes entry : List ℕ) where
   pub strong-refused : {exit : List ℕ} {r : Refusal} {i place : ℕ} → CheckPromise 1 bytes entry exit (Checked-refused r i place) → StrongPromise bytes entry exit (Refused r i place)
-  strong-refused p = record { verdict = p .verdict; answered = tt; scratch = p .scratch }
+  strong-refused p = record { refusal = p .refusal; answered = tt; scratch = p .scratch }
 
   module _ {shape : Shape} {mid exit : List ℕ} {answer : Bool} (p : CheckPromise 1 bytes entry mid (Rule shape))
       (d : Decided (morphismAt bytes (shape .elements) (shape .letters)) mid exit answer) (end : List ℕ) (z : end ≡ replicate (length exit) 0) where
     pub says-strong : answer ≡ true → StrongPromise bytes entry end Is-strong
     says-strong e = record {
-      verdict = p .verdict;
+      refusal = p .refusal;
       answered = subst (StrongIf (morphismOf bytes) (pairsOf bytes)) e (decided-file 1 bytes entry p d);
       scratch = decided-left 1 bytes entry p d exit end refl z;
     }
 
     pub says-weak : answer ≡ false → StrongPromise bytes entry end Weak
     says-weak e = record {
-      verdict = p .verdict;
+      refusal = p .refusal;
       answered = subst (StrongIf (morphismOf bytes) (pairsOf bytes)) e (decided-file 1 bytes entry p d);
       scratch = decided-left 1 bytes entry p d exit end refl z;
     }

@@ -9,10 +9,10 @@ use Rattle.theory.specs.Acceptance.{Strong}
 use Rattle.theory.specs.Pairs.{LinkedOnly}
 use Rattle.theory.proofs.Closure.{closure-test}
 use Rattle.scratch.specs.Map.{pairsFrom}
-use Rattle.mark_search.specs.Search.{Stands}
+use Rattle.mark_search.specs.Search.{MarkingAt}
 
 -- the marks of a good rule, whatever stands behind them
-pub record DecidePlace (m : Morphism) (scratch : List ℕ) : Type 0 where
+pub record DecideNeeds (m : Morphism) (scratch : List ℕ) : Type 0 where
   pub lawful : Lawful m
   pub reached : AllReached m
   pub linked : LinkedOnly m (pairsFrom scratch 0)
@@ -26,7 +26,7 @@ StrongIf m P false = Strong m P → ⊥
 -- the verdict; the marks and the bytes behind those that the search uses are as they were, and the second table holds the closure
 pub record Decided (m : Morphism) (entry exit : List ℕ) (answer : Bool) : Type 0 where
   pub same-length : length exit ≡ length entry
-  pub verdict : (P : Pairs) → LinkedOnly m P → Stands (m .size) P entry 0 → StrongIf m P answer
-  pub closure : (P : Pairs) → LinkedOnly m P → Stands (m .size) P entry 0 → Stands (m .size) (closure-test m P) exit 4096
+  pub decision : (P : Pairs) → LinkedOnly m P → MarkingAt (m .size) P entry 0 → StrongIf m P answer
+  pub closure : (P : Pairs) → LinkedOnly m P → MarkingAt (m .size) P entry 0 → MarkingAt (m .size) (closure-test m P) exit 4096
   pub marks : (i : ℕ) → i < 4096 → getD exit i 0 ≡ getD entry i 0
   pub behind : (i : ℕ) → 61440 ≤ i → getD exit i 0 ≡ getD entry i 0

@@ -11,13 +11,13 @@ use sections::zero;
 use sections::zero_part;
 ghost use Rattle.rule_table.specs.Table.{Table};
 ghost use Rattle.formats.specs.Table.{morphismAt};
-ghost use Rattle.mark_strong.specs.Deciding.{DecidePlace, Decided};
+ghost use Rattle.mark_strong.specs.Deciding.{DecideNeeds, Decided};
 ghost use Rattle.promises.specs.Strong.{StrongPromise};
 
 // Decides strength from the marks in scratch, and leaves their closure behind them. The bytes from 61440 on are kept.
 pub fn decide(rule: &[u8], n: usize, k: usize, scratch: &mut [u8]) -> bool
     requires { ⌜ Table (now rule) n k ⌝ }
-    requires { ⌜ DecidePlace (morphismAt (now rule) n k) (now scratch) ⌝ }
+    requires { ⌜ DecideNeeds (morphismAt (now rule) n k) (now scratch) ⌝ }
     ensures { λ r. ⌜ Decided (morphismAt (now (rule .entry)) n k) (now (scratch .entry)) (now (scratch .exit)) r ⌝ }
 {
     zero_part(scratch, 4096, 8192);

@@ -109,9 +109,9 @@ module _ (bytes : List ℕ) where
   -- a monitor that calls have led to has the values of its history's words
   pub run-follows : {f : Monitor} {history : List Action} → Run bytes f history → Follows bytes f history
   run-follows (begun e) = same-follows e fresh-follows
-  run-follows (moved-by-event {f} {letter = letter} {entry = entry} r p) = event-follows f letter entry (p .verdict) (p .monitor) (run-follows r)
-  run-follows (moved-by-mark {f} {entry = entry} r p) = same-follows (p .monitor) (after-mark f entry (p .verdict) (run-follows r))
-  run-follows (moved-in-place {f} {letter = letter} {entry = entry} r p) = event-follows f letter entry (p .verdict) (p .monitor) (run-follows r)
+  run-follows (moved-by-event {f} {letter = letter} {entry = entry} r p) = event-follows f letter entry (p .refusal) (p .monitor) (run-follows r)
+  run-follows (moved-by-mark {f} {entry = entry} r p) = same-follows (p .monitor) (after-mark f entry (p .refusal) (run-follows r))
+  run-follows (moved-in-place {f} {letter = letter} {entry = entry} r p) = event-follows f letter entry (p .refusal) (p .monitor) (run-follows r)
   run-follows (event-refused r p) = same-follows (p .monitor) (run-follows r)
   run-follows (mark-refused r p) = same-follows (p .monitor) (run-follows r)
   run-follows (refused-in-place r p) = same-follows (p .monitor) (run-follows r)

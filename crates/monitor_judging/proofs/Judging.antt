@@ -14,9 +14,9 @@ use Rattle.theory.specs.Pairs.{LinkedOnly}
 use Rattle.theory.proofs.Strength.{settled-start, settled-cycle, settled-linked}
 use Rattle.theory.proofs.Closure.{closure-test, acceptance-passes, strong-acceptance}
 use Rattle.scratch.specs.Map.{pairsFrom}
-use Rattle.mark_search.specs.Search.{Stands}
-use Rattle.mark_strong.specs.Deciding.{DecidePlace, StrongIf, Decided}
-use Rattle.promises.specs.declared.Judged.the-variants.{Accepted, NotAccepted, Refused}
+use Rattle.mark_search.specs.Search.{MarkingAt}
+use Rattle.mark_strong.specs.Deciding.{DecideNeeds, StrongIf, Decided}
+use Rattle.promises.specs.declared.MonitorVerdict.the-variants.{Accepted, NotAccepted, Refused}
 use Rattle.promises.specs.Verdict.{LassoWith, LassosAccepted, LassosNotAccepted}
 use Rattle.monitor_judging.specs.Judges.{Judges}
 
@@ -43,7 +43,7 @@ module _ {m : Morphism} (law : Lawful m) (reached : AllReached m) {before since 
     not-accepted = λ u v l a. f (closure-decides l .0 a);
   }
 
-module _ {m : Morphism} {entry : List ℕ} (place : DecidePlace m entry) {before since : ℕ} (hb : before < m .size) (hs : since < m .size)
+module _ {m : Morphism} {entry : List ℕ} (place : DecideNeeds m entry) {before since : ℕ} (hb : before < m .size) (hs : since < m .size)
     {mid : List ℕ} {strong : Bool} (d : Decided m entry mid strong) where
   -- the room that the look asks for
   pub look-room : 65536 ≤ length mid
@@ -57,16 +57,16 @@ module _ {m : Morphism} {entry : List ℕ} (place : DecidePlace m entry) {before
   pub judged-weak : {exit : List ℕ} → exit ≡ replicate (length mid) 0 → strong ≡ false → Judges m before since entry exit (Refused NotStrong 1 0)
   judged-weak z e = record {
     zeros = zeros-left z;
-    says = λ P lp t. (subst (StrongIf m P) e (d .verdict P lp t), refl);
+    says = λ P lp t. (subst (StrongIf m P) e (d .decision P lp t), refl);
   }
 
   module _ {accepted : Bool} (look : accepted ≡ pairsFrom mid 4096 (settled-start m before since) (settled-cycle m since)) {exit : List ℕ}
       (z : exit ≡ replicate (length mid) 0) (e : strong ≡ true) where
-    strong-marks : (P : Pairs) → LinkedOnly m P → Stands (m .size) P entry 0 → Strong m P
-    strong-marks P lp t = subst (StrongIf m P) e (d .verdict P lp t)
+    strong-marks : (P : Pairs) → LinkedOnly m P → MarkingAt (m .size) P entry 0 → Strong m P
+    strong-marks P lp t = subst (StrongIf m P) e (d .decision P lp t)
 
     -- the byte is the closure's
-    look-closure : (P : Pairs) → LinkedOnly m P → Stands (m .size) P entry 0 → closure-test m P (settled-start m before since) (settled-cycle m since) ≡ accepted
+    look-closure : (P : Pairs) → LinkedOnly m P → MarkingAt (m .size) P entry 0 → closure-test m P (settled-start m before since) (settled-cycle m since) ≡ accepted
     look-closure P lp t =
         let l = settled-linked (place .lawful) hb hs in
         d .closure P lp t .same (settled-start m before since) (settled-cycle m since) (l .inside) (l .idempotent .inside) ∙ sym look

@@ -8,18 +8,18 @@ use Rattle.answer.specs.Checks.{refused}
 use Rattle.theory.specs.Rules.{Morphism, Pairs}
 use Rattle.theory.specs.Acceptance.{Strong}
 use Rattle.theory.specs.Pairs.{LinkedOnly}
-use Rattle.mark_search.specs.Search.{Stands}
-use Rattle.promises.specs.declared.Judged.{Judged}
-use Rattle.promises.specs.declared.Judged.the-variants.{Accepted, NotAccepted, Refused}
+use Rattle.mark_search.specs.Search.{MarkingAt}
+use Rattle.promises.specs.declared.MonitorVerdict.{MonitorVerdict}
+use Rattle.promises.specs.declared.MonitorVerdict.the-variants.{Accepted, NotAccepted, Refused}
 use Rattle.promises.specs.Verdict.{LassosAccepted, LassosNotAccepted}
 
 -- a strong marking with the answer for the values (before, since), or one that is not strong and 12
-abbrev pub JudgedBy : Morphism → Pairs → ℕ → ℕ → Judged → Type 0
+abbrev pub JudgedBy : Morphism → Pairs → ℕ → ℕ → MonitorVerdict → Type 0
 JudgedBy m P before since Accepted = Strong m P × LassosAccepted m P before since
 JudgedBy m P before since NotAccepted = Strong m P × LassosNotAccepted m P before since
 JudgedBy m P before since (Refused refusal input place) = (Strong m P → ⊥) × (refused refusal input place ≡ refused NotStrong 1 0)
 
 -- what the marks at the front of scratch say, and zeros are left
-pub record Judges (m : Morphism) (before since : ℕ) (entry exit : List ℕ) (answer : Judged) : Type 0 where
+pub record Judges (m : Morphism) (before since : ℕ) (entry exit : List ℕ) (answer : MonitorVerdict) : Type 0 where
   pub zeros : exit ≡ replicate (length entry) 0
-  pub says : (P : Pairs) → LinkedOnly m P → Stands (m .size) P entry 0 → JudgedBy m P before since answer
+  pub says : (P : Pairs) → LinkedOnly m P → MarkingAt (m .size) P entry 0 → JudgedBy m P before since answer

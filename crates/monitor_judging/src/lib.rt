@@ -1,7 +1,7 @@
 // The verdict on two values of a strong rule, below the checks: whether the lassos with these values are accepted.
 use answer::Refusal;
 use mark_strong::decide;
-use promises::Judged;
+use promises::MonitorVerdict;
 use rule_table::Power;
 use rule_table::idempotent_power;
 use rule_table::product;
@@ -14,7 +14,7 @@ ghost use Rattle.theory.proofs.Strength.{settled-start, settled-cycle};
 ghost use Rattle.rule_table.specs.Table.{Table};
 ghost use Rattle.formats.specs.Table.{morphismAt};
 ghost use Rattle.scratch.specs.Map.{pairsFrom};
-ghost use Rattle.mark_strong.specs.Deciding.{DecidePlace};
+ghost use Rattle.mark_strong.specs.Deciding.{DecideNeeds};
 ghost use Rattle.monitor_judging.specs.Judges.{Judges};
 
 // Whether the table of marks from 4096 has the pair (before·f, f), f the idempotent power of since: the values of the same endless
@@ -54,9 +54,9 @@ pub fn judge(
     before: usize,
     since: usize,
     scratch: &mut [u8],
-) -> Judged
+) -> MonitorVerdict
     requires { ⌜ Table (now rule) n k ⌝ }
-    requires { ⌜ DecidePlace (morphismAt (now rule) n k) (now scratch) ⌝ }
+    requires { ⌜ DecideNeeds (morphismAt (now rule) n k) (now scratch) ⌝ }
     requires { ⌜ (before < n) × (since < n) ⌝ }
     ensures { λ r. ⌜ Judges (morphismAt (now (rule .entry)) n k) before since (now (scratch .entry)) (now (scratch .exit)) r ⌝ }
 {
@@ -64,14 +64,14 @@ pub fn judge(
     let accepted = accepted_values(rule, n, k, scratch, before, since);
     zero(scratch);
     if !strong {
-        return Judged::Refused {
+        return MonitorVerdict::Refused {
             refusal: Refusal::NotStrong,
             input: 1,
             place: 0,
         };
     }
     if accepted {
-        return Judged::Accepted;
+        return MonitorVerdict::Accepted;
     }
-    Judged::NotAccepted
+    MonitorVerdict::NotAccepted
 }

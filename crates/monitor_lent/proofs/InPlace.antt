@@ -5,7 +5,7 @@ use mathlib.Core.List.{List}
 use Rattle.promises.specs.declared.Monitor.{Monitor}
 use Rattle.promises.specs.declared.Moved.{Moved}
 use Rattle.promises.specs.declared.Moved.the-variants.{To, Refused}
-use Rattle.promises.specs.declared.Told.{Told}
+use Rattle.promises.specs.declared.InPlaceAnswer.{InPlaceAnswer}
 use Rattle.promises.specs.Moves.{afterEvent, EventPromise}
 use Rattle.monitor_lent.specs.InPlace.{sinceOf, toldOf}
 use Rattle.promises.specs.InPlace.{EventInPlace}
@@ -18,11 +18,11 @@ module _ (bytes : List ℕ) (f : Monitor) (letter : ℕ) (entry exit : List ℕ)
   -- the since of the monitor handed back is all that an event changes
   stored : (moved : Moved) → EventPromise bytes f letter entry exit moved → EventInPlace bytes f letter entry exit (withSince f (sinceOf moved)) (toldOf moved)
   unfolding afterEvent
-  stored (To g) p = record { verdict = p .verdict; monitor = λ i. withSince f (p .monitor i .since); scratch = p .scratch }
-  stored (Refused g r j place) p = record { verdict = p .verdict; monitor = λ i. withSince f (p .monitor i .since); scratch = p .scratch }
+  stored (To g) p = record { refusal = p .refusal; monitor = λ i. withSince f (p .monitor i .since); scratch = p .scratch }
+  stored (Refused g r j place) p = record { refusal = p .refusal; monitor = λ i. withSince f (p .monitor i .since); scratch = p .scratch }
 
-  pub event-stored : {moved : Moved} {since : ℕ} {told : Told} → EventPromise bytes f letter entry exit moved → since ≡ sinceOf moved → told ≡ toldOf moved
+  pub event-stored : {moved : Moved} {since : ℕ} {told : InPlaceAnswer} → EventPromise bytes f letter entry exit moved → since ≡ sinceOf moved → told ≡ toldOf moved
       → EventInPlace bytes f letter entry exit (withSince f since) told
   event-stored {moved} {since} {told} p es et =
       subst (λ (x : ℕ). EventInPlace bytes f letter entry exit (withSince f x) told) (sym es)
-      (subst (λ (x : Told). EventInPlace bytes f letter entry exit (withSince f (sinceOf moved)) x) (sym et) (stored moved p))
+      (subst (λ (x : InPlaceAnswer). EventInPlace bytes f letter entry exit (withSince f (sinceOf moved)) x) (sym et) (stored moved p))

@@ -2,8 +2,8 @@
 use Prim.Native.Nat.{ℕ}
 use Rattle.promises.specs.declared.Moved.{Moved}
 use Rattle.promises.specs.declared.Moved.the-variants.{To, Refused}
-use Rattle.promises.specs.declared.Told.{Told}
-use Rattle.promises.specs.declared.Told.the-variants.{Done, Refused as Told-refused}
+use Rattle.promises.specs.declared.InPlaceAnswer.{InPlaceAnswer}
+use Rattle.promises.specs.declared.InPlaceAnswer.the-variants.{Done, Refused as Not-done}
 
 -- the number since of the monitor that a call hands back
 abbrev pub sinceOf : Moved → ℕ
@@ -11,6 +11,6 @@ sinceOf (To g) = g .since
 sinceOf (Refused g refusal input place) = g .since
 
 -- the answer of a call, without the monitor
-abbrev pub toldOf : Moved → Told
+abbrev pub toldOf : Moved → InPlaceAnswer
 toldOf (To g) = Done
-toldOf (Refused g refusal input place) = Told-refused refusal input place
+toldOf (Refused g refusal input place) = Not-done refusal input place

@@ -1,9 +1,9 @@
 // An event on a monitor that is lent: the new since is stored in it.
 use answer::Refusal;
 use monitor_moves::event;
+use promises::InPlaceAnswer;
 use promises::Monitor;
 use promises::Moved;
-use promises::Told;
 ghost use mathlib.Core.Path.{_≡_};
 ghost use Rattle.monitor_lent.specs.InPlace.{sinceOf, toldOf};
 ghost use Rattle.promises.specs.InPlace.{EventInPlace};
@@ -24,17 +24,17 @@ fn since_of(moved: Moved) -> usize
 }
 
 // The answer of a call, without the monitor.
-fn told_of(moved: Moved) -> Told
+fn told_of(moved: Moved) -> InPlaceAnswer
     ensures { λ r. ⌜ r ≡ toldOf moved ⌝ }
 {
     match moved {
-        Moved::To(g) => Told::Done,
+        Moved::To(g) => InPlaceAnswer::Done,
         Moved::Refused {
             monitor,
             refusal,
             input,
             place,
-        } => Told::Refused {
+        } => InPlaceAnswer::Refused {
             refusal,
             input,
             place,
@@ -43,7 +43,7 @@ fn told_of(moved: Moved) -> Told
 }
 
 // An event on a monitor that is lent: the new since is stored in it.
-pub fn event_in_place(rule: &[u8], m: &mut Monitor, letter: u8, scratch: &mut [u8]) -> Told
+pub fn event_in_place(rule: &[u8], m: &mut Monitor, letter: u8, scratch: &mut [u8]) -> InPlaceAnswer
     ensures { λ r. ⌜ EventInPlace (now (rule .entry)) (now (m .entry)) letter (now (scratch .entry)) (now (scratch .exit)) (now (m .exit)) r ⌝ }
 {
     let moved = event(rule, *m, letter, scratch);

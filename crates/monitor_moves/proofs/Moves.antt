@@ -17,7 +17,7 @@ use Rattle.rule_check.proofs.Calls.{shape-morphism}
 use Rattle.promises.specs.declared.Monitor.{Monitor}
 use Rattle.monitor_state.specs.declared.Ready.the-variants.{Rule, Refused as Not-ready}
 use Rattle.promises.specs.declared.Moved.the-variants.{To, Refused}
-use Rattle.promises.specs.Moves.{LoneForeignAt, afterEvent, afterMark, EventPromise, MarkPromise}
+use Rattle.promises.specs.Moves.{LoneUnknownLetterAt, afterEvent, afterMark, EventPromise, MarkPromise}
 use Rattle.promises.specs.Monitor.{noValue, valueOf, numberFor, monitorChecks}
 use Rattle.monitor_state.specs.Ready.{GoodNumber, joinAt, ReadyPromise}
 use Rattle.monitor_state.proofs.Numbers.{value-element}
@@ -25,17 +25,17 @@ use Rattle.monitor_state.proofs.Prepared.{ready-table}
 
 module _ (bytes : List ℕ) (f : Monitor) (letter : ℕ) (entry exit : List ℕ) where
   abbrev letter-check : Check
-  letter-check = record { refusal = UnknownLetter; input = 1; Fails = LoneForeignAt (lettersOf bytes) letter }
+  letter-check = record { refusal = UnknownLetter; input = 1; Fails = LoneUnknownLetterAt (lettersOf bytes) letter }
 
   -- the rule or the monitor is refused
   pub event-refused : {r : Refusal} {i place : ℕ} → ReadyPromise bytes f entry exit (Not-ready r i place) → EventPromise bytes f letter entry exit (Refused f r i place)
-  event-refused p = record { verdict = refused-before _ _ (p .verdict); monitor = refl; scratch = p .scratch }
+  event-refused p = record { refusal = refused-before _ _ (p .refusal); monitor = refl; scratch = p .scratch }
 
   module _ {shape : Shape} (p : ReadyPromise bytes f entry exit (Rule shape)) where
     -- the letter is foreign
     pub event-foreign : shape .letters ≤ letter → EventPromise bytes f letter entry exit (Refused f UnknownLetter 1 0)
     event-foreign h = record {
-      verdict = passed-before _ _ (p .verdict) (first-fails letter-check (record { foreign = subst (λ (x : ℕ). x ≤ letter) (p .shape .letters) h; is-place = refl }));
+      refusal = passed-before _ _ (p .refusal) (first-fails letter-check (record { foreign = subst (λ (x : ℕ). x ≤ letter) (p .shape .letters) h; is-place = refl }));
       monitor = refl;
       scratch = p .scratch;
     }
@@ -58,7 +58,7 @@ module _ (bytes : List ℕ) (f : Monitor) (letter : ℕ) (entry exit : List ℕ)
         → EventPromise bytes f letter entry exit (To (record { before = f .before; since = next }))
     unfolding afterEvent
     event-moved {h} {next} l e n = record {
-      verdict = passed-before _ _ (p .verdict) (first-passes (record { nowhere = λ place t. omega (arith, t .foreign, p .shape .letters) }) none-left);
+      refusal = passed-before _ _ (p .refusal) (first-passes (record { nowhere = λ place t. omega (arith, t .foreign, p .shape .letters) }) none-left);
       monitor =
           ap (λ (x : ℕ). let g : Monitor = record { before = f .before; since = x } in g)
           (n ∙ ap (joinAt bytes (shape .elements) (shape .letters) (f .since)) e ∙ since-is l);
@@ -67,14 +67,14 @@ module _ (bytes : List ℕ) (f : Monitor) (letter : ℕ) (entry exit : List ℕ)
 
 module _ (bytes : List ℕ) (f : Monitor) (entry exit : List ℕ) where
   pub mark-refused : {r : Refusal} {i place : ℕ} → ReadyPromise bytes f entry exit (Not-ready r i place) → MarkPromise bytes f entry exit (Refused f r i place)
-  mark-refused p = record { verdict = p .verdict; monitor = refl; scratch = p .scratch }
+  mark-refused p = record { refusal = p .refusal; monitor = refl; scratch = p .scratch }
 
   -- the mark moves before and empties since
   pub mark-moved : {shape : Shape} {next : ℕ} → ReadyPromise bytes f entry exit (Rule shape) → next ≡ joinAt bytes (shape .elements) (shape .letters) (f .before) (f .since)
       → MarkPromise bytes f entry exit (To (record { before = next; since = noValue }))
   unfolding afterMark joinAt
   mark-moved {shape} {next} p n = record {
-    verdict = p .verdict;
+    refusal = p .refusal;
     monitor =
         ap (λ (x : ℕ). let g : Monitor = record { before = x; since = noValue } in g)
         (n ∙ ap (λ (m : Morphism). numberFor (join m (valueOf (f .before)) (valueOf (f .since)))) (shape-morphism (p .shape)));

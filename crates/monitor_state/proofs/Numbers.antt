@@ -12,7 +12,7 @@ use Rattle.finite.proofs.Numbers.{le-or-lt}
 use Rattle.theory.specs.Rules.{Morphism, Value, none, element, join}
 use Rattle.theory.proofs.Values.{Inside, inside-none, inside-element, join-none}
 use Rattle.formats.specs.Table.{morphismAt, productAt}
-use Rattle.promises.specs.Monitor.{noValue, valueOf, numberFor, IsStray}
+use Rattle.promises.specs.Monitor.{noValue, valueOf, numberFor, ValueOutOfRange}
 use Rattle.monitor_state.specs.Ready.{GoodNumber, joinAt}
 
 pub value-none : {s : ℕ} → s ≡ noValue → valueOf s ≡ none
@@ -51,7 +51,7 @@ join-both bytes n k a b f g =
     ∙ ap (λ (x : Value). numberFor (join (morphismAt bytes n k) (element a) x)) (value-element g))
 
 -- what is not stray is good
-pub not-stray : (n s : ℕ) → (IsStray n s → ⊥) → GoodNumber n s
+pub not-stray : (n s : ℕ) → (ValueOutOfRange n s → ⊥) → GoodNumber n s
 not-stray n s f =
     ⊎-elim (λ h. go h (ℕ-discrete s noValue)) (λ h. inl h) (le-or-lt n s)
   where
@@ -59,7 +59,7 @@ not-stray n s f =
     go h (yes e) = inr e
     go h (no g) = absurd (f (record { no-element = h; not-none = g }))
 
-pub good-not-stray : (n s : ℕ) → GoodNumber n s → IsStray n s → ⊥
+pub good-not-stray : (n s : ℕ) → GoodNumber n s → ValueOutOfRange n s → ⊥
 good-not-stray n s g i = ⊎-elim (λ (h : s < n). omega (arith, i .no-element)) (λ (e : s ≡ noValue). i .not-none e) g
 
 -- an element that is no none is below the size

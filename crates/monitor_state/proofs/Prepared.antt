@@ -20,26 +20,26 @@ use Rattle.rule_check.proofs.Calls.{zeros-left, checked-length, called-good, sh
 use Rattle.promises.specs.declared.Monitor.{Monitor}
 use Rattle.monitor_state.specs.declared.Ready.{Ready}
 use Rattle.monitor_state.specs.declared.Ready.the-variants.{Rule as Ready-rule, Refused as Not-ready}
-use Rattle.promises.specs.Monitor.{IsStray, strayCheck, monitorChecks}
-use Rattle.monitor_state.specs.Ready.{GoodNumber, StrayAnswer, ReadyPromise}
+use Rattle.promises.specs.Monitor.{ValueOutOfRange, monitorValueCheck, monitorChecks}
+use Rattle.monitor_state.specs.Ready.{GoodNumber, OutOfRangeAnswer, ReadyPromise}
 use Rattle.monitor_state.proofs.Numbers.{not-stray, good-not-stray}
 
 module _ (bytes : List ℕ) (f : Monitor) (entry : List ℕ) where
   -- the rule is refused
   pub rule-refused : {exit : List ℕ} {r : Refusal} {i place : ℕ} → CheckPromise 1 bytes entry exit (Refused r i place) → ReadyPromise bytes f entry exit (Not-ready r i place)
-  rule-refused p = record { verdict = refused-before _ _ (p .verdict); shape = tt; scratch = p .scratch }
+  rule-refused p = record { refusal = refused-before _ _ (p .refusal); shape = tt; scratch = p .scratch }
 
   module _ {shape : Shape} (mid exit : List ℕ) (p : CheckPromise 1 bytes entry mid (Rule shape)) (z : exit ≡ replicate (length mid) 0) where
     left : exit ≡ afterCall entry
-    left = zeros-left 1 bytes entry (p .verdict) mid exit (checked-length (p .scratch)) z
+    left = zeros-left 1 bytes entry (p .refusal) mid exit (checked-length (p .scratch)) z
 
     -- a value of the monitor is stray
-    pub monitor-stray : IsStray (shape .elements) (f .before) ⊎ IsStray (shape .elements) (f .since) → ReadyPromise bytes f entry exit (Not-ready EntryOutOfRange 1 0)
+    pub monitor-stray : ValueOutOfRange (shape .elements) (f .before) ⊎ ValueOutOfRange (shape .elements) (f .since) → ReadyPromise bytes f entry exit (Not-ready EntryOutOfRange 1 0)
     monitor-stray s = record {
-      verdict =
-          passed-before _ _ (p .verdict)
-          (first-fails (strayCheck 1 (elementsOf bytes) f)
-          (record { stray = subst (λ (x : ℕ). IsStray x (f .before) ⊎ IsStray x (f .since)) (p .scratch .shape-is .elements) s; is-place = refl }));
+      refusal =
+          passed-before _ _ (p .refusal)
+          (first-fails (monitorValueCheck 1 (elementsOf bytes) f)
+          (record { stray = subst (λ (x : ℕ). ValueOutOfRange x (f .before) ⊎ ValueOutOfRange x (f .since)) (p .scratch .shape-is .elements) s; is-place = refl }));
       shape = tt;
       scratch = left;
     }
@@ -47,38 +47,38 @@ module _ (bytes : List ℕ) (f : Monitor) (entry : List ℕ) where
     -- both are good
     pub monitor-good : GoodNumber (shape .elements) (f .before) → GoodNumber (shape .elements) (f .since) → ReadyPromise bytes f entry exit (Ready-rule shape)
     monitor-good b s = record {
-      verdict = passed-before _ _ (p .verdict) (first-passes (record { nowhere = λ place t. none (t .stray) }) none-left);
+      refusal = passed-before _ _ (p .refusal) (first-passes (record { nowhere = λ place t. none (t .stray) }) none-left);
       shape = p .scratch .shape-is;
       scratch = left;
     }
       where
-        none : IsStray (elementsOf bytes) (f .before) ⊎ IsStray (elementsOf bytes) (f .since) → ⊥
-        none (inl i) = good-not-stray (shape .elements) (f .before) b (subst (λ (x : ℕ). IsStray x (f .before)) (sym (p .scratch .shape-is .elements)) i)
-        none (inr i) = good-not-stray (shape .elements) (f .since) s (subst (λ (x : ℕ). IsStray x (f .since)) (sym (p .scratch .shape-is .elements)) i)
+        none : ValueOutOfRange (elementsOf bytes) (f .before) ⊎ ValueOutOfRange (elementsOf bytes) (f .since) → ⊥
+        none (inl i) = good-not-stray (shape .elements) (f .before) b (subst (λ (x : ℕ). ValueOutOfRange x (f .before)) (sym (p .scratch .shape-is .elements)) i)
+        none (inr i) = good-not-stray (shape .elements) (f .since) s (subst (λ (x : ℕ). ValueOutOfRange x (f .since)) (sym (p .scratch .shape-is .elements)) i)
 
 -- the answer of a test for stray values
-pub said-stray : (n s : ℕ) (b : Bool) → StrayAnswer n s b → b ≡ true → IsStray n s
-said-stray n s b k e = subst (StrayAnswer n s) e k
+pub said-stray : (n s : ℕ) (b : Bool) → OutOfRangeAnswer n s b → b ≡ true → ValueOutOfRange n s
+said-stray n s b k e = subst (OutOfRangeAnswer n s) e k
 
-pub said-good : (n s : ℕ) (b : Bool) → StrayAnswer n s b → b ≡ false → GoodNumber n s
-said-good n s b k e = subst (StrayAnswer n s) e k
+pub said-good : (n s : ℕ) (b : Bool) → OutOfRangeAnswer n s b → b ≡ false → GoodNumber n s
+said-good n s b k e = subst (OutOfRangeAnswer n s) e k
 
 -- what a ready rule is known to be
 module _ (bytes : List ℕ) (f : Monitor) (entry exit : List ℕ) {shape : Shape} (p : ReadyPromise bytes f entry exit (Ready-rule shape)) where
   pub rule-passed : FirstFailure (checkedChecks 1 bytes entry) passed
-  rule-passed = passed-first (checkedChecks 1 bytes entry) _ (p .verdict)
+  rule-passed = passed-first (checkedChecks 1 bytes entry) _ (p .refusal)
 
   pub ready-table : Table bytes (shape .elements) (shape .letters)
   ready-table = shape-table (p .shape) (called-good 1 bytes entry rule-passed .table)
 
-  unstray : IsStray (elementsOf bytes) (f .before) ⊎ IsStray (elementsOf bytes) (f .since) → ⊥
-  unstray s = passes-head (passed-last (checkedChecks 1 bytes entry) _ (p .verdict)) .nowhere 0 (record { stray = s; is-place = refl })
+  unstray : ValueOutOfRange (elementsOf bytes) (f .before) ⊎ ValueOutOfRange (elementsOf bytes) (f .since) → ⊥
+  unstray s = passes-head (passed-last (checkedChecks 1 bytes entry) _ (p .refusal)) .nowhere 0 (record { stray = s; is-place = refl })
 
   pub ready-before : GoodNumber (shape .elements) (f .before)
-  ready-before = not-stray (shape .elements) (f .before) (λ i. unstray (inl (subst (λ (x : ℕ). IsStray x (f .before)) (p .shape .elements) i)))
+  ready-before = not-stray (shape .elements) (f .before) (λ i. unstray (inl (subst (λ (x : ℕ). ValueOutOfRange x (f .before)) (p .shape .elements) i)))
 
   pub ready-since : GoodNumber (shape .elements) (f .since)
-  ready-since = not-stray (shape .elements) (f .since) (λ i. unstray (inr (subst (λ (x : ℕ). IsStray x (f .since)) (p .shape .elements) i)))
+  ready-since = not-stray (shape .elements) (f .since) (λ i. unstray (inr (subst (λ (x : ℕ). ValueOutOfRange x (f .since)) (p .shape .elements) i)))
 
 module _ (bytes : List ℕ) (f : Monitor) (entry exit : List ℕ) (answer : Ready) (known : ReadyPromise bytes f entry exit answer) where
   pub ready-said : {shape : Shape} → answer ≡ Ready-rule shape → ReadyPromise bytes f entry exit (Ready-rule shape)

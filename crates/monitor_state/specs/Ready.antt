@@ -12,7 +12,7 @@ use Rattle.formats.specs.Calls.{afterCall}
 use Rattle.promises.specs.declared.Monitor.{Monitor}
 use Rattle.monitor_state.specs.declared.Ready.{Ready}
 use Rattle.monitor_state.specs.declared.Ready.the-variants.{Rule, Refused as Not-ready}
-use Rattle.promises.specs.Monitor.{noValue, valueOf, numberFor, IsStray, monitorChecks}
+use Rattle.promises.specs.Monitor.{noValue, valueOf, numberFor, ValueOutOfRange, monitorChecks}
 
 -- an element or none
 abbrev pub GoodNumber : ℕ → ℕ → Type 0
@@ -22,9 +22,9 @@ GoodNumber n s = (s < n) ⊎ (s ≡ noValue)
 unfoldable pub joinAt : List ℕ → ℕ → ℕ → ℕ → ℕ → ℕ
 joinAt bytes n k a b = numberFor (join (morphismAt bytes n k) (valueOf a) (valueOf b))
 
-abbrev pub StrayAnswer : ℕ → ℕ → Bool → Type 0
-StrayAnswer n s true = IsStray n s
-StrayAnswer n s false = GoodNumber n s
+abbrev pub OutOfRangeAnswer : ℕ → ℕ → Bool → Type 0
+OutOfRangeAnswer n s true = ValueOutOfRange n s
+OutOfRangeAnswer n s false = GoodNumber n s
 
 abbrev pub readyVerdict : Ready → Verdict
 readyVerdict (Rule shape) = passed
@@ -36,6 +36,6 @@ ReadyShape bytes (Rule shape) = IsShape bytes shape
 ReadyShape bytes (Not-ready refusal input place) = Unit {0}
 
 pub record ReadyPromise (bytes : List ℕ) (f : Monitor) (entry exit : List ℕ) (answer : Ready) : Type 0 where
-  pub verdict : FirstFailure (monitorChecks bytes f entry) (readyVerdict answer)
+  pub refusal : FirstFailure (monitorChecks bytes f entry) (readyVerdict answer)
   pub shape : ReadyShape bytes answer
   pub scratch : exit ≡ afterCall entry

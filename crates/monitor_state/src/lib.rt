@@ -11,7 +11,7 @@ ghost use mathlib.Core.Path.{_≡_};
 ghost use Prim.Native.Nat.{_<_};
 ghost use Rattle.rule_table.specs.Table.{Table};
 ghost use Rattle.promises.specs.Monitor.{freshMonitor};
-ghost use Rattle.monitor_state.specs.Ready.{GoodNumber, joinAt, StrayAnswer, ReadyPromise};
+ghost use Rattle.monitor_state.specs.Ready.{GoodNumber, joinAt, OutOfRangeAnswer, ReadyPromise};
 
 // A monitor that has seen nothing.
 pub fn fresh() -> Monitor
@@ -24,8 +24,8 @@ pub fn fresh() -> Monitor
 }
 
 // Whether a number is neither an element nor 64.
-pub fn stray(n: usize, s: usize) -> bool
-    ensures { λ r. ⌜ StrayAnswer n s r ⌝ }
+pub fn out_of_range(n: usize, s: usize) -> bool
+    ensures { λ r. ⌜ OutOfRangeAnswer n s r ⌝ }
 {
     if s < n {
         return false;
@@ -67,14 +67,14 @@ pub fn prepare(rule: &[u8], m: Monitor, scratch: &mut [u8]) -> Ready
     let n = shape.elements;
     let before = m.before;
     let since = m.since;
-    if stray(n, before) {
+    if out_of_range(n, before) {
         return Ready::Refused {
             refusal: Refusal::EntryOutOfRange,
             input: 1,
             place: 0,
         };
     }
-    if stray(n, since) {
+    if out_of_range(n, since) {
         return Ready::Refused {
             refusal: Refusal::EntryOutOfRange,
             input: 1,

@@ -13,7 +13,7 @@ use Rattle.promises.specs.Monitor.{noValue, monitorChecks}
 use Rattle.promises.specs.Histories.{Action, sinceWord, beforeWord, Run}
 use Rattle.monitor_state.proofs.Numbers.{value-element}
 use Rattle.monitor_histories.proofs.Histories.{run-follows}
-use Rattle.promises.specs.declared.Judged.the-variants.{Accepted, NotAccepted}
+use Rattle.promises.specs.declared.MonitorVerdict.the-variants.{Accepted, NotAccepted}
 use Rattle.promises.specs.Verdict.{LassoWith, verdictChecks, VerdictPromise}
 
 module _ {bytes : List ℕ} {f : Monitor} {history : List Action} (run : Run bytes f history) where
@@ -33,7 +33,7 @@ module _ {bytes : List ℕ} {f : Monitor} {history : List Action} (run : Run byt
 
   module _ {entry exit : List ℕ} where
     pub history-accepted : VerdictPromise bytes f entry exit Accepted → Accepts (morphismOf bytes) (pairsOf bytes) (beforeWord history) (sinceWord history)
-    history-accepted p = p .answered .accepted (beforeWord history) (sinceWord history) (history-lasso (p .verdict))
+    history-accepted p = p .answered .accepted (beforeWord history) (sinceWord history) (history-lasso (p .refusal))
 
     pub history-not-accepted : VerdictPromise bytes f entry exit NotAccepted → Accepts (morphismOf bytes) (pairsOf bytes) (beforeWord history) (sinceWord history) → ⊥
-    history-not-accepted p = p .answered .not-accepted (beforeWord history) (sinceWord history) (history-lasso (p .verdict))
+    history-not-accepted p = p .answered .not-accepted (beforeWord history) (sinceWord history) (history-lasso (p .refusal))

@@ -9,7 +9,7 @@ use Rattle.answer.proofs.Order.{first-passes, first-fails}
 use Rattle.rule_marks.specs.declared.Fault.{Fault}
 use Rattle.rule_marks.specs.declared.Fault.the-variants.{Nothing, Refused}
 use Rattle.promises.specs.declared.Monitor.{Monitor}
-use Rattle.promises.specs.Monitor.{noValue, IsStray, strayCheck}
+use Rattle.promises.specs.Monitor.{noValue, ValueOutOfRange, monitorValueCheck}
 use Rattle.monitor_state.specs.Ready.{GoodNumber}
 use Rattle.monitor_state.proofs.Numbers.{good-not-stray, good-element}
 use Rattle.promises.specs.Verdict.{noneCheck}
@@ -17,8 +17,8 @@ use Rattle.monitor_verdict.specs.Judging.{valueChecks, BothElements, Val
 
 module _ (n : ℕ) (f : Monitor) where
   -- a value is stray
-  pub values-stray : IsStray n (f .before) ⊎ IsStray n (f .since) → FirstFailure (valueChecks n f) (refused EntryOutOfRange 1 0)
-  values-stray s = first-fails (strayCheck 1 n f) (record { stray = s; is-place = refl })
+  pub values-stray : ValueOutOfRange n (f .before) ⊎ ValueOutOfRange n (f .since) → FirstFailure (valueChecks n f) (refused EntryOutOfRange 1 0)
+  values-stray s = first-fails (monitorValueCheck 1 n f) (record { stray = s; is-place = refl })
 
   module _ (before : GoodNumber n (f .before)) (since : GoodNumber n (f .since)) where
     -- both are good, and one is none

@@ -19,9 +19,9 @@ use Rattle.rule_check.proofs.Calls.{zeros-left, checked-length, shape-morphism}
 use Rattle.promises.specs.Weak.{weakCheck}
 use Rattle.mark_strong.proofs.Calling.{checked-linked, marks-stand}
 use Rattle.promises.specs.declared.Monitor.{Monitor}
-use Rattle.promises.specs.Monitor.{IsStray}
-use Rattle.promises.specs.declared.Judged.{Judged}
-use Rattle.promises.specs.declared.Judged.the-variants.{Accepted, NotAccepted, Refused}
+use Rattle.promises.specs.Monitor.{ValueOutOfRange}
+use Rattle.promises.specs.declared.MonitorVerdict.{MonitorVerdict}
+use Rattle.promises.specs.declared.MonitorVerdict.the-variants.{Accepted, NotAccepted, Refused}
 use Rattle.promises.specs.Verdict.{verdictChecks, VerdictPromise}
 use Rattle.monitor_judging.specs.Judges.{JudgedBy, Judges}
 use Rattle.monitor_verdict.specs.Judging.{valueChecks, BothElements}
@@ -29,27 +29,27 @@ use Rattle.monitor_verdict.specs.Judging.{valueChecks, BothElements}
 module _ (bytes : List ℕ) (f : Monitor) (entry : List ℕ) where
   -- the rule is refused
   pub rule-refused : {exit : List ℕ} {r : Refusal} {i place : ℕ} → CheckPromise 1 bytes entry exit (Checked-refused r i place) → VerdictPromise bytes f entry exit (Refused r i place)
-  rule-refused p = record { verdict = refused-before _ _ (refused-before _ _ (p .verdict)); answered = tt; scratch = p .scratch }
+  rule-refused p = record { refusal = refused-before _ _ (refused-before _ _ (p .refusal)); answered = tt; scratch = p .scratch }
 
   module _ {shape : Shape} {mid : List ℕ} (p : CheckPromise 1 bytes entry mid (Rule shape)) where
     left : {exit : List ℕ} → exit ≡ replicate (length mid) 0 → exit ≡ afterCall entry
-    left {exit} z = zeros-left 1 bytes entry (p .verdict) mid exit (checked-length (p .scratch)) z
+    left {exit} z = zeros-left 1 bytes entry (p .refusal) mid exit (checked-length (p .scratch)) z
 
     -- the rule passed: the values and the strength decide
     after-rule : {v : Verdict} → FirstFailure (valueChecks (elementsOf bytes) f ++ weakCheck 1 bytes ∷ []) v → FirstFailure (verdictChecks bytes f entry) v
-    after-rule r = rw append-assoc (passed-before (checkedChecks 1 bytes entry) _ (p .verdict) r)
+    after-rule r = rw append-assoc (passed-before (checkedChecks 1 bytes entry) _ (p .refusal) r)
 
     -- a value is refused
     pub value-refused : {exit : List ℕ} {r : Refusal} {place : ℕ} → FirstFailure (valueChecks (shape .elements) f) (refused r 1 place) → exit ≡ replicate (length mid) 0
         → VerdictPromise bytes f entry exit (Refused r 1 place)
     value-refused {r = r} {place = place} g z = record {
-      verdict = after-rule (refused-before _ _ (subst (λ (n : ℕ). FirstFailure (valueChecks n f) (refused r 1 place)) (p .scratch .shape-is .elements) g));
+      refusal = after-rule (refused-before _ _ (subst (λ (n : ℕ). FirstFailure (valueChecks n f) (refused r 1 place)) (p .scratch .shape-is .elements) g));
       answered = tt;
       scratch = left z;
     }
 
     module _ (b : BothElements (shape .elements) f) where
-      none-stray : IsStray (elementsOf bytes) (f .before) ⊎ IsStray (elementsOf bytes) (f .since) → ⊥
+      none-stray : ValueOutOfRange (elementsOf bytes) (f .before) ⊎ ValueOutOfRange (elementsOf bytes) (f .since) → ⊥
       none-stray =
           ⊎-elim (λ s. omega (arith, s .no-element, b .before-inside, p .scratch .shape-is .elements))
           (λ s. omega (arith, s .no-element, b .since-inside, p .scratch .shape-is .elements))
@@ -62,26 +62,26 @@ module _ (bytes : List ℕ) (f : Monitor) (entry : List ℕ) where
           (first-passes (record { nowhere = λ place t. ⊎-elim (b .before-some) (b .since-some) (t .none) }) w))
 
       -- what the marks of the file say
-      file-says : {exit : List ℕ} {answer : Judged} → Judges (morphismAt bytes (shape .elements) (shape .letters)) (f .before) (f .since) mid exit answer
+      file-says : {exit : List ℕ} {answer : MonitorVerdict} → Judges (morphismAt bytes (shape .elements) (shape .letters)) (f .before) (f .since) mid exit answer
           → JudgedBy (morphismOf bytes) (pairsOf bytes) (f .before) (f .since) answer
       file-says {answer = answer} j =
           subst (λ (m : Morphism). JudgedBy m (pairsOf bytes) (f .before) (f .since) answer) (shape-morphism (p .scratch .shape-is))
           (j .says (pairsOf bytes) (checked-linked 1 bytes entry p) (marks-stand 1 bytes entry p))
 
-      says : {exit : List ℕ} (answer : Judged) → exit ≡ afterCall entry → JudgedBy (morphismOf bytes) (pairsOf bytes) (f .before) (f .since) answer
+      says : {exit : List ℕ} (answer : MonitorVerdict) → exit ≡ afterCall entry → JudgedBy (morphismOf bytes) (pairsOf bytes) (f .before) (f .since) answer
           → VerdictPromise bytes f entry exit answer
       says Accepted z k = record {
-        verdict = after-values (first-passes (record { nowhere = λ place t. t .weak (k .0) }) none-left);
+        refusal = after-values (first-passes (record { nowhere = λ place t. t .weak (k .0) }) none-left);
         answered = k .1;
         scratch = z;
       }
       says NotAccepted z k = record {
-        verdict = after-values (first-passes (record { nowhere = λ place t. t .weak (k .0) }) none-left);
+        refusal = after-values (first-passes (record { nowhere = λ place t. t .weak (k .0) }) none-left);
         answered = k .1;
         scratch = z;
       }
       says (Refused r i place) z k = record {
-        verdict =
+        refusal =
             after-values
             (subst (FirstFailure (weakCheck 1 bytes ∷ [])) (sym (k .1)) (first-fails (weakCheck 1 bytes) (record { weak = k .0; is-place = refl })));
         answered = tt;
@@ -89,6 +89,6 @@ module _ (bytes : List ℕ) (f : Monitor) (entry : List ℕ) where
       }
 
       -- the values are judged
-      pub judged : {exit : List ℕ} {answer : Judged} → Judges (morphismAt bytes (shape .elements) (shape .letters)) (f .before) (f .since) mid exit answer
+      pub judged : {exit : List ℕ} {answer : MonitorVerdict} → Judges (morphismAt bytes (shape .elements) (shape .letters)) (f .before) (f .since) mid exit answer
           → VerdictPromise bytes f entry exit answer
       judged {answer = answer} j = says answer (left (j .zeros)) (file-says j)

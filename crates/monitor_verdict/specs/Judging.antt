@@ -6,12 +6,12 @@ use Rattle.answer.specs.Checks.{Check, refused, FirstFailure}
 use Rattle.rule_marks.specs.declared.Fault.{Fault}
 use Rattle.rule_marks.specs.declared.Fault.the-variants.{Nothing, Refused as Fault-refused}
 use Rattle.promises.specs.declared.Monitor.{Monitor}
-use Rattle.promises.specs.Monitor.{noValue, strayCheck}
+use Rattle.promises.specs.Monitor.{noValue, monitorValueCheck}
 use Rattle.promises.specs.Verdict.{noneCheck}
 
 -- 3 for the values of a monitor, then 11
 abbrev pub valueChecks : ℕ → Monitor → List Check
-valueChecks n f = strayCheck 1 n f ∷ noneCheck f ∷ []
+valueChecks n f = monitorValueCheck 1 n f ∷ noneCheck f ∷ []
 
 -- both values are elements, and neither is none
 pub record BothElements (n : ℕ) (f : Monitor) : Type 0 where

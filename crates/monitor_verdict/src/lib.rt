@@ -2,8 +2,8 @@
 // and whose cycle has the value since. It is for strong rules only, where those lassos are all accepted or all not.
 use answer::Refusal;
 use monitor_judging::judge;
-use promises::Judged;
 use promises::Monitor;
+use promises::MonitorVerdict;
 use rule_check::Checked;
 use rule_check::check;
 use rule_marks::Fault;
@@ -51,7 +51,7 @@ fn values_fault(n: usize, monitor: Monitor) -> Fault
 
 // Checks a rule and a monitor's values, and says whether the lassos with those values are accepted. Scratch ends as zeros, but
 // where it is too short.
-pub fn verdict(rule: &[u8], monitor: Monitor, scratch: &mut [u8]) -> Judged
+pub fn verdict(rule: &[u8], monitor: Monitor, scratch: &mut [u8]) -> MonitorVerdict
     ensures { λ r. ⌜ VerdictPromise (now (rule .entry)) monitor (now (scratch .entry)) (now (scratch .exit)) r ⌝ }
 {
     let shape = match check(rule, 1, scratch) {
@@ -61,7 +61,7 @@ pub fn verdict(rule: &[u8], monitor: Monitor, scratch: &mut [u8]) -> Judged
             input,
             place,
         } => {
-            return Judged::Refused {
+            return MonitorVerdict::Refused {
                 refusal,
                 input,
                 place,
@@ -74,7 +74,7 @@ pub fn verdict(rule: &[u8], monitor: Monitor, scratch: &mut [u8]) -> Judged
         Fault::Nothing => {}
         Fault::Refused { refusal, place } => {
             zero(scratch);
-            return Judged::Refused {
+            return MonitorVerdict::Refused {
                 refusal,
                 input: 1,
                 place,

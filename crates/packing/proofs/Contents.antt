@@ -11,8 +11,8 @@ use Rattle.promises.specs.declared.Inclusion.{Inclusion}
 use Rattle.promises.specs.declared.Inclusion.the-variants.{Included, NotIncluded, Refused as Not-compared}
 use Rattle.promises.specs.declared.Complemented.{Complemented}
 use Rattle.promises.specs.declared.Complemented.the-variants.{Rule as Complement-rule, Refused as Not-complemented}
-use Rattle.promises.specs.declared.Judged.{Judged}
-use Rattle.promises.specs.declared.Judged.the-variants.{Accepted as Judged-accepted, NotAccepted as Judged-not-accepted, Refused as Not-judged}
+use Rattle.promises.specs.declared.MonitorVerdict.{MonitorVerdict}
+use Rattle.promises.specs.declared.MonitorVerdict.the-variants.{Accepted as Judged-accepted, NotAccepted as Judged-not-accepted, Refused as Not-judged}
 use Rattle.promises.specs.declared.Membership.{Membership}
 use Rattle.promises.specs.declared.Membership.the-variants.{Accepted, NotAccepted, Refused as Not-a-member}
 use Rattle.promises.specs.declared.Monitor.{Monitor}
@@ -23,7 +23,7 @@ use Rattle.promises.specs.declared.Reduced.{Reduced}
 use Rattle.promises.specs.declared.Reduced.the-variants.{Rule as Reduced-rule, Refused as Not-reduced}
 use Rattle.promises.specs.declared.Strength.{Strength}
 use Rattle.promises.specs.declared.Strength.the-variants.{Strong, Weak, Refused as Not-decided}
-use Rattle.packing.specs.Packing.{refusal-at, monitorContents, movedContents, listedContents, strengthContents, membershipContents, complementedContents, reducedContents, translatedContents, inclusionContents, judgedContents}
+use Rattle.packing.specs.Packing.{refusal-at, monitorContents, movedContents, listedContents, strengthContents, membershipContents, complementedContents, reducedContents, translatedContents, inclusionContents, monitorVerdictContents}
 
 -- a refusal's contents are its verdict
 verdict-of : {n n′ i i′ p p′ : ℕ} → refusal-at n i p ≡ refusal-at n′ i′ p′ → numbered n i p ≡ numbered n′ i′ p′
@@ -86,7 +86,7 @@ inclusion-told (Not-compared r i p) Included e = cc
 inclusion-told (Not-compared r i p) (NotIncluded a′ b′) e = cc
 inclusion-told (Not-compared r i p) (Not-compared r′ i′ p′) e = same-refusal Not-compared r r′ i i′ p p′ (verdict-of e)
 
-pub judged-told : (x y : Judged) → judgedContents x ≡ judgedContents y → x ≡ y
+pub judged-told : (x y : MonitorVerdict) → monitorVerdictContents x ≡ monitorVerdictContents y → x ≡ y
 judged-told Judged-accepted Judged-accepted e = refl
 judged-told Judged-accepted Judged-not-accepted e = cc
 judged-told Judged-accepted (Not-judged r′ i′ p′) e = cc

@@ -24,8 +24,8 @@ use Rattle.promises.specs.declared.Reduced.{Reduced}
 use Rattle.promises.specs.declared.Reduced.the-variants.{Rule as Reduced-rule, Refused as Not-reduced}
 use Rattle.promises.specs.declared.Strength.{Strength}
 use Rattle.promises.specs.declared.Strength.the-variants.{Strong, Weak, Refused as Not-decided}
-use Rattle.promises.specs.declared.Judged.{Judged}
-use Rattle.promises.specs.declared.Judged.the-variants.{Accepted as Judged-accepted, NotAccepted as Judged-not-accepted, Refused as Not-judged}
+use Rattle.promises.specs.declared.MonitorVerdict.{MonitorVerdict}
+use Rattle.promises.specs.declared.MonitorVerdict.the-variants.{Accepted as Judged-accepted, NotAccepted as Judged-not-accepted, Refused as Not-judged}
 
 -- a refusal: its number, its input, its place
 unfoldable pub packRefusal : ℕ → ℕ → ℕ → ℕ
@@ -124,10 +124,10 @@ abbrev pub packMoved : Moved → ℕ
 packMoved answer = pack (movedContents answer)
 
 -- 1 where the lassos with the monitor's values are accepted
-abbrev pub judgedContents : Judged → Contents
-judgedContents Judged-accepted = fields 1 0 0
-judgedContents Judged-not-accepted = fields 0 0 0
-judgedContents (Not-judged refusal input place) = refusal-at (numberOf refusal) input place
+abbrev pub monitorVerdictContents : MonitorVerdict → Contents
+monitorVerdictContents Judged-accepted = fields 1 0 0
+monitorVerdictContents Judged-not-accepted = fields 0 0 0
+monitorVerdictContents (Not-judged refusal input place) = refusal-at (numberOf refusal) input place
 
-abbrev pub packJudged : Judged → ℕ
-packJudged answer = pack (judgedContents answer)
+abbrev pub packMonitorVerdict : MonitorVerdict → ℕ
+packMonitorVerdict answer = pack (monitorVerdictContents answer)

@@ -3,16 +3,16 @@ use answer::Refusal;
 use answer::number;
 use promises::Complemented;
 use promises::Inclusion;
-use promises::Judged;
 use promises::Listed;
 use promises::Membership;
+use promises::MonitorVerdict;
 use promises::Moved;
 use promises::Reduced;
 use promises::Strength;
 use promises::Translated;
 ghost use mathlib.Core.Path.{_≡_};
 ghost use Rattle.answer.specs.Refusals.{numberOf};
-ghost use Rattle.packing.specs.Packing.{packRefusal, packFields, packListed, packStrength, packMembership, packComplemented, packInclusion, packMoved, packReduced, packTranslated, packJudged};
+ghost use Rattle.packing.specs.Packing.{packRefusal, packFields, packListed, packStrength, packMembership, packComplemented, packInclusion, packMoved, packReduced, packTranslated, packMonitorVerdict};
 
 pub fn pack_refusal(refusal: Refusal, input: usize, place: usize) -> u64
     ensures { λ r. ⌜ r ≡ packRefusal (numberOf refusal) input place ⌝ }
@@ -144,13 +144,13 @@ pub fn pack_translated(answer: Translated) -> u64
     }
 }
 
-pub fn pack_judged(answer: Judged) -> u64
-    ensures { λ r. ⌜ r ≡ packJudged answer ⌝ }
+pub fn pack_monitor_verdict(answer: MonitorVerdict) -> u64
+    ensures { λ r. ⌜ r ≡ packMonitorVerdict answer ⌝ }
 {
     match answer {
-        Judged::Accepted => pack_fields(1, 0, 0),
-        Judged::NotAccepted => pack_fields(0, 0, 0),
-        Judged::Refused {
+        MonitorVerdict::Accepted => pack_fields(1, 0, 0),
+        MonitorVerdict::NotAccepted => pack_fields(0, 0, 0),
+        MonitorVerdict::Refused {
             refusal,
             input,
             place,

@@ -41,7 +41,7 @@ module _ {bytes second u-entry u-exit u-exit′ v-entry v-exit v-exit′ entry e
   pub one-answer : (answer answer′ : Inclusion) → InclusionPromise bytes second u-entry u-exit v-entry v-exit entry exit answer
       → InclusionPromise bytes second u-entry u-exit′ v-entry v-exit′ entry exit′ answer′ → Agree u-exit u-exit′ v-exit v-exit′ answer answer′
   one-answer answer answer′ p q =
-      same answer answer′ (p .answered) (q .answered) (one-verdict (inclusion-single bytes second u-entry v-entry entry) (p .verdict) (q .verdict))
+      same answer answer′ (p .answered) (q .answered) (one-verdict (inclusion-single bytes second u-entry v-entry entry) (p .refusal) (q .refusal))
     where
       same : (a b : Inclusion) → InclusionAnswer (morphismOf bytes) (pairsOf bytes) (secondPairs second) u-entry u-exit v-entry v-exit a
           → InclusionAnswer (morphismOf bytes) (pairsOf bytes) (secondPairs second) u-entry u-exit′ v-entry v-exit′ b

@@ -12,7 +12,7 @@ use Rattle.formats.proofs.OneVerdict.{checked-single}
 -- two inspections of the same bytes with the same scratch give one answer, and leave scratch alike
 module _ {bytes entry exit exit′ : List ℕ} where
   pub one-inspection : (answer answer′ : Inspected) → InspectPromise bytes entry exit answer → InspectPromise bytes entry exit′ answer′ → answer ≡ answer′
-  one-inspection answer answer′ p q = same answer answer′ p q (one-verdict (checked-single 1 bytes entry) (p .verdict) (q .verdict))
+  one-inspection answer answer′ p q = same answer answer′ p q (one-verdict (checked-single 1 bytes entry) (p .refusal) (q .refusal))
     where
       same : (a b : Inspected) → InspectPromise bytes entry exit a → InspectPromise bytes entry exit′ b → inspectedVerdict a ≡ inspectedVerdict b → a ≡ b
       same (Inspected-rule e l c) (Inspected-rule e′ l′ c′) p q v =

@@ -75,7 +75,7 @@ list-single bytes out scratch = buffer-single (checked-single 1 bytes scratch)
 
 module _ {bytes out-entry out-exit out-exit′ entry exit exit′ : List ℕ} where
   pub one-answer : (answer answer′ : Listed) → ListPromise bytes out-entry out-exit entry exit answer → ListPromise bytes out-entry out-exit′ entry exit′ answer′ → answer ≡ answer′
-  one-answer answer answer′ p q = same answer answer′ (p .answered) (q .answered) (one-verdict (list-single bytes out-entry entry) (p .verdict) (q .verdict))
+  one-answer answer answer′ p q = same answer answer′ (p .answered) (q .answered) (one-verdict (list-single bytes out-entry entry) (p .refusal) (q .refusal))
     where
       same : (a b : Listed) → ListedAnswer bytes out-entry out-exit a → ListedAnswer bytes out-entry out-exit′ b → listedVerdict a ≡ listedVerdict b → a ≡ b
       same (Counts l c j) (Counts l′ c′ j′) p q e =
@@ -86,7 +86,7 @@ module _ {bytes out-entry out-exit out-exit′ entry exit exit′ : List ℕ} wh
       same (Refused r i place) (Refused r′ i′ place′) p q e = same-refusal Refused r r′ i i′ place place′ e
 
   pub one-output : (answer answer′ : Listed) → ListPromise bytes out-entry out-exit entry exit answer → ListPromise bytes out-entry out-exit′ entry exit′ answer′ → out-exit ≡ out-exit′
-  one-output answer answer′ p q = same answer answer′ (p .answered) (q .answered) (one-verdict (list-single bytes out-entry entry) (p .verdict) (q .verdict))
+  one-output answer answer′ p q = same answer answer′ (p .answered) (q .answered) (one-verdict (list-single bytes out-entry entry) (p .refusal) (q .refusal))
     where
       same : (a b : Listed) → ListedAnswer bytes out-entry out-exit a → ListedAnswer bytes out-entry out-exit′ b → listedVerdict a ≡ listedVerdict b → out-exit ≡ out-exit′
       same (Counts l c j) (Counts l′ c′ j′) p q e = written-same (morphismOf bytes) (p .0) (q .0)

@@ -14,7 +14,7 @@ use Rattle.promises.specs.Member.{MemberPromise, memberVerdict}
 module _ {bytes u v entry exit exit′ : List ℕ} where
   pub one-answer : (answer answer′ : Membership) → MemberPromise bytes u v entry exit answer → MemberPromise bytes u v entry exit′ answer′ → answer ≡ answer′
   one-answer answer answer′ p q =
-      same answer answer′ p q (one-verdict (single-append (checked-single 1 bytes entry) (lasso-single (lettersOf bytes) u v)) (p .verdict) (q .verdict))
+      same answer answer′ p q (one-verdict (single-append (checked-single 1 bytes entry) (lasso-single (lettersOf bytes) u v)) (p .refusal) (q .refusal))
     where
       same : (a b : Membership) → MemberPromise bytes u v entry exit a → MemberPromise bytes u v entry exit′ b → memberVerdict a ≡ memberVerdict b → a ≡ b
       same Accepted Accepted p q e = refl

@@ -20,7 +20,7 @@ strong-rule-single needed buffer bytes scratch =
 
 module _ {bytes entry exit exit′ : List ℕ} where
   pub one-answer : (answer answer′ : Strength) → StrongPromise bytes entry exit answer → StrongPromise bytes entry exit′ answer′ → answer ≡ answer′
-  one-answer answer answer′ p q = same answer answer′ (p .answered) (q .answered) (one-verdict (checked-single 1 bytes entry) (p .verdict) (q .verdict))
+  one-answer answer answer′ p q = same answer answer′ (p .answered) (q .answered) (one-verdict (checked-single 1 bytes entry) (p .refusal) (q .refusal))
     where
       same : (a b : Strength) → StrengthAnswer bytes a → StrengthAnswer bytes b → strengthVerdict a ≡ strengthVerdict b → a ≡ b
       same Strong Strong p q e = refl

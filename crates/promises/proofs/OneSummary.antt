@@ -62,7 +62,7 @@ summary-same {bytes = bytes} {strong = strong} {strong′ = strong′} p q =
 
 module _ {bytes before after after′ entry exit exit′ : List ℕ} where
   pub one-answer : (answer answer′ : Summary) → SummaryPromise bytes before after entry exit answer → SummaryPromise bytes before after′ entry exit′ answer′ → answer ≡ answer′
-  one-answer answer answer′ p q = same answer answer′ (p .answered) (q .answered) (one-verdict (summary-single bytes before entry) (p .verdict) (q .verdict))
+  one-answer answer answer′ p q = same answer answer′ (p .answered) (q .answered) (one-verdict (summary-single bytes before entry) (p .refusal) (q .refusal))
     where
       same : (a b : Summary) → SummaryAnswer bytes a → SummaryAnswer bytes b → summaryVerdict a ≡ summaryVerdict b → a ≡ b
       same (Counts n k c l d s r) (Counts n′ k′ c′ l′ d′ s′ r′) p q e = summary-same p q

@@ -18,7 +18,7 @@ use Rattle.formats.proofs.AutomatonVerdict.{read-single}
 use Rattle.formats.specs.WrittenFile.{fileOf}
 use Rattle.formats.proofs.Same.{one-length, one-buffer}
 use Rattle.formats.proofs.OneFile.{one-file}
-use Rattle.promises.specs.Automaton.{RuleOf, RuleAnswer, ruleVerdict, translateChecks, RulePromise, RichAt}
+use Rattle.promises.specs.Automaton.{RuleOf, RuleAnswer, ruleVerdict, translateChecks, RulePromise, TooManyMatricesAt}
 use Rattle.promises.specs.declared.Translated.{Translated}
 use Rattle.promises.specs.declared.Translated.the-variants.{Rule, Refused}
 
@@ -27,11 +27,11 @@ module _ (bytes out entry : List ℕ) where
   all-single : AllSingle (translateChecks bytes out entry)
   all-single =
       buffer-single
-      (single-append (read-single 1 bytes entry) (single-cons (single-at (λ place (a : RichAt _ place). a .is-place)) single-nil))
+      (single-append (read-single 1 bytes entry) (single-cons (single-at (λ place (a : TooManyMatricesAt _ place). a .is-place)) single-nil))
 
   pub rule-one-verdict : {out-exit out-exit′ exit exit′ : List ℕ} {answer answer′ : Translated} → RulePromise bytes out out-exit entry exit answer
       → RulePromise bytes out out-exit′ entry exit′ answer′ → ruleVerdict answer ≡ ruleVerdict answer′
-  rule-one-verdict p q = one-verdict all-single (p .verdict) (q .verdict)
+  rule-one-verdict p q = one-verdict all-single (p .refusal) (q .refusal)
 
 -- scratch is left the same
 pub one-scratch : {bytes out out-exit out-exit′ entry exit exit′ : List ℕ} {answer answer′ : Translated} → RulePromise bytes out out-exit entry exit answer

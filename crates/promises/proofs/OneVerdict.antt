@@ -7,9 +7,9 @@ use Rattle.answer.proofs.Verdicts.{same-refusal, not-passed}
 use Rattle.theory.specs.Rules.{Morphism, Pairs}
 use Rattle.promises.specs.declared.Monitor.{Monitor}
 use Rattle.promises.proofs.OneMove.{monitor-single}
-use Rattle.promises.specs.declared.Judged.{Judged}
-use Rattle.promises.specs.declared.Judged.the-variants.{Accepted, NotAccepted, Refused}
-use Rattle.promises.specs.Verdict.{LassoWith, LassosAccepted, LassosNotAccepted, NoneAt, verdictChecks, judgedVerdict, VerdictAnswer, VerdictPromise}
+use Rattle.promises.specs.declared.MonitorVerdict.{MonitorVerdict}
+use Rattle.promises.specs.declared.MonitorVerdict.the-variants.{Accepted, NotAccepted, Refused}
+use Rattle.promises.specs.Verdict.{LassoWith, LassosAccepted, LassosNotAccepted, NoneAt, verdictChecks, monitorVerdictRefusal, VerdictAnswer, VerdictPromise}
 use Rattle.promises.specs.Weak.{WeakAt}
 
 -- each check of a verdict fails at one place at most
@@ -30,11 +30,11 @@ accepted-or-not {m} {before = before} {since = since} a b =
     b .not-accepted (a .start .word) (a .cycle .word) lasso (a .accepted (a .start .word) (a .cycle .word) lasso)
 
 module _ {bytes : List ℕ} {f : Monitor} {entry exit exit′ : List ℕ} where
-  pub one-answer : (answer answer′ : Judged) → VerdictPromise bytes f entry exit answer → VerdictPromise bytes f entry exit′ answer′ → answer ≡ answer′
+  pub one-answer : (answer answer′ : MonitorVerdict) → VerdictPromise bytes f entry exit answer → VerdictPromise bytes f entry exit′ answer′ → answer ≡ answer′
   one-answer answer answer′ p q =
-      same answer answer′ (p .answered) (q .answered) (one-verdict (verdict-single bytes f entry) (p .verdict) (q .verdict))
+      same answer answer′ (p .answered) (q .answered) (one-verdict (verdict-single bytes f entry) (p .refusal) (q .refusal))
     where
-      same : (a b : Judged) → VerdictAnswer bytes f a → VerdictAnswer bytes f b → judgedVerdict a ≡ judgedVerdict b → a ≡ b
+      same : (a b : MonitorVerdict) → VerdictAnswer bytes f a → VerdictAnswer bytes f b → monitorVerdictRefusal a ≡ monitorVerdictRefusal b → a ≡ b
       same Accepted Accepted p q e = refl
       same NotAccepted NotAccepted p q e = refl
       same Accepted NotAccepted p q e = absurd (accepted-or-not p q)
@@ -45,5 +45,5 @@ module _ {bytes : List ℕ} {f : Monitor} {entry exit exit′ : List ℕ} where
       same (Refused r i place) NotAccepted p q e = absurd (not-passed e)
       same (Refused r i place) (Refused r′ i′ place′) p q e = same-refusal Refused r r′ i i′ place place′ e
 
-  pub one-scratch : {answer answer′ : Judged} → VerdictPromise bytes f entry exit answer → VerdictPromise bytes f entry exit′ answer′ → exit ≡ exit′
+  pub one-scratch : {answer answer′ : MonitorVerdict} → VerdictPromise bytes f entry exit answer → VerdictPromise bytes f entry exit′ answer′ → exit ≡ exit′
   one-scratch p q = p .scratch ∙ sym (q .scratch)

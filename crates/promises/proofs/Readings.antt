@@ -18,9 +18,9 @@ use Rattle.formats.specs.AutomatonFile.{lettersAt, transitionsAt, transitionsOf
 use Rattle.formats.specs.RuleFile.{morphismOf}
 use Rattle.promises.specs.declared.Monitor.{Monitor}
 use Rattle.promises.specs.declared.Moved.the-variants.{Refused}
-use Rattle.promises.specs.declared.Told.the-variants.{Done}
+use Rattle.promises.specs.declared.InPlaceAnswer.the-variants.{Done}
 use Rattle.promises.specs.Stretch.{unread, stretchOf}
-use Rattle.promises.specs.Automaton.{automatonOf, RichAt}
+use Rattle.promises.specs.Automaton.{automatonOf, TooManyMatricesAt}
 use Rattle.promises.specs.Inclusion.{Apart, Within}
 use Rattle.promises.specs.Monitor.{freshMonitor}
 use Rattle.promises.specs.Moves.{afterEvent, afterMark, EventPromise}
@@ -64,7 +64,7 @@ no-transition-back = refl
 
 -- 64 matrices pass
 sixty-four-pass : {bytes : List ℕ} {m : Morphism} {matrix : ℕ → Matrix} {place : ℕ} → Lawful m → MatricesOf (automatonOf bytes) m matrix → m .size ≤ 64
-    → RichAt bytes place → ⊥
+    → TooManyMatricesAt bytes place → ⊥
 sixty-four-pass law elements few rich =
     let more : 64 < _ = matrices-size law elements 64 (rich .more) in
     omega arith

@@ -32,13 +32,13 @@ automatonOf bytes = record {
 }
 
 -- 14 "an automaton has more than 64 matrices"; place 0
-pub record RichAt (bytes : List ℕ) (place : ℕ) : Type 0 where
+pub record TooManyMatricesAt (bytes : List ℕ) (place : ℕ) : Type 0 where
   pub more : MoreMatrices (automatonOf bytes) 64
   pub is-place : place ≡ 0
 
 -- 14, in input 1
-abbrev pub richCheck : List ℕ → Check
-richCheck bytes = record { refusal = TooManyMatrices; input = 1; Fails = RichAt bytes }
+abbrev pub matricesCheck : List ℕ → Check
+matricesCheck bytes = record { refusal = TooManyMatrices; input = 1; Fails = TooManyMatricesAt bytes }
 
 -- "The elements are the matrices of all non-empty words. The rule accepts exactly the lassos on which some run from an initial
 -- state meets a final state again and again. A linked pair (R, E) is marked if .."; elements are numbered by first words; the file
@@ -68,10 +68,10 @@ RuleAnswer bytes entry exit (Refused refusal input place) = exit ≡ entry
 
 -- "For an automaton: 13, 1 to 4, 8, 14"; 13 of both buffers
 abbrev pub translateChecks : List ℕ → List ℕ → List ℕ → List Check
-translateChecks bytes out scratch = bufferCheck ruleSize out ∷ (readChecks 1 bytes scratch ++ (richCheck bytes ∷ []))
+translateChecks bytes out scratch = bufferCheck ruleSize out ∷ (readChecks 1 bytes scratch ++ (matricesCheck bytes ∷ []))
 
 -- scratch as every call leaves it
 pub record RulePromise (bytes out-entry out-exit entry exit : List ℕ) (answer : Translated) : Type 0 where
-  pub verdict : FirstFailure (translateChecks bytes out-entry entry) (ruleVerdict answer)
+  pub refusal : FirstFailure (translateChecks bytes out-entry entry) (ruleVerdict answer)
   pub answered : RuleAnswer bytes out-entry out-exit answer
   pub scratch : exit ≡ scratchLeft ruleSize out-entry entry

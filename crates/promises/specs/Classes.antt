@@ -53,6 +53,6 @@ ListedAnswer bytes entry exit (Refused refusal input place) = exit ≡ entry
 
 -- scratch as every call leaves it
 pub record ListPromise (bytes out-entry out-exit entry exit : List ℕ) (answer : Listed) : Type 0 where
-  pub verdict : FirstFailure (listChecks bytes out-entry entry) (listedVerdict answer)
+  pub refusal : FirstFailure (listChecks bytes out-entry entry) (listedVerdict answer)
   pub answered : ListedAnswer bytes out-entry out-exit answer
   pub scratch : exit ≡ scratchLeft classesSize out-entry entry

@@ -48,6 +48,6 @@ ComplementAnswer bytes entry exit (Refused refusal input place) = exit ≡ entry
 
 -- scratch as every call leaves it
 pub record ComplementPromise (bytes out-entry out-exit entry exit : List ℕ) (answer : Complemented) : Type 0 where
-  pub verdict : FirstFailure (complementChecks bytes out-entry entry) (complementVerdict answer)
+  pub refusal : FirstFailure (complementChecks bytes out-entry entry) (complementVerdict answer)
   pub answered : ComplementAnswer bytes out-entry out-exit answer
   pub scratch : exit ≡ scratchLeft ruleSize out-entry entry

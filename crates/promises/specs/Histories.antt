@@ -8,7 +8,7 @@ use Rattle.theory.specs.Rules.{value}
 use Rattle.formats.specs.RuleFile.{lettersOf, morphismOf}
 use Rattle.promises.specs.declared.Monitor.{Monitor}
 use Rattle.promises.specs.declared.Moved.the-variants.{To, Refused}
-use Rattle.promises.specs.declared.Told.the-variants.{Done, Refused as Told-refused}
+use Rattle.promises.specs.declared.InPlaceAnswer.the-variants.{Done, Refused as Not-done}
 use Rattle.promises.specs.Monitor.{valueOf, freshMonitor}
 use Rattle.promises.specs.Moves.{EventPromise, MarkPromise}
 use Rattle.promises.specs.InPlace.{EventInPlace}
@@ -46,7 +46,7 @@ pub data Run (bytes : List ℕ) : Monitor → List Action → Type 0 where
   mark-refused : {f g : Monitor} {history : List Action} {entry exit : List ℕ} {refusal : Refusal} {input place : ℕ}
       → Run bytes f history → MarkPromise bytes f entry exit (Refused g refusal input place) → Run bytes g history
   refused-in-place : {f g : Monitor} {history : List Action} {letter : ℕ} {entry exit : List ℕ} {refusal : Refusal} {input place : ℕ}
-      → Run bytes f history → EventInPlace bytes f letter entry exit g (Told-refused refusal input place) → Run bytes g history
+      → Run bytes f history → EventInPlace bytes f letter entry exit g (Not-done refusal input place) → Run bytes g history
 
 -- the monitor has the values of its history's two words, and those are words over the rule's letters
 pub record Follows (bytes : List ℕ) (f : Monitor) (history : List Action) : Type 0 where

@@ -6,22 +6,22 @@ use Rattle.answer.specs.Checks.{Verdict, passed, refused, FirstFailure}
 use Rattle.formats.specs.RuleFile.{morphismOf}
 use Rattle.formats.specs.Calls.{afterCall}
 use Rattle.promises.specs.declared.Monitor.{Monitor}
-use Rattle.promises.specs.declared.Told.{Told}
-use Rattle.promises.specs.declared.Told.the-variants.{Done, Refused as Told-refused}
+use Rattle.promises.specs.declared.InPlaceAnswer.{InPlaceAnswer}
+use Rattle.promises.specs.declared.InPlaceAnswer.the-variants.{Done, Refused as Not-done}
 use Rattle.promises.specs.Moves.{afterEvent, eventChecks}
 
 -- document 01's number, input and place of a call that is lent a monitor
-abbrev pub toldVerdict : Told → Verdict
-toldVerdict Done = passed
-toldVerdict (Told-refused refusal input place) = refused refusal input place
+abbrev pub inPlaceVerdict : InPlaceAnswer → Verdict
+inPlaceVerdict Done = passed
+inPlaceVerdict (Not-done refusal input place) = refused refusal input place
 
 -- the monitor that is left: the moved one, or after a refusal the same
-abbrev pub Leaves : Monitor → Monitor → Monitor → Told → Type 0
+abbrev pub Leaves : Monitor → Monitor → Monitor → InPlaceAnswer → Type 0
 Leaves f next g Done = g ≡ next
-Leaves f next g (Told-refused refusal input place) = g ≡ f
+Leaves f next g (Not-done refusal input place) = g ≡ f
 
 -- an event on a monitor that is lent: f at entry and g at exit
-pub record EventInPlace (bytes : List ℕ) (f : Monitor) (letter : ℕ) (entry exit : List ℕ) (g : Monitor) (answer : Told) : Type 0 where
-  pub verdict : FirstFailure (eventChecks bytes f letter entry) (toldVerdict answer)
+pub record EventInPlace (bytes : List ℕ) (f : Monitor) (letter : ℕ) (entry exit : List ℕ) (g : Monitor) (answer : InPlaceAnswer) : Type 0 where
+  pub refusal : FirstFailure (eventChecks bytes f letter entry) (inPlaceVerdict answer)
   pub monitor : Leaves f (afterEvent (morphismOf bytes) f letter) g answer
   pub scratch : exit ≡ afterCall entry

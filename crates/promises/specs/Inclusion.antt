@@ -71,6 +71,6 @@ abbrev pub inclusionLeft : List ℕ → List ℕ → List ℕ → List ℕ
 inclusionLeft u v scratch = cond (ltb (length u) startSize) scratch (scratchLeft cycleSize v scratch)
 
 pub record InclusionPromise (bytes second u-entry u-exit v-entry v-exit entry exit : List ℕ) (answer : Inclusion) : Type 0 where
-  pub verdict : FirstFailure (inclusionChecks bytes second u-entry v-entry entry) (inclusionVerdict answer)
+  pub refusal : FirstFailure (inclusionChecks bytes second u-entry v-entry entry) (inclusionVerdict answer)
   pub answered : InclusionAnswer (morphismOf bytes) (pairsOf bytes) (secondPairs second) u-entry u-exit v-entry v-exit answer
   pub scratch : exit ≡ inclusionLeft u-entry v-entry entry

@@ -26,6 +26,6 @@ InspectedCounts bytes (Inspected-refused refusal input place) = Unit {0}
 
 -- the promise of an inspection: which refusal and when; else the rule's counts; and scratch as every call leaves it
 pub record InspectPromise (bytes entry exit : List ℕ) (answer : Inspected) : Type 0 where
-  pub verdict : FirstFailure (checkedChecks 1 bytes entry) (inspectedVerdict answer)
+  pub refusal : FirstFailure (checkedChecks 1 bytes entry) (inspectedVerdict answer)
   pub values : InspectedCounts bytes answer
   pub scratch : exit ≡ afterCall entry

@@ -27,6 +27,6 @@ MemberAnswer bytes u v NotAccepted = Accepts (morphismOf bytes) (pairsOf bytes) 
 MemberAnswer bytes u v (Refused refusal input place) = Unit {0}
 
 pub record MemberPromise (bytes u v entry exit : List ℕ) (answer : Membership) : Type 0 where
-  pub verdict : FirstFailure (memberChecks bytes u v entry) (memberVerdict answer)
+  pub refusal : FirstFailure (memberChecks bytes u v entry) (memberVerdict answer)
   pub answered : MemberAnswer bytes u v answer
   pub scratch : exit ≡ afterCall entry

@@ -31,19 +31,19 @@ abbrev pub freshMonitor : Monitor
 freshMonitor = record { before = noValue; since = noValue }
 
 -- "a follower's value is neither an element nor 64"
-pub record IsStray (n s : ℕ) : Type 0 where
+pub record ValueOutOfRange (n s : ℕ) : Type 0 where
   pub no-element : n ≤ s
   pub not-none : s ≡ noValue → ⊥
 
 -- 3 of a monitor's values; place "0 for a follower"
-pub record StrayAt (n : ℕ) (f : Monitor) (place : ℕ) : Type 0 where
-  pub stray : IsStray n (f .before) ⊎ IsStray n (f .since)
+pub record MonitorValueOutOfRangeAt (n : ℕ) (f : Monitor) (place : ℕ) : Type 0 where
+  pub stray : ValueOutOfRange n (f .before) ⊎ ValueOutOfRange n (f .since)
   pub is-place : place ≡ 0
 
 -- 3 for the values of a monitor of a rule with n elements, which is the input of the given number
-abbrev pub strayCheck : ℕ → ℕ → Monitor → Check
-strayCheck input n f = record { refusal = EntryOutOfRange; input = input; Fails = StrayAt n f }
+abbrev pub monitorValueCheck : ℕ → ℕ → Monitor → Check
+monitorValueCheck input n f = record { refusal = EntryOutOfRange; input = input; Fails = MonitorValueOutOfRangeAt n f }
 
 -- "Then 3 for a follower's values": after the rule's own checks
 abbrev pub monitorChecks : List ℕ → Monitor → List ℕ → List Check
-monitorChecks bytes f scratch = checkedChecks 1 bytes scratch ++ strayCheck 1 (elementsOf bytes) f ∷ []
+monitorChecks bytes f scratch = checkedChecks 1 bytes scratch ++ monitorValueCheck 1 (elementsOf bytes) f ∷ []

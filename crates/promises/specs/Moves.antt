@@ -22,14 +22,14 @@ unfoldable pub afterMark : Morphism → Monitor → Monitor
 afterMark m f = record { before = numberFor (join m (valueOf (f .before)) (valueOf (f .since))); since = noValue }
 
 -- 10 "a word or event has a letter of k or more"; place "0 for a lone letter"
-pub record LoneForeignAt (k letter place : ℕ) : Type 0 where
+pub record LoneUnknownLetterAt (k letter place : ℕ) : Type 0 where
   pub foreign : k ≤ letter
   pub is-place : place ≡ 0
 
 -- and then 10 "for an event"
 abbrev pub eventChecks : List ℕ → Monitor → ℕ → List ℕ → List Check
 eventChecks bytes f letter scratch =
-    monitorChecks bytes f scratch ++ record { refusal = UnknownLetter; input = 1; Fails = LoneForeignAt (lettersOf bytes) letter } ∷ []
+    monitorChecks bytes f scratch ++ record { refusal = UnknownLetter; input = 1; Fails = LoneUnknownLetterAt (lettersOf bytes) letter } ∷ []
 
 -- document 01's number, input and place of a call on a monitor
 abbrev pub movedVerdict : Moved → Verdict
@@ -42,11 +42,11 @@ HandsBack f next (To g) = g ≡ next
 HandsBack f next (Refused g refusal input place) = g ≡ f
 
 pub record EventPromise (bytes : List ℕ) (f : Monitor) (letter : ℕ) (entry exit : List ℕ) (answer : Moved) : Type 0 where
-  pub verdict : FirstFailure (eventChecks bytes f letter entry) (movedVerdict answer)
+  pub refusal : FirstFailure (eventChecks bytes f letter entry) (movedVerdict answer)
   pub monitor : HandsBack f (afterEvent (morphismOf bytes) f letter) answer
   pub scratch : exit ≡ afterCall entry
 
 pub record MarkPromise (bytes : List ℕ) (f : Monitor) (entry exit : List ℕ) (answer : Moved) : Type 0 where
-  pub verdict : FirstFailure (monitorChecks bytes f entry) (movedVerdict answer)
+  pub refusal : FirstFailure (monitorChecks bytes f entry) (movedVerdict answer)
   pub monitor : HandsBack f (afterMark (morphismOf bytes) f) answer
   pub scratch : exit ≡ afterCall entry

@@ -43,6 +43,6 @@ ReducedAnswer bytes before after (Refused refusal input place) = after ≡ befor
 
 -- scratch as every call leaves it
 pub record ReducePromise (bytes before after entry exit : List ℕ) (answer : Reduced) : Type 0 where
-  pub verdict : FirstFailure (reduceChecks bytes before entry) (reducedVerdict answer)
+  pub refusal : FirstFailure (reduceChecks bytes before entry) (reducedVerdict answer)
   pub answered : ReducedAnswer bytes before after answer
   pub scratch : exit ≡ scratchLeft ruleSize before entry

@@ -22,6 +22,6 @@ StrengthAnswer bytes Weak = Strong (morphismOf bytes) (pairsOf bytes) → ⊥
 StrengthAnswer bytes (Refused refusal input place) = Unit {0}
 
 pub record StrongPromise (bytes entry exit : List ℕ) (answer : Strength) : Type 0 where
-  pub verdict : FirstFailure (checkedChecks 1 bytes entry) (strengthVerdict answer)
+  pub refusal : FirstFailure (checkedChecks 1 bytes entry) (strengthVerdict answer)
   pub answered : StrengthAnswer bytes answer
   pub scratch : exit ≡ afterCall entry

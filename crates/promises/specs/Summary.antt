@@ -58,7 +58,7 @@ workAfter work (Refused refusal input place) = work
 
 -- scratch as every call leaves it
 pub record SummaryPromise (bytes before after entry exit : List ℕ) (answer : Summary) : Type 0 where
-  pub verdict : FirstFailure (summaryChecks bytes before entry) (summaryVerdict answer)
+  pub refusal : FirstFailure (summaryChecks bytes before entry) (summaryVerdict answer)
   pub answered : SummaryAnswer bytes answer
   pub work : after ≡ workAfter before answer
   pub scratch : exit ≡ scratchLeft ruleSize before entry

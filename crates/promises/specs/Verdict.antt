@@ -13,8 +13,8 @@ use Rattle.formats.specs.Calls.{afterCall}
 use Rattle.promises.specs.declared.Monitor.{Monitor}
 use Rattle.promises.specs.Monitor.{noValue, monitorChecks}
 use Rattle.promises.specs.Weak.{weakCheck}
-use Rattle.promises.specs.declared.Judged.{Judged}
-use Rattle.promises.specs.declared.Judged.the-variants.{Accepted, NotAccepted, Refused}
+use Rattle.promises.specs.declared.MonitorVerdict.{MonitorVerdict}
+use Rattle.promises.specs.declared.MonitorVerdict.the-variants.{Accepted, NotAccepted, Refused}
 
 -- a "lasso whose start has value before and whose cycle has value since": a word whose value is an element is not empty
 pub record LassoWith (m : Morphism) (before since : ℕ) (u v : List ℕ) : Type 0 where
@@ -48,18 +48,18 @@ abbrev pub verdictChecks : List ℕ → Monitor → List ℕ → List Check
 verdictChecks bytes f scratch = monitorChecks bytes f scratch ++ noneCheck f ∷ weakCheck 1 bytes ∷ []
 
 -- document 01's number, input and place of an answer
-abbrev pub judgedVerdict : Judged → Verdict
-judgedVerdict Accepted = passed
-judgedVerdict NotAccepted = passed
-judgedVerdict (Refused refusal input place) = refused refusal input place
+abbrev pub monitorVerdictRefusal : MonitorVerdict → Verdict
+monitorVerdictRefusal Accepted = passed
+monitorVerdictRefusal NotAccepted = passed
+monitorVerdictRefusal (Refused refusal input place) = refused refusal input place
 
 -- "that of the lasso whose start has value before and whose cycle has value since"
-abbrev pub VerdictAnswer : List ℕ → Monitor → Judged → Type 0
+abbrev pub VerdictAnswer : List ℕ → Monitor → MonitorVerdict → Type 0
 VerdictAnswer bytes f Accepted = LassosAccepted (morphismOf bytes) (pairsOf bytes) (f .before) (f .since)
 VerdictAnswer bytes f NotAccepted = LassosNotAccepted (morphismOf bytes) (pairsOf bytes) (f .before) (f .since)
 VerdictAnswer bytes f (Refused refusal input place) = Unit {0}
 
-pub record VerdictPromise (bytes : List ℕ) (f : Monitor) (entry exit : List ℕ) (answer : Judged) : Type 0 where
-  pub verdict : FirstFailure (verdictChecks bytes f entry) (judgedVerdict answer)
+pub record VerdictPromise (bytes : List ℕ) (f : Monitor) (entry exit : List ℕ) (answer : MonitorVerdict) : Type 0 where
+  pub refusal : FirstFailure (verdictChecks bytes f entry) (monitorVerdictRefusal answer)
   pub answered : VerdictAnswer bytes f answer
   pub scratch : exit ≡ afterCall entry

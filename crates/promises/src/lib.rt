@@ -110,7 +110,7 @@ pub enum Moved {
 }
 
 // What a call that is lent a monitor answers: the monitor has moved, or the refusal.
-pub enum Told {
+pub enum InPlaceAnswer {
     Done,
     Refused {
         refusal: Refusal,
@@ -119,7 +119,7 @@ pub enum Told {
     },
 }
 
-pub enum Judged {
+pub enum MonitorVerdict {
     Accepted,
     NotAccepted,
     Refused {

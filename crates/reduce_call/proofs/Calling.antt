@@ -23,11 +23,11 @@ use Rattle.formats.specs.Calls.{checkedChecks}
 use Rattle.rule_check.specs.GoodRule.{GoodRule}
 use Rattle.rule_check.proofs.Left.{short-left, long-left}
 use Rattle.rule_check.proofs.Calls.{called-good, shape-morphism}
-use Rattle.mark_search.specs.Search.{Stands}
+use Rattle.mark_search.specs.Search.{MarkingAt}
 use Rattle.mark_strong.specs.Deciding.{StrongIf, Decided}
 use Rattle.mark_strong.proofs.Calling.{checked-lawful, checked-reached, checked-linked, checked-room, marks-stand, decided-file, decided-left}
 use Rattle.promises.specs.declared.Reduced.the-variants.{Rule as Is-rule, Refused}
-use Rattle.reduce_rule.specs.Steps.{ReducePlace, ReducedWritten}
+use Rattle.reduce_rule.specs.Steps.{ReduceNeeds, ReducedWritten}
 use Rattle.promises.specs.Weak.{weakCheck}
 use Rattle.promises.specs.Reduce.{ruleOf, ReducedTo, ReducePromise}
 use Rattle.reduce_call.proofs.Reducing.{reduces}
@@ -35,7 +35,7 @@ use Rattle.reduce_call.proofs.Reducing.{reduces}
 -- a short buffer is refused, and both are left as they came
 pub out-short : (bytes out scratch : List ℕ) → length out < ruleSize → ReducePromise bytes out out scratch scratch (Refused BufferTooShort 1 0)
 out-short bytes out scratch h = record {
-  verdict = buffer-short h;
+  refusal = buffer-short h;
   answered = refl;
   scratch = short-left ruleSize out scratch h;
 }
@@ -45,7 +45,7 @@ module _ (bytes out entry : List ℕ) (long : ruleSize ≤ length out) where
   pub reduce-refused : {mid : List ℕ} {r : Refusal} {input place : ℕ} → CheckPromise 1 bytes entry mid (Checked-refused r input place)
       → ReducePromise bytes out out entry mid (Refused r input place)
   reduce-refused p = record {
-    verdict = buffer-long long (refused-before (checkedChecks 1 bytes entry) (weakCheck 1 bytes ∷ []) (p .verdict));
+    refusal = buffer-long long (refused-before (checkedChecks 1 bytes entry) (weakCheck 1 bytes ∷ []) (p .refusal));
     answered = refl;
     scratch = long-left ruleSize out entry long (p .scratch);
   }
@@ -54,12 +54,12 @@ module _ (bytes out entry : List ℕ) (long : ruleSize ≤ length out) where
   module _ {shape : Shape} {mid decided : List ℕ} {answer : Bool} (p : CheckPromise 1 bytes entry mid (Checked-rule shape))
       (d : Decided (morphismAt bytes (shape .elements) (shape .letters)) mid decided answer) where
     good : GoodRule bytes
-    good = called-good 1 bytes entry (p .verdict)
+    good = called-good 1 bytes entry (p .refusal)
 
     same : morphismAt bytes (shape .elements) (shape .letters) ≡ morphismOf bytes
     same = shape-morphism (p .scratch .shape-is)
 
-    pub reduce-place : ReducePlace (morphismAt bytes (shape .elements) (shape .letters)) decided out
+    pub reduce-place : ReduceNeeds (morphismAt bytes (shape .elements) (shape .letters)) decided out
     reduce-place = record {
       lawful = checked-lawful 1 bytes entry p;
       reached = checked-reached 1 bytes entry p;
@@ -71,7 +71,7 @@ module _ (bytes out entry : List ℕ) (long : ruleSize ≤ length out) where
     -- a rule that is not strong is refused
     pub reduce-weak : (end : List ℕ) → end ≡ replicate (length decided) 0 → answer ≡ false → ReducePromise bytes out out entry end (Refused NotStrong 1 0)
     reduce-weak end z e = record {
-      verdict = buffer-long long (passed-before (checkedChecks 1 bytes entry) (weakCheck 1 bytes ∷ []) (p .verdict)
+      refusal = buffer-long long (passed-before (checkedChecks 1 bytes entry) (weakCheck 1 bytes ∷ []) (p .refusal)
           (first-fails (weakCheck 1 bytes) (record { weak = subst (StrongIf (morphismOf bytes) (pairsOf bytes)) e (decided-file 1 bytes entry p d); is-place = refl })));
       answered = refl;
       scratch = long-left ruleSize out entry long (decided-left 1 bytes entry p d decided end refl z);
@@ -83,9 +83,9 @@ module _ (bytes out entry : List ℕ) (long : ruleSize ≤ length out) where
       strong : Strong (morphismOf bytes) (pairsOf bytes)
       strong = subst (StrongIf (morphismOf bytes) (pairsOf bytes)) e (decided-file 1 bytes entry p d)
 
-      closure-stands : Stands (elementsOf bytes) (closure-test (morphismOf bytes) (pairsOf bytes)) decided 4096
+      closure-stands : MarkingAt (elementsOf bytes) (closure-test (morphismOf bytes) (pairsOf bytes)) decided 4096
       closure-stands =
-          subst (λ (m : Morphism). Stands (m .size) (closure-test m (pairsOf bytes)) decided 4096) same
+          subst (λ (m : Morphism). MarkingAt (m .size) (closure-test m (pairsOf bytes)) decided 4096) same
           (d .closure (pairsOf bytes) (checked-linked 1 bytes entry p) (marks-stand 1 bytes entry p))
 
       written : ReducedWritten (morphismOf bytes) decided exit out after length-of
@@ -99,7 +99,7 @@ module _ (bytes out entry : List ℕ) (long : ruleSize ≤ length out) where
 
       pub reduce-strong : (end : List ℕ) → end ≡ replicate (length exit) 0 → ReducePromise bytes out after entry end (Is-rule length-of)
       reduce-strong end z = record {
-        verdict = buffer-long long (passed-before (checkedChecks 1 bytes entry) (weakCheck 1 bytes ∷ []) (p .verdict)
+        refusal = buffer-long long (passed-before (checkedChecks 1 bytes entry) (weakCheck 1 bytes ∷ []) (p .refusal)
             (first-passes (record { nowhere = λ place f. f .weak strong }) none-left));
         answered = reduced-to;
         scratch = long-left ruleSize out entry long (decided-left 1 bytes entry p d exit end (w .same-length) z);

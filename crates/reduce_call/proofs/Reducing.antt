@@ -19,7 +19,7 @@ use Rattle.reduce_rounds.specs.Rounds.{RoundsSettled}
 use Rattle.reduce_first_round.proofs.Bytes.{kept-room}
 use Rattle.reduce_first_round.proofs.OutcomeBytes.{outcome-below, outcome-acceptance}
 use Rattle.reduce_first_round.proofs.Comparing.{same-outcomes-carry}
-use Rattle.mark_search.specs.Search.{Stands}
+use Rattle.mark_search.specs.Search.{MarkingAt}
 use Rattle.reduce_numbering.specs.Steps.{leaderAt}
 use Rattle.formats.specs.FirstWords.{ByFirstWords}
 use Rattle.reduce_numbering.specs.Numbering.{NumberedAs, BlocksNumbered}
@@ -29,13 +29,13 @@ use Rattle.formats.proofs.Same.{SameMarks, file-same}
 use Rattle.formats.proofs.ReadBack.{written-rule}
 use Rattle.formats.specs.ReadBack.{WrittenRule}
 use Rattle.reduce_rule.specs.Written.{FileWritten}
-use Rattle.reduce_rule.specs.Steps.{QuotientPlace, QuotientWritten, ReducePlace, ReducedWritten}
+use Rattle.reduce_rule.specs.Steps.{QuotientNeeds, QuotientWritten, ReduceNeeds, ReducedWritten}
 use Rattle.reduce_call.proofs.Order.{quotient-by-first-words}
 use Rattle.reduce_rule.proofs.Laid.{written-same}
 
 -- from the blocks of the last round to the file
 module _ {m : Morphism} {entry settled numbered out : List ℕ} {i c : ℕ} (small : m .size ≤ 64)
-    (p : ReducePlace m entry out) (r : RoundsSettled m entry settled i) (b : BlocksNumbered m c settled numbered) where
+    (p : ReduceNeeds m entry out) (r : RoundsSettled m entry settled i) (b : BlocksNumbered m c settled numbered) where
   -- the numbering by the outcomes that the table of marks gave
   numbering-of : NumberedAs m (outcomeOf m entry) c numbered
   numbering-of = b .numbered (outcomeOf m entry) i (r .blocks) (r .stable)
@@ -43,7 +43,7 @@ module _ {m : Morphism} {entry settled numbered out : List ℕ} {i c : ℕ} (sma
   leader-inside : (j : ℕ) → j < c → leaderAt numbered j < m .size
   leader-inside j h = rw (← numbering-of .leaders j) (numbering-of .numbering .leader-below j h)
 
-  pub quotient-place : QuotientPlace (m .size) (m .letters) c numbered out
+  pub quotient-place : QuotientNeeds (m .size) (m .letters) c numbered out
   quotient-place = record {
     some = b .some;
     letters-some = p .letters-some;
@@ -119,7 +119,7 @@ pub record Reduces (r : Rule) (before after : List ℕ) (end : ℕ) : Type 0 whe
 -- a strong rule whose closure stands in the second table of marks
 module _ (r : Rule) (small : r .morphism .size ≤ 64) (letters-some : 1 ≤ r .morphism .letters) (letters-small : r .morphism .letters ≤ 16)
     (reached : AllReached (r .morphism)) (linked : LinkedOnly (r .morphism) (marked (r .marks))) (strong : RuleStrong r)
-    {entry exit before after : List ℕ} {end : ℕ} (stands : Stands (r .morphism .size) (closure-test (r .morphism) (marked (r .marks))) entry 4096)
+    {entry exit before after : List ℕ} {end : ℕ} (stands : MarkingAt (r .morphism .size) (closure-test (r .morphism) (marked (r .marks))) entry 4096)
     (w : ReducedWritten (r .morphism) entry exit before after end) where
   outcomes-agree : (s z : ℕ) → s < r .morphism .size → z < r .morphism .size
       → outcomeOf (r .morphism) entry s z ≡ acceptance (r .morphism) (marked (r .marks)) s z

@@ -6,7 +6,7 @@ use answer::Refusal;
 use mark_strong::decide;
 use promises::Reduced;
 use reduce_numbering::number_blocks;
-use reduce_rounds::settle;
+use reduce_rounds::refine_until_stable;
 use reduce_rule::write_quotient;
 use rule_check::Checked;
 use rule_check::check;
@@ -15,16 +15,16 @@ ghost use Prim.Native.Nat.{_<_};
 ghost use lib.ListN.{length};
 ghost use Rattle.rule_table.specs.Table.{Table};
 ghost use Rattle.formats.specs.Table.{morphismAt};
-ghost use Rattle.reduce_rule.specs.Steps.{ReducePlace, ReducedWritten};
+ghost use Rattle.reduce_rule.specs.Steps.{ReduceNeeds, ReducedWritten};
 ghost use Rattle.promises.specs.Reduce.{ReducePromise};
 
 // Writes the reduction of a strong rule, from the closure of its marks in scratch.
 fn write_reduced(rule: &[u8], n: usize, k: usize, scratch: &mut [u8], out: &mut [u8]) -> usize
     requires { ⌜ Table (now rule) n k ⌝ }
-    requires { ⌜ ReducePlace (morphismAt (now rule) n k) (now scratch) (now out) ⌝ }
+    requires { ⌜ ReduceNeeds (morphismAt (now rule) n k) (now scratch) (now out) ⌝ }
     ensures { λ r. ⌜ ReducedWritten (morphismAt (now (rule .entry)) n k) (now (scratch .entry)) (now (scratch .exit)) (now (out .entry)) (now (out .exit)) r ⌝ }
 {
-    settle(rule, n, k, scratch);
+    refine_until_stable(rule, n, k, scratch);
     let c = number_blocks(rule, n, k, scratch);
     write_quotient(rule, n, k, c, scratch, out)
 }

@@ -17,7 +17,7 @@ ghost use Rattle.reduce_first_round.specs.Map.{outcomeAt};
 ghost use Rattle.reduce_first_round.specs.Steps.{Tells, LeastRelated, ColumnWritten, OutcomesWritten, BlocksWritten};
 
 // The idempotent power of an element of a lawful table.
-pub fn settled(rule: &[u8], n: usize, k: usize, z: usize) -> usize
+pub fn idempotent_power_of(rule: &[u8], n: usize, k: usize, z: usize) -> usize
     requires { ⌜ Table (now rule) n k ⌝ }
     requires { ⌜ Lawful (morphismAt (now rule) n k) ⌝ }
     requires { ⌜ z < n ⌝ }
@@ -58,7 +58,7 @@ pub fn outcome_column(rule: &[u8], n: usize, k: usize, scratch: &mut [u8], z: us
     requires { ⌜ 65536 ≤ length (now scratch) ⌝ }
     ensures { λ r. ⌜ ColumnWritten (morphismAt (now (rule .entry)) n k) z n (now (scratch .entry)) (now (scratch .exit)) ⌝ }
 {
-    let f = settled(rule, n, k, z);
+    let f = idempotent_power_of(rule, n, k, z);
     for s in 0..n {
         let found = outcome(rule, n, k, scratch, s, f);
         scratch[8192 + (s * 64 + z)] = found;

@@ -3,11 +3,11 @@
 use rule_table::product;
 ghost use mathlib.Core.Path.{_≡_};
 ghost use Prim.Native.Nat.{_+_, _*_, _<_};
-ghost use Rattle.reduce_table.specs.Layout.{BlocksPlace, laidProduct, blockOutcome, blockMark, Filled, Grid};
+ghost use Rattle.reduce_table.specs.Layout.{BlocksNeeds, laidProduct, blockOutcome, blockMark, Filled, Grid};
 
 // The product of two blocks, read.
 pub fn laid_product(c: usize, scratch: &[u8], i: usize, j: usize) -> usize
-    requires { ⌜ BlocksPlace 64 c (now scratch) ⌝ }
+    requires { ⌜ BlocksNeeds 64 c (now scratch) ⌝ }
     requires { ⌜ (i < c) × (j < c) ⌝ }
     ensures { λ r. ⌜ r ≡ laidProduct c (now (scratch .entry)) i j ⌝ }
 {
@@ -16,7 +16,7 @@ pub fn laid_product(c: usize, scratch: &[u8], i: usize, j: usize) -> usize
 
 // The outcome of two blocks: that of their leaders.
 pub fn block_outcome(c: usize, scratch: &[u8], i: usize, j: usize) -> u8
-    requires { ⌜ BlocksPlace 64 c (now scratch) ⌝ }
+    requires { ⌜ BlocksNeeds 64 c (now scratch) ⌝ }
     requires { ⌜ (i < c) × (j < c) ⌝ }
     ensures { λ r. ⌜ r ≡ blockOutcome (now (scratch .entry)) i j ⌝ }
 {
@@ -27,7 +27,7 @@ pub fn block_outcome(c: usize, scratch: &[u8], i: usize, j: usize) -> u8
 
 // 1 where the pair of blocks is linked and its lassos are accepted, else 0.
 pub fn mark_byte(c: usize, scratch: &[u8], i: usize, j: usize) -> u8
-    requires { ⌜ BlocksPlace 64 c (now scratch) ⌝ }
+    requires { ⌜ BlocksNeeds 64 c (now scratch) ⌝ }
     requires { ⌜ (i < c) × (j < c) ⌝ }
     ensures { λ r. ⌜ r ≡ blockMark c (now (scratch .entry)) i j ⌝ }
 {
@@ -48,7 +48,7 @@ pub fn mark_byte(c: usize, scratch: &[u8], i: usize, j: usize) -> u8
 
 // The marks of the pairs that begin with block i.
 pub fn marks_row(c: usize, scratch: &mut [u8], i: usize)
-    requires { ⌜ BlocksPlace 64 c (now scratch) ⌝ }
+    requires { ⌜ BlocksNeeds 64 c (now scratch) ⌝ }
     requires { ⌜ i < c ⌝ }
     ensures { λ r. ⌜ Filled (blockMark c (now (scratch .entry)) i) (24576 + i * 64) c (now (scratch .entry)) (now (scratch .exit)) ⌝ }
 {
@@ -60,7 +60,7 @@ pub fn marks_row(c: usize, scratch: &mut [u8], i: usize)
 
 // The marks of all pairs of blocks.
 pub fn lay_marks(c: usize, scratch: &mut [u8])
-    requires { ⌜ BlocksPlace 64 c (now scratch) ⌝ }
+    requires { ⌜ BlocksNeeds 64 c (now scratch) ⌝ }
     ensures { λ r. ⌜ Grid (blockMark c (now (scratch .entry))) 24576 64 c c (now (scratch .entry)) (now (scratch .exit)) ⌝ }
 {
     for i in 0..c {

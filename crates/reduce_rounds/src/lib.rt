@@ -128,7 +128,7 @@ pub fn round(rule: &[u8], n: usize, k: usize, scratch: &mut [u8]) -> bool
 }
 
 // The outcomes, the blocks of round 0, and rounds until one changes nothing. Answers the first round after which none does.
-pub fn settle(rule: &[u8], n: usize, k: usize, scratch: &mut [u8]) -> usize
+pub fn refine_until_stable(rule: &[u8], n: usize, k: usize, scratch: &mut [u8]) -> usize
     requires { ⌜ Table (now rule) n k ⌝ }
     requires { ⌜ Lawful (morphismAt (now rule) n k) ⌝ }
     requires { ⌜ 65536 ≤ length (now scratch) ⌝ }

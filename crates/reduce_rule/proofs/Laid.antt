@@ -20,14 +20,14 @@ use Rattle.minimality.proofs.Quotient.{quotient, quotient-acc}
 use Rattle.minimality.proofs.Saturation.{saturated}
 use Rattle.reduce_first_round.specs.Map.{outcomeAt}
 use Rattle.formats.specs.WrittenFile.{fileOf}
-use Rattle.rule_writer.specs.Writing.{tableMorphism, tableMarks, RulePlace, RuleWritten}
+use Rattle.rule_writer.specs.Writing.{tableMorphism, tableMarks, RuleNeeds, RuleWritten}
 use Rattle.formats.proofs.Agree.{Agree}
 use Rattle.formats.proofs.Same.{SameMarks, file-same}
 use Rattle.reduce_numbering.specs.Steps.{numberAt, leaderAt}
 use Rattle.reduce_numbering.specs.Numbering.{NumberedAs}
-use Rattle.reduce_table.specs.Layout.{BlocksPlace, blockProduct, blockImage, laidProduct, blockOutcome, blockMark, Filled, Grid}
+use Rattle.reduce_table.specs.Layout.{BlocksNeeds, blockProduct, blockImage, laidProduct, blockOutcome, blockMark, Filled, Grid}
 use Rattle.reduce_rule.specs.Written.{FileWritten}
-use Rattle.reduce_rule.specs.Steps.{LaidPlace, LaidAs, LaidWritten, QuotientPlace, QuotientWritten}
+use Rattle.reduce_rule.specs.Steps.{LaidNeeds, LaidAs, LaidWritten, QuotientNeeds, QuotientWritten}
 use Rattle.reduce_table.proofs.Cells.{pair-small}
 use Rattle.reduce_table.proofs.Blocks.{image-kept}
 
@@ -50,9 +50,9 @@ part-length scratch at = rw (rest-of scratch at) (length-drop at scratch)
 abbrev pub part : List ℕ → ℕ → List ℕ
 part scratch at = take (length scratch - at) (drop at scratch)
 
-module _ {c k : ℕ} {scratch out : List ℕ} (p : LaidPlace c k scratch out) where
+module _ {c k : ℕ} {scratch out : List ℕ} (p : LaidNeeds c k scratch out) where
   -- the parts are long enough for the tables
-  pub laid-place : RulePlace (part scratch 16384) (part scratch 20480) (part scratch 24576) c k out
+  pub laid-place : RuleNeeds (part scratch 16384) (part scratch 20480) (part scratch 24576) c k out
   laid-place = record {
     some = p .some;
     small = p .small;
@@ -113,7 +113,7 @@ saturated-above q acc i j hi hj =
     ∙ and-after (ltb i (q .size)) (ltb j (q .size)) (eqb (q .product j j) j) (eqb (q .product i j) i) (ltb 0 (acc i j)) (lt-ltb i (q .size) hi) (lt-ltb j (q .size) hj)
 
 module _ {bytes : List ℕ} {n k c : ℕ} (t : Table bytes n k) {entry table images out : List ℕ}
-    (p : QuotientPlace n k c entry out) (g : Grid (blockProduct bytes n entry) 16384 c c c entry table)
+    (p : QuotientNeeds n k c entry out) (g : Grid (blockProduct bytes n entry) 16384 c c c entry table)
     (f : Filled (blockImage bytes n table) 20480 k table images) where
   abbrev m : Morphism
   m = morphismAt bytes n k
@@ -128,7 +128,7 @@ module _ {bytes : List ℕ} {n k c : ℕ} (t : Table bytes n k) {entry table ima
   leader-small : (j : ℕ) → j < c → leaderAt entry j < 64
   leader-small j l = omega (arith, t .small, p .blocks .leaders j l)
 
-  pub images-place : BlocksPlace 64 c images
+  pub images-place : BlocksNeeds 64 c images
   images-place = record {
     small = p .blocks .small;
     leaders = λ j l. rw (front-kept (12480 + j) (omega (arith, p .blocks .small))) (leader-small j l);
@@ -137,7 +137,7 @@ module _ {bytes : List ℕ} {n k c : ℕ} (t : Table bytes n k) {entry table ima
 
   -- the marks too
   module _ {marks : List ℕ} (h : Grid (blockMark c images) 24576 64 c c images marks) where
-    pub marks-place : LaidPlace c k marks out
+    pub marks-place : LaidNeeds c k marks out
     marks-place = record {
       some = p .some;
       small = p .blocks .small;

@@ -10,11 +10,11 @@ use Rattle.minimality.proofs.Quotient.{Numbering, quotient, quotient-acc}
 use Rattle.minimality.proofs.Saturation.{saturated}
 use Rattle.reduce_first_round.specs.Map.{outcomeOf, outcomeAt}
 use Rattle.reduce_numbering.specs.Numbering.{NumberedAs}
-use Rattle.reduce_table.specs.Layout.{BlocksPlace}
+use Rattle.reduce_table.specs.Layout.{BlocksNeeds}
 use Rattle.reduce_rule.specs.Written.{FileWritten}
 
 -- the tables of c blocks and k letters within the limits of the format, and room for the longest file
-pub record LaidPlace (c k : ℕ) (scratch out : List ℕ) : Type 0 where
+pub record LaidNeeds (c k : ℕ) (scratch out : List ℕ) : Type 0 where
   pub some : 1 ≤ c
   pub small : c ≤ 64
   pub letters-some : 1 ≤ k
@@ -35,10 +35,10 @@ pub record LaidWritten (c k : ℕ) (scratch before after : List ℕ) (end : ℕ)
   pub written : (m : Morphism) (marks : Marking) → LaidAs m marks c k scratch → FileWritten m marks before after end
 
 -- c blocks whose leaders are elements, and room
-pub record QuotientPlace (n k c : ℕ) (scratch out : List ℕ) : Type 0 where
+pub record QuotientNeeds (n k c : ℕ) (scratch out : List ℕ) : Type 0 where
   pub some : 1 ≤ c
   pub letters-some : 1 ≤ k
-  pub blocks : BlocksPlace n c scratch
+  pub blocks : BlocksNeeds n c scratch
   pub out-room : 12308 ≤ length out
 
 -- the rule of the blocks was written, by whichever outcome they are numbered and the outcomes stand in scratch
@@ -49,7 +49,7 @@ pub record QuotientWritten (m : Morphism) (c : ℕ) (entry exit before after : L
       → FileWritten (quotient (b .numbering)) (saturated (quotient (b .numbering)) (quotient-acc (b .numbering))) before after end
 
 -- a lawful table whose elements are all reached, and room
-pub record ReducePlace (m : Morphism) (scratch out : List ℕ) : Type 0 where
+pub record ReduceNeeds (m : Morphism) (scratch out : List ℕ) : Type 0 where
   pub lawful : Lawful m
   pub reached : AllReached m
   pub letters-some : 1 ≤ m .letters

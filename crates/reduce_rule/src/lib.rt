@@ -6,11 +6,11 @@ use rule_writer::write_rule;
 ghost use lib.ListN.{length};
 ghost use Rattle.rule_table.specs.Table.{Table};
 ghost use Rattle.formats.specs.Table.{morphismAt};
-ghost use Rattle.reduce_rule.specs.Steps.{LaidPlace, LaidWritten, QuotientPlace, QuotientWritten};
+ghost use Rattle.reduce_rule.specs.Steps.{LaidNeeds, LaidWritten, QuotientNeeds, QuotientWritten};
 
 // Writes the rule whose tables stand in scratch.
 pub fn write_laid(scratch: &[u8], c: usize, k: usize, out: &mut [u8]) -> usize
-    requires { ⌜ LaidPlace c k (now scratch) (now out) ⌝ }
+    requires { ⌜ LaidNeeds c k (now scratch) (now out) ⌝ }
     ensures { λ r. ⌜ LaidWritten c k (now (scratch .entry)) (now (out .entry)) (now (out .exit)) r ⌝ }
 {
     write_rule(
@@ -33,7 +33,7 @@ pub fn write_quotient(
     out: &mut [u8],
 ) -> usize
     requires { ⌜ Table (now rule) n k ⌝ }
-    requires { ⌜ QuotientPlace n k c (now scratch) (now out) ⌝ }
+    requires { ⌜ QuotientNeeds n k c (now scratch) (now out) ⌝ }
     ensures { λ r. ⌜ QuotientWritten (morphismAt (now (rule .entry)) n k) c (now (scratch .entry)) (now (scratch .exit)) (now (out .entry)) (now (out .exit)) r ⌝ }
 {
     lay_table(rule, n, k, c, scratch);

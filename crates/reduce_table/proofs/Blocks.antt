@@ -15,16 +15,16 @@ use Rattle.formats.specs.Table.{productAt, imageAt}
 use Rattle.reduce_first_round.specs.Map.{outcomeAt, KeptOutside}
 use Rattle.reduce_first_round.proofs.Bytes.{kept-room}
 use Rattle.reduce_numbering.specs.Steps.{numberAt, leaderAt}
-use Rattle.reduce_table.specs.Layout.{BlocksPlace, blockProduct, blockImage, laidProduct, blockOutcome, blockMark}
+use Rattle.reduce_table.specs.Layout.{BlocksNeeds, blockProduct, blockImage, laidProduct, blockOutcome, blockMark}
 use Rattle.reduce_table.proofs.Cells.{pair-small}
 
 -- the product of two leaders is one of 64 elements
-pub product-small : {bytes : List ℕ} {n k c : ℕ} {scratch : List ℕ} → Table bytes n k → BlocksPlace n c scratch → (i j : ℕ) → i < c → j < c
+pub product-small : {bytes : List ℕ} {n k c : ℕ} {scratch : List ℕ} → Table bytes n k → BlocksNeeds n c scratch → (i j : ℕ) → i < c → j < c
     → productAt bytes n (leaderAt scratch i) (leaderAt scratch j) < 64
 product-small t p i j hi hj = omega (arith, t .small, t .products _ _ (p .leaders i hi) (p .leaders j hj))
 
 -- the places of a pair of blocks in the table and among the marks lie within scratch
-module _ {n c : ℕ} {entry : List ℕ} (p : BlocksPlace n c entry) (i j : ℕ) (hi : i < c) (hj : j < c) {from to : ℕ} {now : List ℕ} (k : KeptOutside from to entry now) where
+module _ {n c : ℕ} {entry : List ℕ} (p : BlocksNeeds n c entry) (i j : ℕ) (hi : i < c) (hj : j < c) {from to : ℕ} {now : List ℕ} (k : KeptOutside from to entry now) where
   pub table-inside : 16384 + i * c + j < length now
   table-inside = omega (arith, pair-small c i j (p .small) hi hj, kept-room k (p .room))
 
@@ -39,7 +39,7 @@ module _ {from to : ℕ} {entry now : List ℕ} (k : KeptOutside from to entry n
   leader-kept : (j : ℕ) → j < 64 → leaderAt now j ≡ leaderAt entry j
   leader-kept j l = k .before (12480 + j) (omega arith)
 
-  pub blocks-kept : {n c : ℕ} → BlocksPlace n c entry → BlocksPlace n c now
+  pub blocks-kept : {n c : ℕ} → BlocksNeeds n c entry → BlocksNeeds n c now
   blocks-kept p = record {
     small = p .small;
     leaders = λ j l. rw (leader-kept j (omega (arith, p .small))) (p .leaders j l);
@@ -47,7 +47,7 @@ module _ {from to : ℕ} {entry now : List ℕ} (k : KeptOutside from to entry n
   }
 
   -- and so are the products and the letters of the blocks
-  pub product-kept : {bytes : List ℕ} {n k c : ℕ} → Table bytes n k → BlocksPlace n c entry → (i j : ℕ) → i < c → j < c
+  pub product-kept : {bytes : List ℕ} {n k c : ℕ} → Table bytes n k → BlocksNeeds n c entry → (i j : ℕ) → i < c → j < c
       → blockProduct bytes n now i j ≡ blockProduct bytes n entry i j
   unfolding blockProduct
   product-kept {bytes} {n} t p i j hi hj =
@@ -55,7 +55,7 @@ module _ {from to : ℕ} {entry now : List ℕ} (k : KeptOutside from to entry n
       ∙ number-kept _ (product-small t p i j hi hj)
 
   -- and so is what was worked out from them
-  pub product-stored : {bytes : List ℕ} {n k c : ℕ} → Table bytes n k → BlocksPlace n c entry → (i j : ℕ) → i < c → j < c
+  pub product-stored : {bytes : List ℕ} {n k c : ℕ} → Table bytes n k → BlocksNeeds n c entry → (i j : ℕ) → i < c → j < c
       → {v : ℕ} → v ≡ blockProduct bytes n now i j → v ≡ blockProduct bytes n entry i j
   product-stored t p i j hi hj e = e ∙ product-kept t p i j hi hj
 
@@ -64,7 +64,7 @@ module _ {from to : ℕ} {entry now : List ℕ} (k : KeptOutside from to entry n
   image-kept {bytes} {n} t a ha = number-kept (imageAt bytes n a) (omega (arith, t .small, t .images a ha))
 
   -- and the marks, where the products are laid out already
-  pub mark-kept : 24576 ≤ from → {c : ℕ} → BlocksPlace 64 c entry → (i j : ℕ) → i < c → j < c → blockMark c now i j ≡ blockMark c entry i j
+  pub mark-kept : 24576 ≤ from → {c : ℕ} → BlocksNeeds 64 c entry → (i j : ℕ) → i < c → j < c → blockMark c now i j ≡ blockMark c entry i j
   unfolding blockMark laidProduct blockOutcome outcomeAt
   mark-kept g {c} p i j hi hj =
       let ei : leaderAt now i ≡ leaderAt entry i = leader-kept i (omega (arith, p .small)) in

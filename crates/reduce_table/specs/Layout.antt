@@ -17,7 +17,7 @@ use Rattle.reduce_first_round.specs.Map.{outcomeAt, KeptOutside}
 use Rattle.reduce_numbering.specs.Steps.{numberAt, leaderAt}
 
 -- scratch has its size, and the leaders of c blocks are elements
-pub record BlocksPlace (n c : ℕ) (scratch : List ℕ) : Type 0 where
+pub record BlocksNeeds (n c : ℕ) (scratch : List ℕ) : Type 0 where
   pub small : c ≤ 64
   pub leaders : (j : ℕ) → j < c → leaderAt scratch j < n
   pub room : 65536 ≤ length scratch

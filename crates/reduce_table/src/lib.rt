@@ -6,7 +6,7 @@ ghost use mathlib.Core.Path.{_≡_};
 ghost use Prim.Native.Nat.{_+_, _*_, _≤_, _<_};
 ghost use lib.ListN.{length};
 ghost use Rattle.rule_table.specs.Table.{Table};
-ghost use Rattle.reduce_table.specs.Layout.{BlocksPlace, blockProduct, blockImage, Filled, Grid};
+ghost use Rattle.reduce_table.specs.Layout.{BlocksNeeds, blockProduct, blockImage, Filled, Grid};
 
 // The number of the product of two blocks: that of the product of their leaders.
 pub fn block_product(
@@ -19,7 +19,7 @@ pub fn block_product(
     j: usize,
 ) -> u8
     requires { ⌜ Table (now rule) n k ⌝ }
-    requires { ⌜ BlocksPlace n c (now scratch) ⌝ }
+    requires { ⌜ BlocksNeeds n c (now scratch) ⌝ }
     requires { ⌜ (i < c) × (j < c) ⌝ }
     ensures { λ r. ⌜ r ≡ blockProduct (now (rule .entry)) n (now (scratch .entry)) i j ⌝ }
 {
@@ -32,7 +32,7 @@ pub fn block_product(
 // The products of block i.
 pub fn table_row(rule: &[u8], n: usize, k: usize, c: usize, scratch: &mut [u8], i: usize)
     requires { ⌜ Table (now rule) n k ⌝ }
-    requires { ⌜ BlocksPlace n c (now scratch) ⌝ }
+    requires { ⌜ BlocksNeeds n c (now scratch) ⌝ }
     requires { ⌜ i < c ⌝ }
     ensures { λ r. ⌜ Filled (blockProduct (now (rule .entry)) n (now (scratch .entry)) i) (16384 + i * c) c (now (scratch .entry)) (now (scratch .exit)) ⌝ }
 {
@@ -45,7 +45,7 @@ pub fn table_row(rule: &[u8], n: usize, k: usize, c: usize, scratch: &mut [u8], 
 // The products of all blocks, by rows.
 pub fn lay_table(rule: &[u8], n: usize, k: usize, c: usize, scratch: &mut [u8])
     requires { ⌜ Table (now rule) n k ⌝ }
-    requires { ⌜ BlocksPlace n c (now scratch) ⌝ }
+    requires { ⌜ BlocksNeeds n c (now scratch) ⌝ }
     ensures { λ r. ⌜ Grid (blockProduct (now (rule .entry)) n (now (scratch .entry))) 16384 c c c (now (scratch .entry)) (now (scratch .exit)) ⌝ }
 {
     for i in 0..c {

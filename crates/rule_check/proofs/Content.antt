@@ -31,7 +31,7 @@ module _ (bytes : List ℕ) (shape : Shape) (p : LayoutPassed bytes shape) where
   count = shape .marks
 
   all : FirstFailure (layoutChecks 1 bytes) passed
-  all = p .verdict 1
+  all = p .refusal 1
 
   pub n-small : n ≤ 64
   n-small = omega (arith, size-small bytes all, p .shape-is .elements)

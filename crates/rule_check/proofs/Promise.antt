@@ -30,7 +30,7 @@ use Rattle.formats.specs.Calls.{afterCall}
 pub short-scratch : (input : ℕ) (bytes scratch : List ℕ) → length scratch < scratchSize → CheckPromise input bytes scratch scratch (Refused BufferTooShort 1 0)
 unfolding afterCall
 short-scratch input bytes scratch h = record {
-  verdict = buffer-short h;
+  refusal = buffer-short h;
   scratch = sym (simp (lt-ltb (length scratch) scratchSize h));
 }
 
@@ -54,28 +54,28 @@ module _ (input : ℕ) (bytes entry : List ℕ) where
   pub layout-verdict : {exit : List ℕ} {r : Refusal} {place : ℕ} → PartZeroed 0 markTableSize entry exit
       → ((input : ℕ) → FirstFailure (layoutChecks input bytes) (refused r input place)) → RuleVerdict input bytes entry exit (Refused r input place)
   unfolding ruleChecks
-  layout-verdict z f = record { verdict = refused-before _ _ (f input); marks = z .outside .same-length }
+  layout-verdict z f = record { refusal = refused-before _ _ (f input); marks = z .outside .same-length }
 
   module _ {shape : Shape} (p : LayoutPassed bytes shape) {blank exit : List ℕ} (z : PartZeroed 0 markTableSize entry blank) where
     -- the contents refuse
     pub content-verdict : {r : Refusal} {place : ℕ} → length exit ≡ length blank
         → ((input : ℕ) → FirstFailure (contentChecks input bytes) (refused r input place)) → RuleVerdict input bytes entry exit (Refused r input place)
     unfolding ruleChecks
-    content-verdict e f = record { verdict = passed-before _ _ (p .verdict input) (f input); marks = e ∙ z .outside .same-length }
+    content-verdict e f = record { refusal = passed-before _ _ (p .refusal input) (f input); marks = e ∙ z .outside .same-length }
 
     -- every check passes
     pub rule-verdict : ((input : ℕ) → FirstFailure (contentChecks input bytes) passed) → MarksLaid (markingOf bytes) (elementsOf bytes) blank exit
         → RuleVerdict input bytes entry exit (Rule shape)
     unfolding ruleChecks
     rule-verdict f l = record {
-      verdict = passed-before _ _ (p .verdict input) (f input);
+      refusal = passed-before _ _ (p .refusal input) (f input);
       marks = record {
         shape-is = p .shape-is;
         mark = l .mark;
         kept = record {
           same-length = l .same-length ∙ z .outside .same-length;
           before = λ i h. absurd (let n : ⊥ = omega arith in n);
-          after = λ i h. l .other i (λ s e hs he q. omega (arith, size-small bytes (p .verdict 1))) ∙ z .outside .after i h;
+          after = λ i h. l .other i (λ s e hs he q. omega (arith, size-small bytes (p .refusal 1))) ∙ z .outside .after i h;
         };
       };
     }
@@ -85,13 +85,13 @@ module _ (input : ℕ) (bytes entry mid : List ℕ) (answer : Checked) (h : scra
   pub rule-promise : {shape : Shape} → answer ≡ Rule shape → CheckPromise input bytes entry mid (Rule shape)
   rule-promise {shape} e =
       let k : RuleVerdict input bytes entry mid (Rule shape) = subst (RuleVerdict input bytes entry mid) e known in
-      record { verdict = buffer-long h (k .verdict); scratch = k .marks }
+      record { refusal = buffer-long h (k .refusal); scratch = k .marks }
 
   pub refused-promise : {exit : List ℕ} {r : Refusal} {i place : ℕ} → answer ≡ Refused r i place → exit ≡ replicate (length mid) 0
       → CheckPromise input bytes entry exit (Refused r i place)
   refused-promise {r = r} {i = i} {place = place} e z =
       let k : RuleVerdict input bytes entry mid (Refused r i place) = subst (RuleVerdict input bytes entry mid) e known in
-      record { verdict = buffer-long h (k .verdict); scratch = z ∙ ap (λ (n : ℕ). replicate n 0) (k .marks) ∙ zeros-after entry h }
+      record { refusal = buffer-long h (k .refusal); scratch = z ∙ ap (λ (n : ℕ). replicate n 0) (k .marks) ∙ zeros-after entry h }
 
 -- what the contents leave, known by its case
 module _ (bytes entry exit : List ℕ) (answer : Fault) (known : ContentAnswer bytes entry exit answer) where

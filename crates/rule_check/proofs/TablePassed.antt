@@ -7,7 +7,7 @@ use Rattle.answer.proofs.Order.{first-passes, none-left, passes-head, passes-ta
 use Rattle.finite.proofs.Numbers.{strong}
 use Rattle.theory.specs.Rules.{Morphism, Lawful, AllReached}
 use Rattle.theory.proofs.ShortWords.{unreached-or-all, word-of-dec}
-use Rattle.formats.specs.TableChecks.{Associates, TripleBefore, by-a, by-b, by-c, UnsettledAt}
+use Rattle.formats.specs.TableChecks.{Associates, TripleBefore, by-a, by-b, by-c, NoIdempotentPowerAt}
 use Rattle.rule_table.specs.Answers.{FirstTriple}
 use Rattle.formats.proofs.Tables.{AllAssociate}
 use Rattle.rule_table.proofs.Facts.{first-triple-place, no-power-absurd}
@@ -53,7 +53,7 @@ module _ {m : Morphism} {input : ℕ} (all : FirstFailure (tableChecks input m) 
       (λ r. r) (unreached-or-all law)
 
 -- 9 fails nowhere in a lawful table
-pub lawful-settles : {m : Morphism} {place : ℕ} → Lawful m → UnsettledAt m place → ⊥
+pub lawful-settles : {m : Morphism} {place : ℕ} → Lawful m → NoIdempotentPowerAt m place → ⊥
 lawful-settles law u =
     no-power-absurd law (u .inside) (record { none = λ i h d. u .unsettled (record { index = i; below = h; idempotent = d }) })
 

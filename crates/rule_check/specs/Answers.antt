@@ -56,7 +56,7 @@ MarksAfter bytes entry exit (Checked-refused refusal input place) = length exit 
 
 -- the rule's own checks, in the input of the given number: which refusal and when; else the rule's counts, and its marks
 pub record RuleVerdict (input : ℕ) (bytes entry exit : List ℕ) (answer : Checked) : Type 0 where
-  pub verdict : FirstFailure (ruleChecks input bytes) (verdictOf answer)
+  pub refusal : FirstFailure (ruleChecks input bytes) (verdictOf answer)
   pub marks : MarksAfter bytes entry exit answer
 
 abbrev pub ScratchAfter : List ℕ → List ℕ → List ℕ → Checked → Type 0
@@ -65,5 +65,5 @@ ScratchAfter bytes entry exit (Checked-refused refusal input place) = exit ≡ a
 
 -- the promise of the check: which refusal and when; else the rule's counts, and the marks in scratch
 pub record CheckPromise (input : ℕ) (bytes entry exit : List ℕ) (answer : Checked) : Type 0 where
-  pub verdict : FirstFailure (checkedChecks input bytes entry) (verdictOf answer)
+  pub refusal : FirstFailure (checkedChecks input bytes entry) (verdictOf answer)
   pub scratch : ScratchAfter bytes entry exit answer

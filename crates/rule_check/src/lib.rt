@@ -89,7 +89,7 @@ pub fn rest_after(bytes: &[u8], end: usize) -> &[u8]
 fn content_fault(rule: &[u8], shape: Shape, scratch: &mut [u8]) -> Fault
     requires { ⌜ LayoutPassed (now rule) shape ⌝ }
     requires { ⌜ BlankMarks (now scratch) ⌝ }
-    ensures verdict { λ r. ⌜ FaultAnswer (λ input. contentChecks input (now (rule .entry))) r ⌝ }
+    ensures refusal { λ r. ⌜ FaultAnswer (λ input. contentChecks input (now (rule .entry))) r ⌝ }
     ensures marks { λ r. ⌜ ContentAnswer (now (rule .entry)) (now (scratch .entry)) (now (scratch .exit)) r ⌝ }
 {
     let n = shape.elements;

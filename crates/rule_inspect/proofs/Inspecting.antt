@@ -20,13 +20,13 @@ module _ (bytes entry mid : List ℕ) (answer : Checked) (known : CheckPromise 1
       let p : CheckPromise 1 bytes entry mid (Rule shape) = subst (CheckPromise 1 bytes entry mid) e known in
       let s = p .scratch .shape-is in
       record {
-        verdict = p .verdict;
+        refusal = p .refusal;
         values = record { elements-are = s .elements; letters-are = s .letters; marks-are = s .marks };
-        scratch = zeros-left 1 bytes entry (p .verdict) mid exit (checked-length (p .scratch)) z;
+        scratch = zeros-left 1 bytes entry (p .refusal) mid exit (checked-length (p .scratch)) z;
       }
 
   -- a refusal is handed on
   pub inspected-refused : {r : Refusal} {input place : ℕ} → answer ≡ Refused r input place → InspectPromise bytes entry mid (Inspected-refused r input place)
   inspected-refused {r} {input} {place} e =
       let p : CheckPromise 1 bytes entry mid (Refused r input place) = subst (CheckPromise 1 bytes entry mid) e known in
-      record { verdict = p .verdict; values = tt; scratch = p .scratch }
+      record { refusal = p .refusal; values = tt; scratch = p .scratch }

@@ -40,7 +40,7 @@ module _ (bytes : List ℕ) where
 
   module _ {n : ℕ} (elements : SectionPassed elementsSection 0 bytes n) where
     pub elements-good : SectionGood elementsSection bytes
-    elements-good = passed-good elementsSection 1 0 bytes (elements .verdict 1)
+    elements-good = passed-good elementsSection 1 0 bytes (elements .refusal 1)
 
     -- n is at most 64, and the elements' section lies within the file
     pub elements-small : n ≤ 64
@@ -74,13 +74,13 @@ module _ (bytes : List ℕ) where
         → SectionAnswer (lettersSection n) (1 + n * n) rest answer → answer ≡ Refused r place
         → (input : ℕ) → FirstFailure (layoutChecks input bytes) (refused r input place)
     letters-refused answer rest er known e input =
-        passed-before _ _ (elements .verdict input)
+        passed-before _ _ (elements .refusal input)
         (refused-before _ _
         (subst (SectionAnswer (lettersSection (elementsOf bytes)) (lettersAt bytes) (drop (lettersAt bytes) bytes)) e (letters-moved answer rest er known) input))
 
     module _ {k : ℕ} (letters : SectionPassed (lettersSection (elementsOf bytes)) (lettersAt bytes) (drop (lettersAt bytes) bytes) k) where
       letters-good : SectionGood (lettersSection (elementsOf bytes)) (drop (lettersAt bytes) bytes)
-      letters-good = passed-good (lettersSection (elementsOf bytes)) 1 (lettersAt bytes) (drop (lettersAt bytes) bytes) (letters .verdict 1)
+      letters-good = passed-good (lettersSection (elementsOf bytes)) 1 (lettersAt bytes) (drop (lettersAt bytes) bytes) (letters .refusal 1)
 
       pub letters-is : k ≡ lettersOf bytes
       unfolding lettersOf
@@ -117,8 +117,8 @@ module _ (bytes : List ℕ) where
           → SectionAnswer (marksSection n) (1 + n * n + (1 + k)) last answer → answer ≡ Refused r place
           → (input : ℕ) → FirstFailure (layoutChecks input bytes) (refused r input place)
       marks-refused answer last el known e input =
-          passed-before _ _ (elements .verdict input)
-          (passed-before _ _ (letters .verdict input)
+          passed-before _ _ (elements .refusal input)
+          (passed-before _ _ (letters .refusal input)
           (subst (SectionAnswer (marksSection (elementsOf bytes)) (marksAt bytes) (drop (marksAt bytes) bytes)) e (marks-moved answer last el known) input))
 
       marks-is : {c : ℕ} → SectionPassed (marksSection (elementsOf bytes)) (marksAt bytes) (drop (marksAt bytes) bytes) c → c ≡ marksOf bytes
@@ -135,5 +135,5 @@ module _ (bytes : List ℕ) where
           let p = subst (SectionAnswer (marksSection (elementsOf bytes)) (marksAt bytes) (drop (marksAt bytes) bytes)) e (marks-moved answer last el known) in
           record {
             shape-is = record { elements = en ∙ elements .is-count; letters = ek ∙ letters-is; marks = ec ∙ marks-is p };
-            verdict = λ input. passed-before _ _ (elements .verdict input) (passed-before _ _ (letters .verdict input) (p .verdict input));
+            refusal = λ input. passed-before _ _ (elements .refusal input) (passed-before _ _ (letters .refusal input) (p .refusal input));
           }

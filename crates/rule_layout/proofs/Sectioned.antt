@@ -31,7 +31,7 @@ module _ (s : Section) (at : ℕ) (rest : List ℕ) where
       → EntriesAnswer (countBytes (s .width)) (s .entries count) b at rest count answer → SectionAnswer s at rest answer
   by-entries {count} {b} g e (Read result) k = record {
     is-count = k .is-count ∙ g .is-count;
-    verdict = λ input. section-passes s input at rest g e (k .good);
+    refusal = λ input. section-passes s input at rest g e (k .good);
   }
   by-entries {count} {b} g e (Refused r place) k =
       λ input. section-entries-refused s input at rest g

@@ -15,7 +15,7 @@ use Rattle.rule_layout.specs.declared.Layout.the-variants.{Read as Layou
 -- a section that passes: its count
 pub record SectionPassed (section : Section) (at : ℕ) (rest : List ℕ) (count : ℕ) : Type 0 where
   pub is-count : count ≡ countAt (section .width) rest
-  pub verdict : (input : ℕ) → FirstFailure (sectionChecks section input at rest) passed
+  pub refusal : (input : ℕ) → FirstFailure (sectionChecks section input at rest) passed
 
 -- reading a section: its count, or the first of its checks that fails, whatever the number of the input
 abbrev pub SectionAnswer : Section → ℕ → List ℕ → Counted → Type 0
@@ -30,7 +30,7 @@ pub record IsShape (bytes : List ℕ) (shape : Shape) : Type 0 where
 
 pub record LayoutPassed (bytes : List ℕ) (shape : Shape) : Type 0 where
   pub shape-is : IsShape bytes shape
-  pub verdict : (input : ℕ) → FirstFailure (layoutChecks input bytes) passed
+  pub refusal : (input : ℕ) → FirstFailure (layoutChecks input bytes) passed
 
 abbrev pub LayoutAnswer : List ℕ → Layout → Type 0
 LayoutAnswer bytes (Layout-read shape) = LayoutPassed bytes shape

@@ -44,7 +44,7 @@ pub fn mark_fault(
 ) -> Fault
     requires { ⌜ Table (now rule) n k ⌝ }
     requires { ⌜ MarksRoom (now bytes) at count n (now table) ⌝ }
-    ensures verdict { λ r. ⌜ FaultAnswer (λ input. markChecks input (morphismAt (now (rule .entry)) n k) (now (bytes .entry)) at 0 count) r ⌝ }
+    ensures refusal { λ r. ⌜ FaultAnswer (λ input. markChecks input (morphismAt (now (rule .entry)) n k) (now (bytes .entry)) at 0 count) r ⌝ }
     ensures laid { λ r. ⌜ MarksAnswer (morphismAt (now (rule .entry)) n k) (now (bytes .entry)) at count (now (table .entry)) (now (table .exit)) r ⌝ }
 {
     for i in 0..count {

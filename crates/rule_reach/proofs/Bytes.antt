@@ -16,7 +16,7 @@ use Rattle.theory.specs.Rules.{element}
 use Rattle.theory.proofs.Values.{element-apart, element-same}
 use Rattle.formats.specs.Table.{morphismAt}
 use Rattle.rule_reach.specs.Reach.{entryAt, parentAt, letterAt, placeAt, wordStep, Places}
-use Rattle.rule_reach.specs.Steps.{stepAt, AddPlace, Stored, Added, added-old, added-new}
+use Rattle.rule_reach.specs.Steps.{stepAt, AddNeeds, Stored, Added, added-old, added-new}
 use Rattle.rule_reach.specs.Searching.{Kept}
 use Rattle.rule_reach.proofs.Steps.{step-value}
 use Rattle.rule_reach.proofs.Order.{Extends, Newest}
@@ -50,7 +50,7 @@ module _ {queue : List ℕ} {count s from letter : ℕ} where
   unfolding placeAt
   add-found h = added-old h refl refl
 
-  module _ (place : AddPlace queue count s from letter) (none-there : getD queue (192 + s) 0 ≤ 0) where
+  module _ (place : AddNeeds queue count s from letter) (none-there : getD queue (192 + s) 0 ≤ 0) where
     -- the element has no number, so there is room for an entry
     pub add-small : count < 64
     unfolding placeAt

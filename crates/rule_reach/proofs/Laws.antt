@@ -10,7 +10,7 @@ use Rattle.theory.specs.Rules.{element}
 use Rattle.rule_table.specs.Table.{Table}
 use Rattle.formats.specs.Table.{imageAt, morphismAt}
 use Rattle.rule_reach.specs.Reach.{entryAt, placeAt, wordStep, Empty, WordOrder}
-use Rattle.rule_reach.specs.Steps.{stepAt, StepPlace, AddPlace, Added, added-old, added-new}
+use Rattle.rule_reach.specs.Steps.{stepAt, StepNeeds, AddNeeds, Added, added-old, added-new}
 use Rattle.rule_reach.specs.Searching.{Searching, Kept, Expanded}
 use Rattle.rule_reach.proofs.Steps.{step-value}
 use Rattle.rule_reach.proofs.Order.{order-start, order-old, order-new, order-next, order-done}
@@ -39,7 +39,7 @@ module _ {bytes : List ℕ} {n k : ℕ} (table : Table bytes n k) where
 
   module _ {queue : List ℕ} {count p a : ℕ} (search : Searching bytes n k queue count p a) (hp : p ≤ count) (ha : a < k) where
     -- the letter may be tried at the entry
-    step-place : StepPlace bytes n queue p a
+    step-place : StepNeeds bytes n queue p a
     step-place = record {
       small = table .small;
       long = omega (arith, table .long);
@@ -65,7 +65,7 @@ module _ {bytes : List ℕ} {n k : ℕ} (table : Table bytes n k) where
       new-below = some-left (search .places) (search .inside) step-below
 
       -- the element may be added
-      add-place : AddPlace queue count s p a
+      add-place : AddNeeds queue count s p a
       add-place = record {
         room = search .room;
         element-small = omega (arith, step-below, table .small);
@@ -150,12 +150,12 @@ module _ {bytes : List ℕ} {n k : ℕ} {entry : List ℕ} where
 
   -- the next letter may be tried
   pub expanding-step : {from : ℕ} {queue : List ℕ} {found letter : ℕ} → Expanding bytes n k entry from queue found letter → letter < k
-      → StepPlace bytes n queue from letter
+      → StepNeeds bytes n queue from letter
   expanding-step x h = step-place (x .table) (x .searching) (x .there) h
 
   -- what it finds may be added
   pub expanding-add : {from : ℕ} {queue : List ℕ} {found letter s : ℕ} → Expanding bytes n k entry from queue found letter → letter < k
-      → s ≡ stepAt bytes n queue from letter → AddPlace queue found s from letter
+      → s ≡ stepAt bytes n queue from letter → AddNeeds queue found s from letter
   expanding-add x h e = add-place (x .table) (x .searching) (x .there) h e
 
   -- it was added

@@ -9,7 +9,7 @@ use lib.ListN.{getD}
 use Rattle.theory.specs.Rules.{element, join}
 use Rattle.formats.specs.Table.{productAt, imageAt, morphismAt}
 use Rattle.rule_reach.specs.Reach.{entryAt, wordStep}
-use Rattle.rule_reach.specs.Steps.{stepAt, StepPlace}
+use Rattle.rule_reach.specs.Steps.{stepAt, StepNeeds}
 
 -- the value of the entry's word with one letter more
 pub step-value : (bytes : List ℕ) (n k : ℕ) (queue : List ℕ) (p a : ℕ) → element (stepAt bytes n queue p a) ≡ wordStep (morphismAt bytes n k) a (entryAt queue p)
@@ -18,11 +18,11 @@ step-value bytes n k queue zero a = refl
 step-value bytes n k queue (suc p) a = refl
 
 -- an entry other than the first holds an element
-pub entry-below : {bytes : List ℕ} {n : ℕ} {queue : List ℕ} {from letter : ℕ} → StepPlace bytes n queue from letter → (from ≡ 0 → ⊥)
+pub entry-below : {bytes : List ℕ} {n : ℕ} {queue : List ℕ} {from letter : ℕ} → StepNeeds bytes n queue from letter → (from ≡ 0 → ⊥)
     → getD queue (from - 1) 0 < n
 entry-below {from = from} place d = place .entry-inside (from - 1) (omega arith)
 
-module _ {bytes : List ℕ} {n : ℕ} {queue : List ℕ} {from letter h : ℕ} (place : StepPlace bytes n queue from letter) (is-image : h ≡ imageAt bytes n letter) where
+module _ {bytes : List ℕ} {n : ℕ} {queue : List ℕ} {from letter h : ℕ} (place : StepNeeds bytes n queue from letter) (is-image : h ≡ imageAt bytes n letter) where
   -- after the empty word: the letter's own
   pub step-first : from ≡ 0 → h ≡ stepAt bytes n queue from letter
   unfolding stepAt

@@ -13,7 +13,7 @@ stepAt bytes n queue zero a = imageAt bytes n a
 stepAt bytes n queue (suc i) a = productAt bytes n (getD queue i 0) (imageAt bytes n a)
 
 -- the table and the letter's element are there, and the entry holds an element
-pub record StepPlace (bytes : List ℕ) (n : ℕ) (queue : List ℕ) (from letter : ℕ) : Type 0 where
+pub record StepNeeds (bytes : List ℕ) (n : ℕ) (queue : List ℕ) (from letter : ℕ) : Type 0 where
   pub small : n ≤ 64
   pub long : 2 + n * n + letter < length bytes
   pub image-inside : imageAt bytes n letter < n
@@ -21,7 +21,7 @@ pub record StepPlace (bytes : List ℕ) (n : ℕ) (queue : List ℕ) (from lette
   pub entry-inside : (i : ℕ) → from ≡ i + 1 → getD queue i 0 < n
 
 -- room for one entry more unless the element has one, and every number to store fits a byte
-pub record AddPlace (queue : List ℕ) (count s from letter : ℕ) : Type 0 where
+pub record AddNeeds (queue : List ℕ) (count s from letter : ℕ) : Type 0 where
   pub room : 256 ≤ length queue
   pub element-small : s < 64
   pub from-small : from < 256

@@ -12,12 +12,12 @@ ghost use Prim.Native.Nat.{_≤_};
 ghost use lib.ListN.{length};
 ghost use Rattle.rule_table.specs.Table.{Table};
 ghost use Rattle.rule_reach.specs.Reach.{Empty, WordOrder, WithoutAnswer};
-ghost use Rattle.rule_reach.specs.Steps.{AddPlace, Added, StepPlace, stepAt};
+ghost use Rattle.rule_reach.specs.Steps.{AddNeeds, Added, StepNeeds, stepAt};
 ghost use Rattle.rule_reach.specs.Searching.{Searching, Expanded};
 
 // Adds an element that was found from entry `from` by a letter, unless it is there.
 fn add(queue: &mut [u8], count: usize, s: usize, from: usize, letter: usize) -> usize
-    requires { ⌜ AddPlace (now queue) count s from letter ⌝ }
+    requires { ⌜ AddNeeds (now queue) count s from letter ⌝ }
     ensures { λ r. ⌜ Added (now (queue .entry)) (now (queue .exit)) count s from letter r ⌝ }
 {
     if 0 < queue[192 + s] {
@@ -32,7 +32,7 @@ fn add(queue: &mut [u8], count: usize, s: usize, from: usize, letter: usize) -> 
 
 // The element after entry `from` and a letter.
 fn step(rule: &[u8], n: usize, queue: &[u8], from: usize, letter: usize) -> usize
-    requires { ⌜ StepPlace (now rule) n (now queue) from letter ⌝ }
+    requires { ⌜ StepNeeds (now rule) n (now queue) from letter ⌝ }
     ensures { λ r. ⌜ r ≡ stepAt (now (rule .entry)) n (now (queue .entry)) from letter ⌝ }
 {
     let h = image(rule, n, letter);

@@ -32,7 +32,7 @@ module _ (n : ℕ) (bytes : List ℕ) (answer : Counted) (known : SectionAnswer 
 
 module _ {n c : ℕ} {bytes : List ℕ} (p : SectionPassed (marksSection n) 0 bytes c) where
   good : SectionGood (marksSection n) bytes
-  good = passed-good (marksSection n) 1 0 bytes (p .verdict 1)
+  good = passed-good (marksSection n) 1 0 bytes (p .refusal 1)
 
   pub count-small : c ≤ 4096
   count-small = omega (arith, p .is-count, good .within)
@@ -67,7 +67,7 @@ module _ (rule bytes : List ℕ) {n k : ℕ} (en : n ≡ elementsOf rule) (ek : 
         → FirstFailure (secondMarksChecks input rule bytes) v
     unfolding secondMarksChecks
     after-section input f =
-        passed-before _ _ (subst (λ (x : ℕ). FirstFailure (sectionChecks (marksSection x) input 0 bytes) passed) en (p .verdict input)) f
+        passed-before _ _ (subst (λ (x : ℕ). FirstFailure (sectionChecks (marksSection x) input 0 bytes) passed) en (p .refusal input)) f
 
     -- bytes follow
     pub second-trailing : 0 < length (drop (2 + 2 * c) bytes) → (input : ℕ) → FirstFailure (secondMarksChecks input rule bytes) (refused TrailingBytes input (2 + 2 * c))

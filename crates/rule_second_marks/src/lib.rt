@@ -18,7 +18,7 @@ pub fn second_marks(rule: &[u8], n: usize, k: usize, bytes: &[u8], table: &mut [
     requires { ⌜ Table (now rule) n k ⌝ }
     requires { ⌜ (n ≡ elementsOf (now rule)) × (k ≡ lettersOf (now rule)) ⌝ }
     requires { ⌜ MarksSpace (now table) ⌝ }
-    ensures verdict { λ r. ⌜ FaultAnswer (λ input. secondMarksChecks input (now (rule .entry)) (now (bytes .entry))) r ⌝ }
+    ensures refusal { λ r. ⌜ FaultAnswer (λ input. secondMarksChecks input (now (rule .entry)) (now (bytes .entry))) r ⌝ }
     ensures laid { λ r. ⌜ SecondAnswer (now (bytes .entry)) n (now (table .entry)) (now (table .exit)) r ⌝ }
 {
     let count = match marks_section(bytes, 0, n) {

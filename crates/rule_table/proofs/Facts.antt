@@ -11,18 +11,18 @@ use Rattle.theory.specs.Rules.{Morphism, Lawful}
 use Rattle.theory.specs.Pairs.{Idempotent, power}
 use Rattle.theory.proofs.Powers.{times, settling, idempotent-of, settling-below, settling-least, idempotent-square, idempotent-inside, idempotent-is}
 use Rattle.theory.proofs.Conjugacy.{semigroup}
-use Rattle.rule_table.specs.Table.{Table, ProductPlace, ImagePlace}
+use Rattle.rule_table.specs.Table.{Table, ProductNeeds, ImageNeeds}
 use Rattle.formats.specs.Table.{productAt, morphismAt}
-use Rattle.formats.specs.TableChecks.{NotAssociativeAt, Settles}
+use Rattle.formats.specs.TableChecks.{NotAssociativeAt, HasIdempotentPower}
 use Rattle.rule_table.specs.Answers.{FirstTriple}
 use Rattle.formats.proofs.Tables.{AllAssociate, LeastPower, NoPower, power-times}
 
 -- where a product stands in a checked table
-pub table-place : {bytes : List ℕ} {n k a b : ℕ} → Table bytes n k → a < n → b < n → ProductPlace bytes n a b
+pub table-place : {bytes : List ℕ} {n k a b : ℕ} → Table bytes n k → a < n → b < n → ProductNeeds bytes n a b
 table-place t ha hb = record { small = t .small; long = omega arith; left-inside = ha; right-inside = hb }
 
 -- where a letter's element stands in a checked table
-pub image-place : {bytes : List ℕ} {n k a : ℕ} → Table bytes n k → a < k → ImagePlace bytes n a
+pub image-place : {bytes : List ℕ} {n k a : ℕ} → Table bytes n k → a < k → ImageNeeds bytes n a
 image-place t ha = record { small = t .small; long = omega arith }
 
 -- a product of elements of a checked table is an element
@@ -92,9 +92,9 @@ module _ {m : Morphism} {x : ℕ} (law : Lawful m) (hx : x < m .size) where
       none .none (settling (m .size) (m .product) x) (settling-below (semigroup law) hx) settling-idempotent
 
 -- a power that was found settles the element
-pub power-settles : {m : Morphism} {x e exponent : ℕ} → LeastPower m x e exponent → Settles m x
+pub power-settles : {m : Morphism} {x e exponent : ℕ} → LeastPower m x e exponent → HasIdempotentPower m x
 power-settles {m} l = record { index = l .index; below = l .below; idempotent = subst (Idempotent m) (l .is-power) (l .idempotent) }
 
 -- where no power is idempotent, the element does not settle
-pub settles-none : {m : Morphism} {x : ℕ} → NoPower m x → Settles m x → ⊥
+pub settles-none : {m : Morphism} {x : ℕ} → NoPower m x → HasIdempotentPower m x → ⊥
 settles-none none s = none .none (s .index) (s .below) (s .idempotent)

@@ -15,13 +15,13 @@ pub record Table (bytes : List ℕ) (n k : ℕ) : Type 0 where
   pub images : (a : ℕ) → a < k → imageAt bytes n a < n
 
 -- where the product of two elements stands
-pub record ProductPlace (bytes : List ℕ) (n a b : ℕ) : Type 0 where
+pub record ProductNeeds (bytes : List ℕ) (n a b : ℕ) : Type 0 where
   pub small : n ≤ 64
   pub long : 1 + n * n ≤ length bytes
   pub left-inside : a < n
   pub right-inside : b < n
 
 -- where the element of a letter stands
-pub record ImagePlace (bytes : List ℕ) (n a : ℕ) : Type 0 where
+pub record ImageNeeds (bytes : List ℕ) (n a : ℕ) : Type 0 where
   pub small : n ≤ 64
   pub long : 2 + n * n + a < length bytes

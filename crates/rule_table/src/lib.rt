@@ -2,13 +2,13 @@
 // These functions are shared by the calls of the library and ask for bytes whose first two sections were checked.
 ghost use mathlib.Core.Path.{_≡_};
 ghost use Prim.Native.Nat.{_<_};
-ghost use Rattle.rule_table.specs.Table.{Table, ProductPlace, ImagePlace};
+ghost use Rattle.rule_table.specs.Table.{Table, ProductNeeds, ImageNeeds};
 ghost use Rattle.formats.specs.Table.{productAt, imageAt};
 ghost use Rattle.rule_table.specs.Answers.{TripleAnswer, PowerAnswer};
 
 // The product of two elements.
 pub fn product(rule: &[u8], n: usize, a: usize, b: usize) -> usize
-    requires { ⌜ ProductPlace (now rule) n a b ⌝ }
+    requires { ⌜ ProductNeeds (now rule) n a b ⌝ }
     ensures { λ r. ⌜ r ≡ productAt (now (rule .entry)) n a b ⌝ }
 {
     rule[1 + (a * n + b)] as usize
@@ -16,7 +16,7 @@ pub fn product(rule: &[u8], n: usize, a: usize, b: usize) -> usize
 
 // The element of a letter.
 pub fn image(rule: &[u8], n: usize, a: usize) -> usize
-    requires { ⌜ ImagePlace (now rule) n a ⌝ }
+    requires { ⌜ ImageNeeds (now rule) n a ⌝ }
     ensures { λ r. ⌜ r ≡ imageAt (now (rule .entry)) n a ⌝ }
 {
     rule[2 + n * n + a] as usize

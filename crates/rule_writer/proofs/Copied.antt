@@ -7,16 +7,16 @@ use native.Mathlib.Nat.{add-zero}
 use native.Mathlib.Numerals.{add-one}
 use lib.ListN.{length, getD, take, set}
 use lib.Seq.{take-suc, length-take-le}
-use Rattle.rule_writer.specs.Writing.{Written, CopyPlace}
+use Rattle.rule_writer.specs.Writing.{Written, CopyNeeds}
 use Rattle.rule_writer.proofs.Placed.{written-none, written-store, written-length, written-more}
 
 -- the first i bytes are copied
 pub record Copied (from : List ℕ) (count : ℕ) (before : List ℕ) (at : ℕ) (after : List ℕ) (i : ℕ) : Type 0 where
-  pub place : CopyPlace from count before at
+  pub place : CopyNeeds from count before at
   pub within : i ≤ count
   pub written : Written before at (take i from) after (at + i)
 
-pub copied-start : {from before : List ℕ} {count at : ℕ} → CopyPlace from count before at → Copied from count before at before 0
+pub copied-start : {from before : List ℕ} {count at : ℕ} → CopyNeeds from count before at → Copied from count before at before 0
 copied-start {before = before} {at = at} p = record { place = p; within = omega arith; written = rw (add-zero at) (written-none before at) }
 
 module _ {from before after : List ℕ} {count at i : ℕ} (c : Copied from count before at after i) where

@@ -9,16 +9,16 @@ use lib.ListN.{length, getD, take, drop, set, length-set, length-append}
 use lib.Seq.{length-take-le, take-at}
 use Rattle.theory.specs.Rules.{Morphism}
 use Rattle.formats.specs.WrittenFile.{elementsBytes, lettersBytes, marksBytes, fileOf}
-use Rattle.rule_writer.specs.Writing.{placed, Written, tableMorphism, tableMarks, CopyPlace, CountedPlace, PairsPlace, MarksPlace, MarksWritten, RulePlace, RuleWritten}
+use Rattle.rule_writer.specs.Writing.{placed, Written, tableMorphism, tableMarks, CopyNeeds, CountedNeeds, PairsNeeds, MarksNeeds, MarksWritten, RuleNeeds, RuleWritten}
 use Rattle.formats.proofs.Rows.{pairsFrom, section-is}
 use Rattle.formats.proofs.Tabulated.{tabulate-take}
 use Rattle.rule_writer.proofs.Placed.{written-store, written-length, written-more, written-front}
 use Rattle.formats.proofs.GoodSections.{file-short}
 use Rattle.rule_writer.proofs.Rows.{stretch-short}
 
-module _ {entries : List ℕ} {count size : ℕ} {before : List ℕ} {at : ℕ} (p : CountedPlace entries count size before at) where
+module _ {entries : List ℕ} {count size : ℕ} {before : List ℕ} {at : ℕ} (p : CountedNeeds entries count size before at) where
   -- where the entries go after their count
-  pub counted-place : CopyPlace entries size (set before at count) (at + 1)
+  pub counted-place : CopyNeeds entries size (set before at count) (at + 1)
   counted-place = record { enough = p .enough; room = simp length-set (omega (arith, p .room)) }
 
   module _ {after : List ℕ} {end : ℕ} where
@@ -34,9 +34,9 @@ module _ {entries : List ℕ} {count size : ℕ} {before : List ℕ} {at : ℕ} 
     pub counted-end : Written before at (count ∷ take size entries) after end → end ≡ at + (1 + size)
     counted-end w = omega (arith, w .ends, length-take-le size entries (p .enough))
 
-module _ {marks : List ℕ} {n : ℕ} {before : List ℕ} {at : ℕ} (p : MarksPlace marks n before at) where
+module _ {marks : List ℕ} {n : ℕ} {before : List ℕ} {at : ℕ} (p : MarksNeeds marks n before at) where
   -- where the pairs go, two bytes on
-  pub marks-place : PairsPlace marks n before (at + 2)
+  pub marks-place : PairsNeeds marks n before (at + 2)
   marks-place = record { table = p .table; room = omega (arith, p .room) }
 
   module _ {after : List ℕ} {end : ℕ} (w : Written before (at + 2) (pairsFrom n (tableMarks marks) 0 (n * n)) after end) where
@@ -70,7 +70,7 @@ three-parts {x = x} {y = y} {z = z} w v u h =
     let k = written-length w (omega arith) in
     written-more w (written-more v u (omega (arith, w .ends))) (simp length-append (omega arith))
 
-module _ {table images marks : List ℕ} {n k : ℕ} {before : List ℕ} (p : RulePlace table images marks n k before) where
+module _ {table images marks : List ℕ} {n k : ℕ} {before : List ℕ} (p : RuleNeeds table images marks n k before) where
   cells : n * n ≤ 4096
   cells = mul-le-mul (p .small) (p .small)
 
@@ -85,7 +85,7 @@ module _ {table images marks : List ℕ} {n k : ℕ} {before : List ℕ} (p : Ru
   letters-is = ap (λ (l : List ℕ). k ∷ l) (tabulate-take k _ images (p .images-long) (λ j h. refl))
 
   -- where the elements go
-  pub rule-elements : CountedPlace table n (n * n) before 0
+  pub rule-elements : CountedNeeds table n (n * n) before 0
   rule-elements = record { small = omega (arith, p .small); enough = p .table-long; room = omega (arith, cells, p .room) }
 
   module _ {now : List ℕ} {letters-at : ℕ} (w : Written before 0 (n ∷ take (n * n) table) now letters-at) where
@@ -93,7 +93,7 @@ module _ {table images marks : List ℕ} {n k : ℕ} {before : List ℕ} (p : Ru
     kept = counted-length rule-elements w
 
     -- where the letters go
-    pub rule-letters : CountedPlace images k k now letters-at
+    pub rule-letters : CountedNeeds images k k now letters-at
     rule-letters = record {
       small = omega (arith, p .letters-small);
       enough = p .images-long;
@@ -105,7 +105,7 @@ module _ {table images marks : List ℕ} {n k : ℕ} {before : List ℕ} (p : Ru
       kept-again = counted-length rule-letters v ∙ kept
 
       -- where the marks go
-      pub rule-marks : MarksPlace marks n then marks-at
+      pub rule-marks : MarksNeeds marks n then marks-at
       rule-marks = record {
         table = record { small = p .small; long = p .marks-long };
         room = omega (arith, kept-again, counted-end rule-elements w, counted-end rule-letters v, cells, p .letters-small, p .room);

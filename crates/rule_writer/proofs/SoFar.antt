@@ -5,17 +5,17 @@ use mathlib.Core.List.{List}
 use native.Mathlib.Omega.{arith}
 use native.Mathlib.Nat.{zero-add, zero-mul, mul-le-mul-right}
 use lib.ListN.{length}
-use Rattle.rule_writer.specs.Writing.{Written, tableMarks, pairIfMarked, PairPlace, RowPlace, PairsPlace}
+use Rattle.rule_writer.specs.Writing.{Written, tableMarks, pairIfMarked, PairNeeds, RowNeeds, PairsNeeds}
 use Rattle.formats.proofs.Rows.{pairsFrom}
 use Rattle.rule_writer.proofs.Rows.{stretch-one, rows-start, rows-length, rows-room, rows-more}
 
 -- the first i pairs of the row s
 pub record RowSoFar (marks : List ℕ) (n s : ℕ) (before : List ℕ) (at : ℕ) (now : List ℕ) (next i : ℕ) : Type 0 where
-  pub place : RowPlace marks n s before at
+  pub place : RowNeeds marks n s before at
   pub within : i ≤ n
   pub written : Written before at (pairsFrom n (tableMarks marks) (s * n) i) now next
 
-pub row-start : {marks before : List ℕ} {n s at : ℕ} → RowPlace marks n s before at → RowSoFar marks n s before at before at 0
+pub row-start : {marks before : List ℕ} {n s at : ℕ} → RowNeeds marks n s before at → RowSoFar marks n s before at before at 0
 row-start {marks} {n = n} {s = s} p = record { place = p; within = omega arith; written = rows-start n (tableMarks marks) (s * n) }
 
 module _ {marks before now : List ℕ} {n s at next i : ℕ} (r : RowSoFar marks n s before at now next i) where
@@ -23,7 +23,7 @@ module _ {marks before now : List ℕ} {n s at next i : ℕ} (r : RowSoFar marks
   row-length = rows-length n (tableMarks marks) (s * n) i (r .written) (omega (arith, r .place .room, r .within))
 
   -- where the next pair goes
-  pub row-place : i < n → PairPlace marks s i now next
+  pub row-place : i < n → PairNeeds marks s i now next
   row-place l = record {
     long = r .place .table .long;
     start-inside = omega (arith, r .place .inside, r .place .table .small);
@@ -47,11 +47,11 @@ module _ {marks before now : List ℕ} {n s at next i : ℕ} (r : RowSoFar marks
 
 -- the first s rows
 pub record RowsSoFar (marks : List ℕ) (n : ℕ) (before : List ℕ) (at : ℕ) (now : List ℕ) (next s : ℕ) : Type 0 where
-  pub place : PairsPlace marks n before at
+  pub place : PairsNeeds marks n before at
   pub within : s ≤ n
   pub written : Written before at (pairsFrom n (tableMarks marks) 0 (s * n)) now next
 
-pub rows-begin : {marks before : List ℕ} {n at : ℕ} → PairsPlace marks n before at → RowsSoFar marks n before at before at 0
+pub rows-begin : {marks before : List ℕ} {n at : ℕ} → PairsNeeds marks n before at → RowsSoFar marks n before at before at 0
 rows-begin {marks} {n = n} p = record { place = p; within = omega arith; written = rw (zero-mul n) (rows-start n (tableMarks marks) 0) }
 
 -- a row among n rows
@@ -65,7 +65,7 @@ module _ {marks before now : List ℕ} {n at next s : ℕ} (r : RowsSoFar marks 
       (omega (arith, r .place .room, mul-le-mul-right n (r .within)))
 
   -- where the next row goes
-  pub rows-place : s < n → RowPlace marks n s now next
+  pub rows-place : s < n → RowNeeds marks n s now next
   rows-place l = record {
     table = r .place .table;
     inside = l;

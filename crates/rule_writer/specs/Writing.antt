@@ -33,12 +33,12 @@ unfoldable pub pairIfMarked : Marking → ℕ → ℕ → List ℕ
 pairIfMarked marks s e = cond (ltb 0 (marks s e)) (s ∷ e ∷ []) []
 
 -- `count` bytes to copy, and room for them at a place
-pub record CopyPlace (from : List ℕ) (count : ℕ) (out : List ℕ) (at : ℕ) : Type 0 where
+pub record CopyNeeds (from : List ℕ) (count : ℕ) (out : List ℕ) (at : ℕ) : Type 0 where
   pub enough : count ≤ length from
   pub room : at + count ≤ length out
 
 -- entries to write after their count, and room for both
-pub record CountedPlace (entries : List ℕ) (count size : ℕ) (out : List ℕ) (at : ℕ) : Type 0 where
+pub record CountedNeeds (entries : List ℕ) (count size : ℕ) (out : List ℕ) (at : ℕ) : Type 0 where
   pub small : count < 256
   pub enough : size ≤ length entries
   pub room : at + (1 + size) ≤ length out
@@ -49,25 +49,25 @@ pub record MarksTable (marks : List ℕ) (n : ℕ) : Type 0 where
   pub long : 4096 ≤ length marks
 
 -- a pair of elements in a table of marks, and room for its two bytes
-pub record PairPlace (marks : List ℕ) (s e : ℕ) (out : List ℕ) (at : ℕ) : Type 0 where
+pub record PairNeeds (marks : List ℕ) (s e : ℕ) (out : List ℕ) (at : ℕ) : Type 0 where
   pub long : 4096 ≤ length marks
   pub start-inside : s < 64
   pub cycle-inside : e < 64
   pub room : at + 2 ≤ length out
 
 -- a row of a table of marks, and room for all of its pairs
-pub record RowPlace (marks : List ℕ) (n s : ℕ) (out : List ℕ) (at : ℕ) : Type 0 where
+pub record RowNeeds (marks : List ℕ) (n s : ℕ) (out : List ℕ) (at : ℕ) : Type 0 where
   pub table : MarksTable marks n
   pub inside : s < n
   pub room : at + 2 * n ≤ length out
 
 -- a table of marks, and room for all of its pairs
-pub record PairsPlace (marks : List ℕ) (n : ℕ) (out : List ℕ) (at : ℕ) : Type 0 where
+pub record PairsNeeds (marks : List ℕ) (n : ℕ) (out : List ℕ) (at : ℕ) : Type 0 where
   pub table : MarksTable marks n
   pub room : at + 2 * (n * n) ≤ length out
 
 -- a table of marks, and room for the longest marks' section of n elements
-pub record MarksPlace (marks : List ℕ) (n : ℕ) (out : List ℕ) (at : ℕ) : Type 0 where
+pub record MarksNeeds (marks : List ℕ) (n : ℕ) (out : List ℕ) (at : ℕ) : Type 0 where
   pub table : MarksTable marks n
   pub room : at + (2 + 2 * (n * n)) ≤ length out
 
@@ -76,7 +76,7 @@ pub record MarksWritten (marks : List ℕ) (n : ℕ) (before : List ℕ) (at : �
   pub section : (m : Morphism) → m .size ≡ n → Written before at (marksBytes m (tableMarks marks)) after end
 
 -- the tables of a rule within the limits of the format, and room for the longest file
-pub record RulePlace (table images marks : List ℕ) (n k : ℕ) (out : List ℕ) : Type 0 where
+pub record RuleNeeds (table images marks : List ℕ) (n k : ℕ) (out : List ℕ) : Type 0 where
   pub some : 1 ≤ n
   pub small : n ≤ 64
   pub letters-some : 1 ≤ k

@@ -4,12 +4,12 @@
 ghost use mathlib.Core.List.{_∷_};
 ghost use lib.ListN.{take};
 ghost use Prim.Native.Nat.{_*_};
-ghost use Rattle.rule_writer.specs.Writing.{Written, CopyPlace, CountedPlace, PairPlace, RowPlace, PairsPlace, MarksPlace, MarksWritten, RulePlace, RuleWritten, tableMarks, pairIfMarked};
+ghost use Rattle.rule_writer.specs.Writing.{Written, CopyNeeds, CountedNeeds, PairNeeds, RowNeeds, PairsNeeds, MarksNeeds, MarksWritten, RuleNeeds, RuleWritten, tableMarks, pairIfMarked};
 ghost use Rattle.formats.proofs.Rows.{pairsFrom};
 
 // Copies the first `count` bytes of a slice.
 pub fn copy(from: &[u8], count: usize, out: &mut [u8], at: usize) -> usize
-    requires { ⌜ CopyPlace (now from) count (now out) at ⌝ }
+    requires { ⌜ CopyNeeds (now from) count (now out) at ⌝ }
     ensures { λ r. ⌜ Written (now (out .entry)) at (take count (now (from .entry))) (now (out .exit)) r ⌝ }
 {
     for i in 0..count {
@@ -20,7 +20,7 @@ pub fn copy(from: &[u8], count: usize, out: &mut [u8], at: usize) -> usize
 
 // Writes a count of one byte, then the first `size` bytes of a slice.
 pub fn write_counted(entries: &[u8], count: usize, size: usize, out: &mut [u8], at: usize) -> usize
-    requires { ⌜ CountedPlace (now entries) count size (now out) at ⌝ }
+    requires { ⌜ CountedNeeds (now entries) count size (now out) at ⌝ }
     ensures { λ r. ⌜ Written (now (out .entry)) at (count ∷ take size (now (entries .entry))) (now (out .exit)) r ⌝ }
 {
     out[at] = count as u8;
@@ -29,7 +29,7 @@ pub fn write_counted(entries: &[u8], count: usize, size: usize, out: &mut [u8], 
 
 // Writes the pair (s, e) where it is marked.
 fn write_pair(marks: &[u8], s: usize, e: usize, out: &mut [u8], at: usize) -> usize
-    requires { ⌜ PairPlace (now marks) s e (now out) at ⌝ }
+    requires { ⌜ PairNeeds (now marks) s e (now out) at ⌝ }
     ensures { λ r. ⌜ Written (now (out .entry)) at (pairIfMarked (tableMarks (now (marks .entry))) s e) (now (out .exit)) r ⌝ }
 {
     let mark = marks[s * 64 + e];
@@ -43,7 +43,7 @@ fn write_pair(marks: &[u8], s: usize, e: usize, out: &mut [u8], at: usize) -> us
 
 // Writes the marked pairs that begin with s, by e.
 fn write_row(marks: &[u8], n: usize, s: usize, out: &mut [u8], at: usize) -> usize
-    requires { ⌜ RowPlace (now marks) n s (now out) at ⌝ }
+    requires { ⌜ RowNeeds (now marks) n s (now out) at ⌝ }
     ensures { λ r. ⌜ Written (now (out .entry)) at (pairsFrom n (tableMarks (now (marks .entry))) (s * n) n) (now (out .exit)) r ⌝ }
 {
     let mut next = at;
@@ -55,7 +55,7 @@ fn write_row(marks: &[u8], n: usize, s: usize, out: &mut [u8], at: usize) -> usi
 
 // Writes the marked pairs, by s, then by e.
 fn write_pairs(marks: &[u8], n: usize, out: &mut [u8], at: usize) -> usize
-    requires { ⌜ PairsPlace (now marks) n (now out) at ⌝ }
+    requires { ⌜ PairsNeeds (now marks) n (now out) at ⌝ }
     ensures { λ r. ⌜ Written (now (out .entry)) at (pairsFrom n (tableMarks (now (marks .entry))) 0 (n * n)) (now (out .exit)) r ⌝ }
 {
     let mut next = at;
@@ -68,7 +68,7 @@ fn write_pairs(marks: &[u8], n: usize, out: &mut [u8], at: usize) -> usize
 // Writes the marks' section of n elements from a table of marks that has a byte for each pair (s, e), at s * 64 + e: the pairs
 // whose byte is not 0, and before them their count, low byte first.
 pub fn write_marks(marks: &[u8], n: usize, out: &mut [u8], at: usize) -> usize
-    requires { ⌜ MarksPlace (now marks) n (now out) at ⌝ }
+    requires { ⌜ MarksNeeds (now marks) n (now out) at ⌝ }
     ensures { λ r. ⌜ MarksWritten (now (marks .entry)) n (now (out .entry)) at (now (out .exit)) r ⌝ }
 {
     let first = at + 2;
@@ -89,7 +89,7 @@ pub fn write_rule(
     k: usize,
     out: &mut [u8],
 ) -> usize
-    requires { ⌜ RulePlace (now table) (now images) (now marks) n k (now out) ⌝ }
+    requires { ⌜ RuleNeeds (now table) (now images) (now marks) n k (now out) ⌝ }
     ensures { λ r. ⌜ RuleWritten (now (table .entry)) (now (images .entry)) (now (marks .entry)) n k (now (out .entry)) (now (out .exit)) r ⌝ }
 {
     let letters_at = write_counted(table, n, n * n, out, 0);

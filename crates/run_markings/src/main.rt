@@ -2,9 +2,9 @@
 // `rules::verdict`, over document 01's small rules and over the largest, and writes a line for each.
 use rules::Complemented;
 use rules::Inclusion;
-use rules::Judged;
 use rules::Listed;
 use rules::Monitor;
+use rules::MonitorVerdict;
 use rules::Refusal;
 use rules::Strength;
 
@@ -82,11 +82,11 @@ fn inclusion_line(answer: Inclusion, u: &[u8], v: &[u8]) {
     }
 }
 
-fn verdict_line(answer: Judged) {
+fn verdict_line(answer: MonitorVerdict) {
     match answer {
-        Judged::Accepted => example_text::word(b" accepted\n"),
-        Judged::NotAccepted => example_text::word(b" not accepted\n"),
-        Judged::Refused {
+        MonitorVerdict::Accepted => example_text::word(b" accepted\n"),
+        MonitorVerdict::NotAccepted => example_text::word(b" not accepted\n"),
+        MonitorVerdict::Refused {
             refusal,
             input,
             place,

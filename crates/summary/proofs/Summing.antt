@@ -36,7 +36,7 @@ use Rattle.promises.proofs.OneStrength.{strong-rule-single}
 use Rattle.promises.specs.declared.Summary.{Summary}
 use Rattle.promises.specs.declared.Summary.the-variants.{Counts, Refused}
 use Rattle.promises.specs.Summary.{summaryChecks, SummaryPromise}
-use Rattle.summary.specs.Steps.{CheckedPlace, SizeFound, Measured}
+use Rattle.summary.specs.Steps.{CheckedNeeds, SizeFound, Measured}
 use Rattle.summary.proofs.Passing.{not-refused}
 
 -- a good rule that is not weak is strong, since strength is decided
@@ -48,12 +48,12 @@ strong-of {bytes} good h = go (strong-dec (good .lawful) (good .linked) (good .r
     go (no weak) = absurd (h weak)
 
 -- below the check: the rule passes, and the buffers have their sizes
-module _ {bytes work entry : List ℕ} (p : CheckedPlace bytes work entry) where
+module _ {bytes work entry : List ℕ} (p : CheckedNeeds bytes work entry) where
   long : scratchSize ≤ length entry
   long = scratch-long 1 bytes entry (p .passes)
 
   -- buffers of the same lengths do as well
-  pub place-again : {work′ now : List ℕ} → length work′ ≡ length work → length now ≡ length entry → CheckedPlace bytes work′ now
+  pub place-again : {work′ now : List ℕ} → length work′ ≡ length work → length now ≡ length entry → CheckedNeeds bytes work′ now
   place-again {now = now} ew es = record {
     room = omega (arith, p .room, ew);
     passes = buffer-long (omega (arith, long, es)) (passes-tail (p .passes));
@@ -64,7 +64,7 @@ module _ {bytes work entry : List ℕ} (p : CheckedPlace bytes work entry) where
       → answer ≡ Listed-refused r input place → ⊥
   classes-not-refused answer {after} {exit} q e =
       not-refused (buffer-single (checked-single 1 bytes entry))
-      (buffer-long (omega (arith, p .room)) (p .passes)) (subst (ListPromise bytes work after entry exit) e q .verdict)
+      (buffer-long (omega (arith, p .room)) (p .passes)) (subst (ListPromise bytes work after entry exit) e q .refusal)
 
   pub classes-left : {answer : Listed} {after exit : List ℕ} → ListPromise bytes work after entry exit answer → exit ≡ replicate (length entry) 0
   classes-left q =
@@ -84,7 +84,7 @@ module _ {bytes work entry : List ℕ} (p : CheckedPlace bytes work entry) where
     unfolding fileOf elementsBytes
     size-strong e =
         let known = subst (ReducePromise bytes work after entry exit) e q in
-        let not-weak = passes-head (passed-last (checkedChecks 1 bytes entry) (weakCheck 1 bytes ∷ []) (passes-tail (known .verdict))) in
+        let not-weak = passes-head (passed-last (checkedChecks 1 bytes entry) (weakCheck 1 bytes ∷ []) (passes-tail (known .refusal))) in
         let r = known .answered in
         record {
           reduces = record {
@@ -107,7 +107,7 @@ module _ {bytes work entry : List ℕ} (p : CheckedPlace bytes work entry) where
     pub size-weak : {r : Refusal} {input place : ℕ} → answer ≡ Reduced-refused r input place → SizeFound bytes entry exit false 0
     size-weak e =
         let known = subst (ReducePromise bytes work after entry exit) e q in
-        record { reduces = (λ strong. not-refused (strong-rule-single ruleSize work bytes entry) (all-pass strong) (known .verdict), refl); scratch = reduction-left }
+        record { reduces = (λ strong. not-refused (strong-rule-single ruleSize work bytes entry) (all-pass strong) (known .refusal), refl); scratch = reduction-left }
 
   -- the rule was counted, its classes listed, its reduction measured, and work cleared
   pub measured : (answer : Listed) {elements letters marks linked classes joins reduced : ℕ} {strong : Bool} {listed mid after exit : List ℕ} {n : ℕ} → RuleCounts bytes elements letters marks
@@ -126,7 +126,7 @@ module _ {bytes work entry : List ℕ} (p : CheckedPlace bytes work entry) where
 -- a short buffer is refused, and both are left as they came
 pub work-short : (bytes work scratch : List ℕ) → length work < ruleSize → SummaryPromise bytes work work scratch scratch (Refused BufferTooShort 1 0)
 work-short bytes work scratch h = record {
-  verdict = buffer-short h;
+  refusal = buffer-short h;
   answered = tt;
   work = refl;
   scratch = short-left ruleSize work scratch h;
@@ -143,7 +143,7 @@ module _ (bytes work entry : List ℕ) (room : ruleSize ≤ length work) (answer
   pub summary-refused : {r : Refusal} {input place : ℕ} → answer ≡ Inspected-refused r input place → SummaryPromise bytes work work entry mid (Refused r input place)
   summary-refused e =
       let known = subst (InspectPromise bytes entry mid) e q in
-      record { verdict = buffer-long room (known .verdict); answered = tt; work = refl; scratch = long-left ruleSize work entry room (known .scratch) }
+      record { refusal = buffer-long room (known .refusal); answered = tt; work = refl; scratch = long-left ruleSize work entry room (known .scratch) }
 
   -- a rule that passes is measured
   module _ {elements letters marks : ℕ} (e : answer ≡ Inspected-rule elements letters marks) where
@@ -151,22 +151,22 @@ module _ (bytes work entry : List ℕ) (room : ruleSize ≤ length work) (answer
     known = subst (InspectPromise bytes entry mid) e q
 
     zeros : mid ≡ replicate (length entry) 0
-    zeros = known .scratch ∙ sym (zeros-after entry (scratch-long 1 bytes entry (known .verdict)))
+    zeros = known .scratch ∙ sym (zeros-after entry (scratch-long 1 bytes entry (known .refusal)))
 
     same-length : length mid ≡ length entry
     same-length = ap length zeros ∙ length-replicate (length entry) 0
 
-    pub measure-place : CheckedPlace bytes work mid
+    pub measure-place : CheckedNeeds bytes work mid
     measure-place = record {
       room = room;
-      passes = buffer-long (omega (arith, scratch-long 1 bytes entry (known .verdict), same-length)) (passes-tail (known .verdict));
+      passes = buffer-long (omega (arith, scratch-long 1 bytes entry (known .refusal), same-length)) (passes-tail (known .refusal));
     }
 
     pub summary-measured : (summary : Summary) {after exit : List ℕ} → Measured bytes work after mid exit summary → SummaryPromise bytes work after entry exit summary
     summary-measured summary m = record {
-      verdict = subst (FirstFailure (summaryChecks bytes work entry)) (sym (m .passes)) (buffer-long room (known .verdict));
+      refusal = subst (FirstFailure (summaryChecks bytes work entry)) (sym (m .passes)) (buffer-long room (known .refusal));
       answered = m .answered;
       work = m .work;
       scratch =
-          long-left ruleSize work entry room (m .scratch ∙ ap (λ (n : ℕ). replicate n 0) same-length ∙ zeros-after entry (scratch-long 1 bytes entry (known .verdict)));
+          long-left ruleSize work entry room (m .scratch ∙ ap (λ (n : ℕ). replicate n 0) same-length ∙ zeros-after entry (scratch-long 1 bytes entry (known .refusal)));
     }

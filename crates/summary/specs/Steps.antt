@@ -11,7 +11,7 @@ use Rattle.promises.specs.declared.Summary.{Summary}
 use Rattle.promises.specs.Summary.{summaryVerdict, ReducesTo, SummaryAnswer, workAfter}
 
 -- a rule that passes every check, and buffers that have their sizes
-pub record CheckedPlace (bytes work scratch : List ℕ) : Type 0 where
+pub record CheckedNeeds (bytes work scratch : List ℕ) : Type 0 where
   pub room : ruleSize ≤ length work
   pub passes : FirstFailure (checkedChecks 1 bytes scratch) passed
 

@@ -11,7 +11,7 @@ use rule_inspect::inspect;
 use sections::zero;
 ghost use Rattle.promises.specs.Inspect.{RuleCounts};
 ghost use Rattle.promises.specs.Summary.{SummaryPromise};
-ghost use Rattle.summary.specs.Steps.{CheckedPlace, SizeFound, Measured};
+ghost use Rattle.summary.specs.Steps.{CheckedNeeds, SizeFound, Measured};
 
 // Whether a rule is strong, and how many elements its reduction has, 0 where it is weak.
 struct ReducedSize {
@@ -21,7 +21,7 @@ struct ReducedSize {
 
 // Reduces a checked rule: the reduction's file begins with its number of elements, and only a weak rule is refused.
 fn reduced_size(rule: &[u8], work: &mut [u8], scratch: &mut [u8]) -> ReducedSize
-    requires { ⌜ CheckedPlace (now rule) (now work) (now scratch) ⌝ }
+    requires { ⌜ CheckedNeeds (now rule) (now work) (now scratch) ⌝ }
     ensures { λ r. ⌜ SizeFound (now (rule .entry)) (now (scratch .entry)) (now (scratch .exit)) (r .strong) (r .reduced) ⌝ }
 {
     match reduce(rule, work, scratch) {
@@ -49,7 +49,7 @@ fn measure(
     work: &mut [u8],
     scratch: &mut [u8],
 ) -> Summary
-    requires { ⌜ CheckedPlace (now rule) (now work) (now scratch) ⌝ }
+    requires { ⌜ CheckedNeeds (now rule) (now work) (now scratch) ⌝ }
     requires { ⌜ RuleCounts (now rule) elements letters marks ⌝ }
     ensures { λ r. ⌜ Measured (now (rule .entry)) (now (work .entry)) (now (work .exit)) (now (scratch .entry)) (now (scratch .exit)) r ⌝ }
 {

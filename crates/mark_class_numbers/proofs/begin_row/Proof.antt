@@ -5,7 +5,7 @@ use native.Mathlib.Omega.{arith}
 use native.Mathlib.Nat.{add-zero}
 use Rattle.formats.specs.Table.{morphismAt}
 use Rattle.mark_class_numbers.specs.Cells.{Begun}
-use Rattle.mark_class_numbers.proofs.Bytes.{CellPlace, cell-place}
+use Rattle.mark_class_numbers.proofs.Bytes.{CellNeeds, cell-place}
 use Rattle.mark_class_numbers.proofs.Factors.{numbered-small}
 use Rattle.mark_class_numbers.proofs.Passes.{begun-none, begun-more}
 use Rattle.mark_class_numbers.proofs.begin_row.Statement.{statement}
@@ -21,7 +21,7 @@ abbrev Turn : Type 0
 Turn = tie.In-loop Inv-loop μ-loop
 
 -- where the number of this turn's pair stands
-place : (d : Turn) → CellPlace (d .before .before .before .before .args .n) (d .before .before .before .before .args .s) (d .before .loop .e) (d .before .loop .out)
+place : (d : Turn) → CellNeeds (d .before .before .before .before .args .n) (d .before .before .before .before .args .s) (d .before .loop .e) (d .before .loop .out)
 place d =
     let b = d .before .before .before .before in
     cell-place (b .pre .0 .small) (b .pre .1 .1 .1) (d .loop-test .taken) (omega (arith, b .pre .1 .1 .0, d .before .loop .inv .0 .same-length))

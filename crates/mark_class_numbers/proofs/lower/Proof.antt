@@ -4,7 +4,7 @@ use mathlib.Core.Path.{_≡_, subst}
 use native.Mathlib.Omega.{arith}
 use Rattle.formats.specs.Table.{morphismAt}
 use Rattle.mark_class_numbers.specs.Cells.{Lowest, Lowered}
-use Rattle.mark_class_numbers.proofs.Bytes.{CellPlace, cell-place}
+use Rattle.mark_class_numbers.proofs.Bytes.{CellNeeds, cell-place}
 use Rattle.mark_class_numbers.proofs.Factors.{lowest-le}
 use Rattle.mark_class_numbers.proofs.Passes.{lowered-none, lowered-more}
 use Rattle.mark_class_numbers.proofs.lower.Statement.{statement}
@@ -20,7 +20,7 @@ abbrev Turn : Type 0
 Turn = tie.In-loop Inv-loop μ-loop
 
 -- where the number of this turn's pair stands
-place : (d : Turn) → CellPlace (d .before .before .before .before .args .n) (d .before .loop .s) (d .before .before .before .before .args .e) (d .before .loop .out)
+place : (d : Turn) → CellNeeds (d .before .before .before .before .args .n) (d .before .loop .s) (d .before .before .before .before .args .e) (d .before .loop .out)
 place d =
     let b = d .before .before .before .before in
     cell-place (b .pre .0 .small) (d .loop-test .taken) (b .pre .1 .0 .1) (omega (arith, b .pre .1 .1, d .before .loop .inv .0 .kept .same-length))

@@ -4,13 +4,13 @@ use Prim.Native.Nat.{ℕ, _-_, _≤_}
 use mathlib.Core.Path.{_≡_, subst}
 use native.Mathlib.Omega.{arith}
 use Rattle.formats.specs.Table.{morphismAt}
-use Rattle.mark_complement_marks.specs.Complement.{RowsTurned}
+use Rattle.mark_complement_marks.specs.Complement.{ComplementRows}
 use Rattle.mark_complement_marks.proofs.Turned.{rows-none, rows-more, rows-all}
 use Rattle.mark_complement_marks.proofs.complement_marks.Statement.{statement}
 use Rattle.mark_complement_marks.proofs.complement_marks.Tie as tie
 
 abbrev Inv-loop : tie.InvT-loop
-Inv-loop rule n k scratch₀ s₀ scratch s = RowsTurned (morphismAt rule n k) s scratch₀ scratch × (s ≤ n)
+Inv-loop rule n k scratch₀ s₀ scratch s = ComplementRows (morphismAt rule n k) s scratch₀ scratch × (s ≤ n)
 
 abbrev μ-loop : tie.MeasureT-loop
 μ-loop rule n k scratch₀ s₀ scratch s = n - s
@@ -44,7 +44,7 @@ returns c =
     let a = b .args in
     let q : c .before .loop .s ≡ a .n = omega arith in
     rows-all (b .pre .0 .small)
-    (subst (λ (s : ℕ). RowsTurned (morphismAt (a .rule .now) (a .n) (a .k)) s (a .scratch .now) (c .before .loop .scratch)) q (c .before .loop .inv .0))
+    (subst (λ (s : ℕ). ComplementRows (morphismAt (a .rule .now) (a .n) (a .k)) s (a .scratch .now) (c .before .loop .scratch)) q (c .before .loop .inv .0))
 
 pub complement-marks-spec : {M : Type 1} → statement M
 complement-marks-spec =

@@ -44,7 +44,7 @@ use denote.Triple.Walked.{says, Stays, stay-ref, stay-none, stay-none-slice, gav
 use denote.Exit.{yes}
 use Rattle.promises.specs.declared.Monitor.{Monitor}
 use Rattle.promises.specs.declared.Moved.{Moved}
-use Rattle.promises.specs.declared.Told.{Told}
+use Rattle.promises.specs.declared.InPlaceAnswer.{InPlaceAnswer}
 use Rattle.promises.specs.Moves.{EventPromise}
 use Rattle.monitor_lent.specs.InPlace.{sinceOf, toldOf}
 use Rattle.promises.specs.InPlace.{EventInPlace}
@@ -53,8 +53,8 @@ use Rattle.promises.proofs.Monitor as T
 use Rattle.promises.proofs.Monitor.Laws as T′
 use Rattle.promises.proofs.Moved as MovedT
 use Rattle.promises.proofs.Moved.Laws as MovedT′
-use Rattle.promises.proofs.Told as ToldT
-use Rattle.promises.proofs.Told.Laws as ToldT′
+use Rattle.promises.proofs.InPlaceAnswer as ToldT
+use Rattle.promises.proofs.InPlaceAnswer.Laws as ToldT′
 use Rattle.monitor_moves.proofs.event as event
 use Rattle.monitor_moves.proofs.event.Symbol as event-def
 use Rattle.monitor_moves.proofs.event.Symbol.{name as #monitor-moves·event}
@@ -90,7 +90,7 @@ module _ {M : Type 1} (𝓤 : URA M) (H : Heap 𝓤) (A : Atoms 𝓤) (at-mem : 
   since-said : (v : Moved) (r : ℕ) → ent 𝓤 (ensured 𝓤 H A since-of.ended (since-of.clauses 𝓤 H A at-mem run) tt (v, tt) tt r) (fact 𝓤 (r ≡ sinceOf v))
   since-said v r = exE 𝓤 _ (λ ws. snd∗ 𝓤 (sem 𝓤 H A (lasts since-of.ended tt (v, tt) ws)) (fact 𝓤 (r ≡ sinceOf v)))
 
-  told-said : (v : Moved) (r : Told) → ent 𝓤 (ensured 𝓤 H A told-of.ended (told-of.clauses 𝓤 H A at-mem run) tt (v, tt) tt r) (fact 𝓤 (r ≡ toldOf v))
+  told-said : (v : Moved) (r : InPlaceAnswer) → ent 𝓤 (ensured 𝓤 H A told-of.ended (told-of.clauses 𝓤 H A at-mem run) tt (v, tt) tt r) (fact 𝓤 (r ≡ toldOf v))
   told-said v r = exE 𝓤 _ (λ ws. snd∗ 𝓤 (sem 𝓤 H A (lasts told-of.ended tt (v, tt) ws)) (fact 𝓤 (r ≡ toldOf v)))
 
 module _ {M : Type 1} (𝓤 : URA M) (H : Heap 𝓤) (A : Atoms 𝓤) (W : Given 𝓤 H A) (at-mem : Memory → SProp 𝓤) (run : Routine → Fun 𝓤) (κ₀ κ₁ κ₂ : Lft) (q₀ q₁ q₂ : Share) (rule : RefT (List ℕ)) (b o : ℕ) (γ : GName) (h : Monitor) (n : ℕ) (scratch : RefT (List ℕ)) (n-fits : n < 2 ^ 8) where
@@ -153,7 +153,7 @@ module _ {M : Type 1} (𝓤 : URA M) (H : Heap 𝓤) (A : Atoms 𝓤) (W : Given
   made : (since : ℕ) → since < 2 ^ 64 → Is T.the-row h (mach (h .since) ∷ []) → Is T.the-row (withSince h since) (mach since ∷ [])
   made since fits was = LL.owes T.the-type T′.the-laws (withSince h since) (LL.owed T.the-type T′.the-laws h _ was .0, ((refl, fits), tt))
 
-  exits : (since : ℕ) (zs : List ℕ) (told : Told) (u : Val) → length zs ≡ length (scratch .now) → EventInPlace (rule .now) h n (scratch .now) zs (withSince h since) told
+  exits : (since : ℕ) (zs : List ℕ) (told : InPlaceAnswer) (u : Val) → length zs ≡ length (scratch .now) → EventInPlace (rule .now) h n (scratch .now) zs (withSince h since) told
       → ent 𝓤 (⋆ 𝓤 H A (‵ (fobs γ (T.the-row .coded .code (withSince h since))) ∷ ‵ (fbor κ₁ (Body (mem T.the-row) b o γ)) ∷ ‵ (flft κ₁ q₁) ∷ (‵ (flft κ₀ q₀) ⊛ ‵ (flft κ₂ q₂) ⊛ ‵ ftrue) ∷ ‵ Rule ∷ ‵ (finally u8 (scratch .name) zs) ∷ ‵ (ToldT.the-row .own told (u ∷ [])) ∷ [])) (Post u)
   exits since zs told u l e =
       qed W (‵ (fobs γ (T.the-row .coded .code (withSince h since))) ∷ ‵ (fbor κ₁ (Body (mem T.the-row) b o γ)) ∷ ‵ (flft κ₁ q₁) ∷ (‵ (flft κ₀ q₀) ⊛ ‵ (flft κ₂ q₂) ⊛ ‵ ftrue) ∷ ‵ Rule ∷ ‵ (finally u8 (scratch .name) zs) ∷ ‵ (ToldT.the-row .own told (u ∷ [])) ∷ []) ∵
@@ -199,7 +199,7 @@ module _ {M : Type 1} (𝓤 : URA M) (H : Heap 𝓤) (A : Atoms 𝓤) (W : Given
         assigns ! (of-opd ! (load ! (from ! (stop !)) (look ! 12 refl))) (from ! (hop ! (look ! 26 refl) (fld ! refl (stop !)))) (store-in ! 7 (sub ! 1 refl (whole !)) (tt, record { fits = is₁ .1 })) $
         drop ! $ owned ! MovedT.the-row (Is MovedT.the-row) ((EL.makes MovedT.the-type MovedT′.the-plain) 𝓤 H A) r (v ∷ []) is $ use1 W (raw (ToldOf 𝓤 H A at-mem run .pre (to-told r v))) (goes-told r v) $
         calls-at ! fm (ToldOf 𝓤 H A at-mem run) known-told (to-told r v) (and-then ! (load ! (from ! (stop !)) (look ! 20 refl)) (no-more !)) (λ u.
-        use1 W (later (some (λ (y : Told). (‵ ftrue ⊛ ‵ (ToldT.the-row .own y (u ∷ []))) ⊛ raw (ensured 𝓤 H A told-of.ended (told-of.clauses 𝓤 H A at-mem run) tt (r, tt) tt y)))) (id⊢ 𝓤 _) $ await ! tt $ pick ! (λ y.
+        use1 W (later (some (λ (y : InPlaceAnswer). (‵ ftrue ⊛ ‵ (ToldT.the-row .own y (u ∷ []))) ⊛ raw (ensured 𝓤 H A told-of.ended (told-of.clauses 𝓤 H A at-mem run) tt (r, tt) tt y)))) (id⊢ 𝓤 _) $ await ! tt $ pick ! (λ y.
         split ! $ move ! (1 ∷ []) $ use1 W (raw (fact 𝓤 (y ≡ toldOf r))) (told-said 𝓤 H A at-mem run r y) $ heard ! (y ≡ toldOf r) (λ e₂. split ! $ drop ! $
         peeks ! ToldT.the-row (Is ToldT.the-row) (shows 𝓤 H A ToldT.the-row) y (u ∷ []) (λ is₂.
         land ! (from ! (stop !)) (init ! 30 refl (EL.lawful ToldT.the-type ToldT′.the-laws 𝓤 H A W tt .typed y _ is₂ .0)) $

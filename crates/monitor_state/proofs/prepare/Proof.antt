@@ -24,8 +24,8 @@ returns c = rule-refused _ _ _ (checked-refused 1 _ _ _ (c .before .before .befo
 zero-requires : tie.Need-zero-requires
 zero-requires c κs = search needs
 
-stray-requires : tie.Need-stray-requires
-stray-requires c κs = search needs
+out-of-range-requires : tie.Need-out-of-range-requires
+out-of-range-requires c κs = search needs
 
 same-length-2 : tie.Need-same-length-2
 same-length-2 c = search needs
@@ -33,10 +33,10 @@ same-length-2 c = search needs
 returns-2 : tie.Need-returns-2
 returns-2 c =
     monitor-stray _ _ _ _ _ (checked-rule 1 _ _ _ (c .before .before .before .before .before .before .before .before .before .before .before .check .result) (c .before .before .before .before .before .before .before .before .before .before .before .check .ensures) (c .before .before .before .before .before .before .before .shape .given .1)) (c .before .before .before .before .zero .ensures)
-    (inl (said-stray _ _ (c .before .stray .result) (c .before .stray .ensures) (c .if1 .taken)))
+    (inl (said-stray _ _ (c .before .out-of-range .result) (c .before .out-of-range .ensures) (c .if1 .taken)))
 
-stray-requires-2 : tie.Need-stray-requires-2
-stray-requires-2 c κs = search needs
+out-of-range-requires-2 : tie.Need-out-of-range-requires-2
+out-of-range-requires-2 c κs = search needs
 
 same-length-3 : tie.Need-same-length-3
 same-length-3 c = search needs
@@ -44,7 +44,7 @@ same-length-3 c = search needs
 returns-3 : tie.Need-returns-3
 returns-3 c =
     monitor-stray _ _ _ _ _ (checked-rule 1 _ _ _ (c .before .before .before .before .before .before .before .before .before .before .before .before .before .check .result) (c .before .before .before .before .before .before .before .before .before .before .before .before .before .check .ensures) (c .before .before .before .before .before .before .before .before .before .shape .given .1)) (c .before .before .before .before .before .before .zero .ensures)
-    (inr (said-stray _ _ (c .before .stray2 .result) (c .before .stray2 .ensures) (c .if2 .taken)))
+    (inr (said-stray _ _ (c .before .out-of-range2 .result) (c .before .out-of-range2 .ensures) (c .if2 .taken)))
 
 same-length-4 : tie.Need-same-length-4
 same-length-4 c = search needs
@@ -52,8 +52,8 @@ same-length-4 c = search needs
 returns-4 : tie.Need-returns-4
 returns-4 c =
     monitor-good _ _ _ _ _ (checked-rule 1 _ _ _ (c .before .before .before .before .before .before .before .before .before .before .before .before .before .check .result) (c .before .before .before .before .before .before .before .before .before .before .before .before .before .check .ensures) (c .before .before .before .before .before .before .before .before .before .shape .given .1)) (c .before .before .before .before .before .before .zero .ensures)
-    (said-good _ _ (c .before .before .before .stray .result) (c .before .before .before .stray .ensures) (c .before .before .if1 .left))
-    (said-good _ _ (c .before .stray2 .result) (c .before .stray2 .ensures) (c .if2 .left))
+    (said-good _ _ (c .before .before .before .out-of-range .result) (c .before .before .before .out-of-range .ensures) (c .before .before .if1 .left))
+    (said-good _ _ (c .before .out-of-range2 .result) (c .before .out-of-range2 .ensures) (c .if2 .left))
 
 pub prepare-spec : {M : Type 1} → statement M
 prepare-spec =
@@ -65,10 +65,10 @@ prepare-spec =
     same-length
     returns
     zero-requires
-    stray-requires
+    out-of-range-requires
     same-length-2
     returns-2
-    stray-requires-2
+    out-of-range-requires-2
     same-length-3
     returns-3
     same-length-4

@@ -112,7 +112,7 @@ returns-4 c =
       powers-decide (b .args .rule .now) (end-is _ _ (b .pre .0)) (follows (c .before .before .before .before .before .before .before .before .before)) table
           (no-fault (λ input. markChecks input (morphismOf (b .args .rule .now)) (b .args .rule .now) (marksAt (b .args .rule .now)) 0 (marksOf (b .args .rule .now))) (m .result)
           (of-marks _ _ (b .pre .0) (m .result) (m .ensures .0)) (c .enum-told2 .given .1))
-          No-fault (λ input. lawful-powers-pass input (table-lawful (table-of (b .args .rule .now) (b .pre .0 .verdict 1)) (table-associates (table 1)))),
+          No-fault (λ input. lawful-powers-pass input (table-lawful (table-of (b .args .rule .now) (b .pre .0 .refusal 1)) (table-associates (table 1)))),
       of-laid _ _ (b .pre .0) (laid-said _ _ _ _ _ _ (m .result) (m .ensures .1) (c .enum-told2 .given .1)),
     )
 

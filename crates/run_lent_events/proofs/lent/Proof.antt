@@ -46,14 +46,14 @@ use denote.Triple.Walked.{Stays, stay-none, stay-none-slice, gave-slice, walkOf,
 use denote.Exit.{yes}
 use Rattle.promises.specs.declared.Monitor.{Monitor}
 use Rattle.promises.specs.declared.Moved.{Moved}
-use Rattle.promises.specs.declared.Told.{Told}
+use Rattle.promises.specs.declared.InPlaceAnswer.{InPlaceAnswer}
 use Rattle.promises.specs.InPlace.{EventInPlace}
 use Rattle.promises.proofs.Monitor as T
 use Rattle.promises.proofs.Monitor.Laws as T′
 use Rattle.promises.proofs.Moved as MovedT
 use Rattle.promises.proofs.Moved.Laws as MovedT′
-use Rattle.promises.proofs.Told as ToldT
-use Rattle.promises.proofs.Told.Laws as ToldT′
+use Rattle.promises.proofs.InPlaceAnswer as ToldT
+use Rattle.promises.proofs.InPlaceAnswer.Laws as ToldT′
 use Rattle.monitor_lent.proofs.event_in_place as in-place
 use Rattle.monitor_lent.proofs.event_in_place.Symbol as in-place-def
 use Rattle.monitor_lent.proofs.event_in_place.Symbol.{name as #monitor-lent·event-in-place}
@@ -134,10 +134,10 @@ module _ {M : Type 1} (𝓤 : URA M) (H : Heap 𝓤) (A : Atoms 𝓤) (W : Given
       move ! (1 ∷ 0 ∷ []) $ join ! $ frame ! $ done !
 
   -- the call of `with_monitor`, at what `event_in_place` returned and the monitor that it left
-  abbrev to-with : Told → Val → Monitor → Val → With 𝓤 H A at-mem run .Ghost
+  abbrev to-with : InPlaceAnswer → Val → Monitor → Val → With 𝓤 H A at-mem run .Ghost
   to-with r v g w = ((tt, tt, tt, (r, (g, tt)), (v ∷ [], (w ∷ [], tt))), tt)
 
-  goes-with : (r : Told) (v : Val) (g : Monitor) (w : Val) → ent 𝓤 (sep 𝓤 (sem 𝓤 H A (ToldT.the-row .own r (v ∷ []))) (sem 𝓤 H A (T.the-row .own g (w ∷ [])))) (With 𝓤 H A at-mem run .pre (to-with r v g w))
+  goes-with : (r : InPlaceAnswer) (v : Val) (g : Monitor) (w : Val) → ent 𝓤 (sep 𝓤 (sem 𝓤 H A (ToldT.the-row .own r (v ∷ []))) (sem 𝓤 H A (T.the-row .own g (w ∷ [])))) (With 𝓤 H A at-mem run .pre (to-with r v g w))
   goes-with r v g w =
       qed W (‵ (ToldT.the-row .own r (v ∷ [])) ∷ ‵ (T.the-row .own g (w ∷ [])) ∷ []) ∵ nothing ! $ move ! (2 ∷ 0 ∷ []) $ fjoin ! $ move ! (1 ∷ 0 ∷ []) $ fjoin ! $ nothing ! $ join ! $ frame ! $ done !
 
@@ -172,7 +172,7 @@ module _ {M : Type 1} (𝓤 : URA M) (H : Heap 𝓤) (A : Atoms 𝓤) (W : Given
         move ! (6 ∷ []) $ use1 W (‵ Rule ⊛ ‵ Rule) (shr-slice-copy 𝓤 H A W (named 0) κ₀ u8 .twice rule (s ∷ [])) $ split ! $ move ! (0 ∷ 5 ∷ []) $ join ! $ move ! (4 ∷ 2 ∷ []) $ join ! $
         move ! (27 ∷ 0 ∷ 1 ∷ []) $ use3 W (raw (InPlace 𝓤 H A at-mem run .pre (to-in-place l₅ α γ))) (goes-in-place l₅ α γ) $
         calls-at ! fm (InPlace 𝓤 H A at-mem run) known-in-place (to-in-place l₅ α γ) (and-then ! (load ! (from ! (stop !)) (look ! 22 refl)) (and-then ! (load ! (from ! (stop !)) (look ! 11 refl)) (and-then ! (load ! (from ! (stop !)) (look ! 18 refl)) (and-then ! (load ! (from ! (stop !)) (look ! 7 refl)) (no-more !))))) (λ v.
-        use1 W (later (some (λ (r : Told). ((‵ (flft κ₀ q₀) ⊛ ‵ (flft (α ∷ []) fullShare) ⊛ ‵ (flft κ₁ q₁) ⊛ ‵ ftrue) ⊛ ‵ (ToldT.the-row .own r (v ∷ []))) ⊛ raw (ensured 𝓤 H A in-place.ended (in-place.clauses 𝓤 H A at-mem run) (κ₀, (α ∷ [], (κ₁, tt))) (passed l₅ γ) tt r)))) (id⊢ 𝓤 _) $ await ! tt $ pick ! (λ r.
+        use1 W (later (some (λ (r : InPlaceAnswer). ((‵ (flft κ₀ q₀) ⊛ ‵ (flft (α ∷ []) fullShare) ⊛ ‵ (flft κ₁ q₁) ⊛ ‵ ftrue) ⊛ ‵ (ToldT.the-row .own r (v ∷ []))) ⊛ raw (ensured 𝓤 H A in-place.ended (in-place.clauses 𝓤 H A at-mem run) (κ₀, (α ∷ [], (κ₁, tt))) (passed l₅ γ) tt r)))) (id⊢ 𝓤 _) $ await ! tt $ pick ! (λ r.
         split ! $ move ! (1 ∷ []) $ use1 W (some (λ (ws : Unit {0} × (Monitor × (Unit {0} × (List ℕ × Unit {0})))). ‵ (lasts in-place.ended (κ₀, (α ∷ [], (κ₁, tt))) (passed l₅ γ) ws) ⊛ raw (fact 𝓤 (EventInPlace (rule .now) h n (scratch .now) (ws .1 .1 .1 .0) (ws .1 .0) r)))) (id⊢ 𝓤 _) $ pick ! (λ ws.
         split ! $ move ! (1 ∷ []) $ drop ! $ fsplit ! $ drop ! $ fsplit ! $ move ! (1 ∷ []) $ fsplit ! $ drop ! $ fsplit ! $ fsplit ! $ move ! (1 ∷ []) $ feqL ! (λ l.
         move ! (3 ∷ []) $ split ! $ move ! (1 ∷ []) $ peeks ! ToldT.the-row (Is ToldT.the-row) (shows 𝓤 H A ToldT.the-row) r (v ∷ []) (λ is.

@@ -1,4 +1,4 @@
--- `reduce_rounds::settle` meets its contract: the loop holds the blocks of round i, and no round before i was stable. It ends since a
+-- `reduce_rounds::refine_until_stable` meets its contract: the loop holds the blocks of round i, and no round before i was stable. It ends since a
 -- stable round stands before the size. Assumes nothing.
 use Prim.Native.Nat.{_-_}
 use mathlib.Core.Path.{_∙_}
@@ -7,8 +7,8 @@ use Rattle.formats.specs.Table.{morphismAt}
 use Rattle.reduce_first_round.proofs.Bytes.{kept-room}
 use Rattle.reduce_first_round.proofs.Comparing.{not-true, not-false}
 use Rattle.reduce_rounds.proofs.Settling.{Started, started, Running, running-start, running-bound, running-next, running-settled}
-use Rattle.reduce_rounds.proofs.settle.Statement.{statement}
-use Rattle.reduce_rounds.proofs.settle.Tie as tie
+use Rattle.reduce_rounds.proofs.refine_until_stable.Statement.{statement}
+use Rattle.reduce_rounds.proofs.refine_until_stable.Tie as tie
 
 abbrev Inv-loop : tie.InvT-loop
 Inv-loop rule n k scratch₀ i₀ scratch i = Running (morphismAt rule n k) scratch₀ scratch i
@@ -74,8 +74,8 @@ loop-less c =
 loop-again : tie.Need-loop-again Inv-loop μ-loop
 loop-again c = running-next (c .before .before .before .before .before .loop .inv) (c .before .before .before .round .ensures) (not-false _ (c .if1 .left))
 
-pub settle-spec : {M : Type 1} → statement M
-settle-spec =
+pub refine-until-stable-spec : {M : Type 1} → statement M
+refine-until-stable-spec =
     tie.close
     (tie.spec
     Inv-loop

@@ -1,8 +1,8 @@
--- `reduce_first_round::settled` meets its contract: a lawful table has an idempotent power of each element. Assumes nothing.
+-- `reduce_first_round::idempotent_power_of` meets its contract: a lawful table has an idempotent power of each element. Assumes nothing.
 use borrow.Author.Needs.{needs}
 use Rattle.reduce_first_round.proofs.OutcomeBytes.{power-settled, power-there}
-use Rattle.reduce_first_round.proofs.settled.Statement.{statement}
-use Rattle.reduce_first_round.proofs.settled.Tie as tie
+use Rattle.reduce_first_round.proofs.idempotent_power_of.Statement.{statement}
+use Rattle.reduce_first_round.proofs.idempotent_power_of.Tie as tie
 
 idempotent-power-requires : tie.Need-idempotent-power-requires
 idempotent-power-requires c κs = search needs
@@ -24,6 +24,6 @@ returns-2 c =
     let b = c .before .before .before .before in
     absurd (power-there _ _ _ _ (c .before .before .idempotent-power .result) (c .before .before .idempotent-power .ensures) (b .pre .1 .0) (b .pre .1 .1) (c .enum-told .given .1))
 
-pub settled-spec : {M : Type 1} → statement M
-settled-spec =
+pub idempotent-power-of-spec : {M : Type 1} → statement M
+idempotent-power-of-spec =
     tie.close (tie.spec idempotent-power-requires enum-known-element returns enum-told returns-2)

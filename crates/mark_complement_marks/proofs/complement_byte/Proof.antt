@@ -1,9 +1,9 @@
--- `mark_complement_marks::byte_turned` meets its contract: each way through the tests is one of its cases. Assumes nothing.
+-- `mark_complement_marks::complement_byte` meets its contract: each way through the tests is one of its cases. Assumes nothing.
 use borrow.Author.Needs.{needs}
 use Rattle.rule_marks.proofs.MarkOrder.{said-linked, said-unlinked}
 use Rattle.mark_complement_marks.proofs.Turned.{turned-in, turned-unlinked, turned-new}
-use Rattle.mark_complement_marks.proofs.byte_turned.Statement.{statement}
-use Rattle.mark_complement_marks.proofs.byte_turned.Tie as tie
+use Rattle.mark_complement_marks.proofs.complement_byte.Statement.{statement}
+use Rattle.mark_complement_marks.proofs.complement_byte.Tie as tie
 
 mul-if1 : tie.Need-mul-if1
 mul-if1 c = search needs
@@ -30,8 +30,8 @@ returns-3 : tie.Need-returns-3
 returns-3 c =
     turned-new _ _ _ _ (c .before .before .if1 .left) (said-linked _ _ _ (c .before .linked .result) (c .before .linked .ensures) (c .if2 .left))
 
-pub byte-turned-spec : {M : Type 1} → statement M
-byte-turned-spec =
+pub complement-byte-spec : {M : Type 1} → statement M
+complement-byte-spec =
     tie.close
     (tie.spec
     mul-if1

@@ -1,9 +1,9 @@
 -- Each case of the answer is packed as the definition has it. Assumes nothing.
 use mathlib.Core.Path.{sym, ap, _∙_}
 use borrow.Author.Needs.{needs}
-use Rattle.packing.specs.Packing.{packJudged}
-use Rattle.packing.proofs.pack_judged.Statement.{statement}
-use Rattle.packing.proofs.pack_judged.Tie as tie
+use Rattle.packing.specs.Packing.{packMonitorVerdict}
+use Rattle.packing.proofs.pack_monitor_verdict.Statement.{statement}
+use Rattle.packing.proofs.pack_monitor_verdict.Tie as tie
 
 enum-told : tie.Need-enum-told
 enum-told c = search needs
@@ -24,16 +24,16 @@ pack-refusal-requires : tie.Need-pack-refusal-requires
 pack-refusal-requires c κs = search needs
 
 returns : tie.Need-returns
-returns c = c .pack-fields .ensures ∙ sym (ap packJudged (c .before .enum-told .given .1))
+returns c = c .pack-fields .ensures ∙ sym (ap packMonitorVerdict (c .before .enum-told .given .1))
 
 returns-2 : tie.Need-returns-2
-returns-2 c = c .pack-fields2 .ensures ∙ sym (ap packJudged (c .before .enum-told2 .given .1))
+returns-2 c = c .pack-fields2 .ensures ∙ sym (ap packMonitorVerdict (c .before .enum-told2 .given .1))
 
 returns-3 : tie.Need-returns-3
-returns-3 c = c .pack-refusal .ensures ∙ sym (ap packJudged (c .before .before .answer .given .1))
+returns-3 c = c .pack-refusal .ensures ∙ sym (ap packMonitorVerdict (c .before .before .answer .given .1))
 
-pub pack-judged-spec : {M : Type 1} → statement M
-pack-judged-spec =
+pub pack-monitor-verdict-spec : {M : Type 1} → statement M
+pack-monitor-verdict-spec =
     tie.close
     (tie.spec
     enum-told
