@@ -7,7 +7,7 @@ use mathlib.Core.Bool.{Bool, true, false, not}
 use mathlib.Core.List.{List}
 use native.Mathlib.Omega.{arith}
 use native.Mathlib.Numerals.{sub-one}
-use native.Mathlib.Nat.{eq-or-lt-of-le}
+use native.Mathlib.Nat.{eq-or-lt-of-le, add-sub-cancel}
 use lib.ListN.{getD}
 use Rattle.finite.proofs.Numbers.{strong, le-or-lt}
 use Rattle.finite.proofs.FirstWords.{Sooner, sooner-parent, sooner-letter}
@@ -18,7 +18,7 @@ use Rattle.rule_table.specs.Table.{Table}
 use Rattle.formats.specs.Table.{productAt, imageAt, morphismAt}
 use Rattle.formats.proofs.Tables.{AllAssociate}
 use Rattle.rule_reach.specs.Reach.{entryAt, parentAt, letterAt, placeAt, wordStep}
-use Rattle.rule_associating.specs.Tests.{AllFound, LetterEntries, WordsAlong, LettersBetween, WordsAnswer, LettersAnswer, AssociatesAnswer}
+use Rattle.rule_associating.specs.Tests.{AllFound, LetterEntries, Column, LetterColumns, WordsAlong, LettersBetween, WordsAnswer, LettersAnswer, AssociatesAnswer}
 use Rattle.rule_associating.proofs.Passed.{true-apart}
 
 -- an entry other than the first holds its element one byte before its number
@@ -28,7 +28,7 @@ entry-element queue zero h = absurd (omega arith)
 entry-element queue (suc p) h = rw sub-one
 
 -- a letter's element is an element
-pub image-below : {bytes : List ℕ} {n k a h : ℕ} → Table bytes n k → a < k → h ≡ imageAt bytes n a → h < n
+image-below : {bytes : List ℕ} {n k a h : ℕ} → Table bytes n k → a < k → h ≡ imageAt bytes n a → h < n
 image-below {a = a} t l e = rw e (t .images a l)
 
 -- a letter's element, as one of the first entries
@@ -36,6 +36,26 @@ record LetterEntry (bytes : List ℕ) (n : ℕ) (queue : List ℕ) (letters a : 
   at : ℕ
   below : at < letters
   same : getD queue at 0 ≡ imageAt bytes n a
+
+-- the number that the worklist has for a letter's element is that of one of the first entries
+pub record LetterColumn (queue : List ℕ) (letters h : ℕ) : Type 0 where
+  pub above : 0 < getD queue (192 + h) 0
+  pub below : getD queue (192 + h) 0 - 1 < letters
+  pub same : getD queue (getD queue (192 + h) 0 - 1) 0 ≡ h
+
+-- so its column is there
+pub place-column : {bytes : List ℕ} {n : ℕ} {queue columns : List ℕ} {letters h : ℕ} → LetterColumns bytes n queue letters columns → LetterColumn queue letters h
+    → Column bytes n columns (getD queue (192 + h) 0 - 1) h
+place-column {bytes} {n} {queue} {columns} {h = h} c p =
+    subst (Column bytes n columns (getD queue (192 + h) 0 - 1)) (p .same) (c .column (getD queue (192 + h) 0 - 1) (p .below))
+
+-- an entry behind the letters', with its letter's element h: what the first test looks up
+pub record WordEntry (queue : List ℕ) (n letters i h : ℕ) : Type 0 where
+  pub parent-inside : getD queue (getD queue (64 + i) 0 - 1) 0 < n
+  pub inside : getD queue i 0 < n
+  pub image-inside : h < n
+  pub place : LetterColumn queue letters h
+  pub few : letters ≤ 16
 
 -- a parent that is not before one above 0 is above 0
 sooner-above : {p a p′ a′ : ℕ} → 0 < p → Sooner p a p′ a′ → 0 < p′
@@ -120,6 +140,44 @@ module _ {bytes : List ℕ} {n k : ℕ} {queue : List ℕ} {count : ℕ} (f : Al
               (λ (g : i < letters). g) (le-or-lt letters i);
           same = element-same q;
         }
+
+    -- the one that the worklist names
+    letter-place : {a h : ℕ} → a < k → h ≡ imageAt bytes n a → LetterColumn queue letters h
+    unfolding placeAt
+    letter-place {a} {h} l q = go (letter-entry a l)
+      where
+        go : LetterEntry bytes n queue letters a → LetterColumn queue letters h
+        go p =
+            let same : getD queue (p .at) 0 ≡ h = p .same ∙ sym q in
+            let place : getD queue (192 + h) 0 ≡ p .at + 1 = rw same at (f .places .of-entry (p .at) (omega (arith, p .below, e .few))) in
+            record { above = omega arith; below = omega (arith, p .below); same = rw (place, add-sub-cancel) same }
+
+    -- each of the first entries has a letter of its own, and the letters rise
+    letters-rise : (i : ℕ) → i < letters → i ≤ getD queue (128 + i) 0
+    unfolding parentAt letterAt
+    letters-rise zero h = omega arith
+    letters-rise (suc i) h = go (letters-rise i (omega arith)) (f .order .increasing (suc i) (suc (suc i)) (omega arith) (omega arith) (omega (arith, e .few)))
+      where
+        go : i ≤ getD queue (128 + i) 0 → Sooner (getD queue (64 + i) 0) (getD queue (128 + i) 0) (getD queue (64 + suc i) 0) (getD queue (128 + suc i) 0) → suc i ≤ getD queue (128 + suc i) 0
+        go r (sooner-parent l) = omega (arith, e .first (suc i) h)
+        go r (sooner-letter q l) = omega arith
+
+    -- so there are no more of them than letters
+    pub letters-few : Table bytes n k → letters ≤ 16
+    letters-few t = go letters letters-rise (e .few)
+      where
+        go : (l : ℕ) → ((i : ℕ) → i < l → i ≤ getD queue (128 + i) 0) → l ≤ count → l ≤ 16
+        go zero rise few = omega arith
+        go (suc i) rise few = omega (arith, rise i (omega arith), letter-small i (omega arith), t .letters-small)
+
+    pub word-entry : {i h : ℕ} → Table bytes n k → letters ≤ i → i < count → h ≡ imageAt bytes n (getD queue (128 + i) 0) → WordEntry queue n letters i h
+    word-entry {i} t l b q = record {
+      parent-inside = f .inside (getD queue (64 + i) 0 - 1) (omega (arith, parent-small i b, e .later i l b));
+      inside = f .inside i b;
+      image-inside = image-below t (letter-small i b) q;
+      place = letter-place (letter-small i b) q;
+      few = letters-few t;
+    }
 
     letters-between : LettersBetween bytes n k queue letters letters → LettersAssociate (morphismAt bytes n k)
     letters-between b = record { between = λ a c x ha hc hx. go (letter-entry a ha) (letter-entry c hc) x hx }

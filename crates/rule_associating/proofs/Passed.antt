@@ -1,61 +1,128 @@
 -- How far the loops of the two tests have come: their invariants, what one turn adds, and what they give at the end. Assumes nothing.
-use Prim.Native.Nat.{ℕ, _+_, _-_, _≤_, _<_}
-use mathlib.Core.Path.{_≡_, sym, subst}
+use Prim.Native.Nat.{ℕ, _+_, _-_, _*_, _≤_, _<_}
+use mathlib.Core.Path.{_≡_, sym, ap, _∙_, subst}
 use mathlib.Core.Logic.{⊎-elim}
 use mathlib.Core.Bool.{Bool, true, false, not}
 use mathlib.Core.List.{List}
 use native.Mathlib.Omega.{arith}
 use native.Mathlib.Nat.{eq-or-lt-of-le}
 use borrow.Author.Count.{below-more}
-use lib.ListN.{getD}
+use lib.ListN.{length, getD, set, length-set}
+use lib.Seq.{getD-set-same, getD-set-other}
 use Rattle.rule_table.specs.Table.{Table}
 use Rattle.formats.specs.Table.{productAt, imageAt, morphismAt}
-use Rattle.rule_associating.specs.Tests.{LetterEntries, Along, AlongAnswer, WordAlong, WordsAlong, Between, BetweenAnswer, LettersBetween}
+use Rattle.rule_associating.specs.Tests.{LetterEntries, Column, LetterColumns, ColumnInside, Along, ColumnAlong, AlongAnswer, WordAlong, WordsAlong, Between, ColumnBetween, BetweenAnswer, LettersBetween}
 
 pub true-apart : not false ≡ false → ⊥
 true-apart e = let z : _≡_ {A = ℕ} 0 1 = cc in omega arith
 
--- (y·p)·h = y·s for every y before x
-pub record AlongBefore (bytes : List ℕ) (n k p h s x : ℕ) : Type 0 where
-  pub table : Table bytes n k
-  pub inside : (p < n) × (h < n) × (s < n)
-  pub passed : (y : ℕ) → y < x → productAt bytes n (productAt bytes n y p) h ≡ productAt bytes n y s
+-- the columns before j are filled, and column j up to x
+pub record ColumnsTo (bytes : List ℕ) (n : ℕ) (queue columns : List ℕ) (j x : ℕ) : Type 0 where
+  pub room : length columns ≡ 1024
+  pub full : (i : ℕ) → i < j → Column bytes n columns i (getD queue i 0)
+  pub part : (y : ℕ) → y < x → getD columns (64 * j + y) 0 ≡ productAt bytes n y (getD queue j 0)
 
-module _ {bytes : List ℕ} {n k p h s : ℕ} where
-  pub along-start : Table bytes n k → (p < n) × (h < n) × (s < n) → AlongBefore bytes n k p h s 0
-  along-start t i = record { table = t; inside = i; passed = λ y l. absurd (omega arith) }
+-- column j is being filled, with the element h
+pub record Filling (bytes : List ℕ) (n : ℕ) (queue columns : List ℕ) (j h x : ℕ) : Type 0 where
+  pub filled : ColumnsTo bytes n queue columns j x
+  pub element : h ≡ getD queue j 0
+  pub inside : h < n
+  pub below : j < 16
 
-  pub along-next : {x xp left right : ℕ} → AlongBefore bytes n k p h s x → xp ≡ productAt bytes n x p → left ≡ productAt bytes n xp h
-      → right ≡ productAt bytes n x s → left ≡ right → AlongBefore bytes n k p h s (x + 1)
-  along-next {x} b e l r d = record {
-    table = b .table;
-    inside = b .inside;
-    passed = below-more (λ y. productAt bytes n (productAt bytes n y p) h ≡ productAt bytes n y s) x (b .passed) (cc);
+module _ {bytes : List ℕ} {n : ℕ} {queue : List ℕ} where
+  pub columns-start : {columns : List ℕ} → length columns ≡ 1024 → ColumnsTo bytes n queue columns 0 0
+  columns-start room = record { room = room; full = λ i l. absurd (omega arith); part = λ y l. absurd (omega arith) }
+
+  -- a product more
+  pub column-more : {columns : List ℕ} {j h x v : ℕ} → n ≤ 64 → Filling bytes n queue columns j h x → x < n → v ≡ productAt bytes n x h
+      → Filling bytes n queue (set columns (64 * j + x) v) j h (x + 1)
+  column-more {columns} {j} {h} {x} {v} small f below e = record {
+    filled = record {
+      room = length-set columns (64 * j + x) v ∙ f .filled .room;
+      full = λ i l. record {
+        product = λ y g. getD-set-other columns (64 * j + x) (64 * i + y) v 0 (λ q. omega arith) ∙ f .filled .full i l .product y g;
+      };
+      part = below-more (λ y. getD (set columns (64 * j + x) v) (64 * j + y) 0 ≡ productAt bytes n y (getD queue j 0)) x
+          (λ y l. getD-set-other columns (64 * j + x) (64 * j + y) v 0 (λ q. omega arith) ∙ f .filled .part y l)
+          (getD-set-same columns (64 * j + x) v 0 (omega (arith, f .filled .room, f .below)) ∙ e ∙ ap (productAt bytes n x) (f .element));
+    };
+    element = f .element;
+    inside = f .inside;
+    below = f .below;
   }
 
-  pub along-all : {x : ℕ} → AlongBefore bytes n k p h s x → n ≤ x → Along (morphismAt bytes n k) p h s
+  -- a column more
+  pub columns-next : {columns : List ℕ} {j x : ℕ} → ColumnsTo bytes n queue columns j x → n ≤ x → ColumnsTo bytes n queue columns (j + 1) 0
+  columns-next {columns} {j} c l = record {
+    room = c .room;
+    full = below-more (λ i. Column bytes n columns i (getD queue i 0)) j (c .full) (record { product = λ y h. c .part y (omega arith) });
+    part = λ y h. absurd (omega arith);
+  }
+
+  pub columns-all : {columns : List ℕ} {j x letters : ℕ} → ColumnsTo bytes n queue columns j x → letters ≤ j → LetterColumns bytes n queue letters columns
+  columns-all c l = record { column = λ i h. c .full i (omega arith) }
+
+-- (y·p)·h = y·s for every y before x, with h the element of column j
+pub record AlongBefore (bytes : List ℕ) (n k : ℕ) (columns : List ℕ) (j p s x : ℕ) : Type 0 where
+  pub table : Table bytes n k
+  pub column : ColumnInside columns n j
+  pub inside : (p < n) × (s < n)
+  pub passed : (y : ℕ) → y < x → getD columns (64 * j + productAt bytes n y p) 0 ≡ productAt bytes n y s
+
+module _ {bytes : List ℕ} {n k : ℕ} {columns : List ℕ} {j p s : ℕ} where
+  pub along-start : Table bytes n k → ColumnInside columns n j → (p < n) × (s < n) → AlongBefore bytes n k columns j p s 0
+  along-start t c i = record { table = t; column = c; inside = i; passed = λ y l. absurd (omega arith) }
+
+  pub along-next : {x xp right : ℕ} → AlongBefore bytes n k columns j p s x → xp ≡ productAt bytes n x p → right ≡ productAt bytes n x s
+      → getD columns (64 * j + xp) 0 ≡ right → AlongBefore bytes n k columns j p s (x + 1)
+  along-next {x} b e r d = record {
+    table = b .table;
+    column = b .column;
+    inside = b .inside;
+    passed = below-more (λ y. getD columns (64 * j + productAt bytes n y p) 0 ≡ productAt bytes n y s) x (b .passed) (cc);
+  }
+
+  pub along-all : {x : ℕ} → AlongBefore bytes n k columns j p s x → n ≤ x → ColumnAlong (morphismAt bytes n k) columns j p s
   along-all b l = record { along = λ y g. b .passed y (omega arith) }
 
--- (g·y)·h = g·(y·h) for every y before x
-pub record BetweenBefore (bytes : List ℕ) (n k g h x : ℕ) : Type 0 where
+  -- the column is that of h
+  pub column-along : {h : ℕ} → Table bytes n k → Column bytes n columns j h → p < n → (r : Bool) → AlongAnswer (morphismAt bytes n k) columns j p s r → not r ≡ false
+      → Along (morphismAt bytes n k) p h s
+  column-along t c l true a e = record { along = λ x g. sym (c .product (productAt bytes n x p) (t .products x p g l)) ∙ a .along x g }
+  column-along t c l false a e = absurd (true-apart e)
+
+-- (g·y)·h = g·(y·h) for every y before x, with h the element of column j
+pub record BetweenBefore (bytes : List ℕ) (n k : ℕ) (columns : List ℕ) (j g x : ℕ) : Type 0 where
   pub table : Table bytes n k
-  pub inside : (g < n) × (h < n)
-  pub passed : (y : ℕ) → y < x → productAt bytes n (productAt bytes n g y) h ≡ productAt bytes n g (productAt bytes n y h)
+  pub column : ColumnInside columns n j
+  pub inside : g < n
+  pub passed : (y : ℕ) → y < x → getD columns (64 * j + productAt bytes n g y) 0 ≡ productAt bytes n g (getD columns (64 * j + y) 0)
 
-module _ {bytes : List ℕ} {n k g h : ℕ} where
-  pub between-start : Table bytes n k → (g < n) × (h < n) → BetweenBefore bytes n k g h 0
-  between-start t i = record { table = t; inside = i; passed = λ y l. absurd (omega arith) }
+module _ {bytes : List ℕ} {n k : ℕ} {columns : List ℕ} {j g : ℕ} where
+  pub between-start : Table bytes n k → ColumnInside columns n j → g < n → BetweenBefore bytes n k columns j g 0
+  between-start t c i = record { table = t; column = c; inside = i; passed = λ y l. absurd (omega arith) }
 
-  pub between-next : {x gx xh left right : ℕ} → BetweenBefore bytes n k g h x → gx ≡ productAt bytes n g x → xh ≡ productAt bytes n x h
-      → left ≡ productAt bytes n gx h → right ≡ productAt bytes n g xh → left ≡ right → BetweenBefore bytes n k g h (x + 1)
-  between-next {x} b e f l r d = record {
+  pub between-next : {x gx right : ℕ} → BetweenBefore bytes n k columns j g x → gx ≡ productAt bytes n g x
+      → right ≡ productAt bytes n g (getD columns (64 * j + x) 0) → getD columns (64 * j + gx) 0 ≡ right → BetweenBefore bytes n k columns j g (x + 1)
+  between-next {x} b e r d = record {
     table = b .table;
+    column = b .column;
     inside = b .inside;
-    passed = below-more (λ y. productAt bytes n (productAt bytes n g y) h ≡ productAt bytes n g (productAt bytes n y h)) x (b .passed) (cc);
+    passed = below-more (λ y. getD columns (64 * j + productAt bytes n g y) 0 ≡ productAt bytes n g (getD columns (64 * j + y) 0)) x (b .passed) (cc);
   }
 
-  pub between-all : {x : ℕ} → BetweenBefore bytes n k g h x → n ≤ x → Between (morphismAt bytes n k) g h
+  pub between-all : {x : ℕ} → BetweenBefore bytes n k columns j g x → n ≤ x → ColumnBetween (morphismAt bytes n k) columns j g
   between-all b l = record { between = λ y g. b .passed y (omega arith) }
+
+  -- the column is that of h
+  column-between : {h : ℕ} → Table bytes n k → Column bytes n columns j h → g < n → ColumnBetween (morphismAt bytes n k) columns j g → Between (morphismAt bytes n k) g h
+  column-between t c l b = record {
+    between = λ x i. sym (c .product (productAt bytes n g x) (t .products g x l i)) ∙ b .between x i ∙ ap (productAt bytes n g) (c .product x i);
+  }
+
+-- a letter's column has elements only
+pub column-inside : {bytes : List ℕ} {n k : ℕ} {columns : List ℕ} {j h : ℕ} → Table bytes n k → Column bytes n columns j h → h < n → j < 16 → ColumnInside columns n j
+column-inside {h = h} t c l below = record { below = below; inside = λ x i. rw (c .product x i) (t .products x h i l) }
 
 -- the first entries were found from the empty word's
 pub record LettersTo (queue : List ℕ) (i : ℕ) : Type 0 where
@@ -81,14 +148,13 @@ module _ {bytes : List ℕ} {n k : ℕ} {queue : List ℕ} where
   pub words-start : (from : ℕ) → WordsAlong bytes n k queue from from
   words-start from = record { word = λ i l h. absurd (omega arith) }
 
-  pub words-next : {from i h : ℕ} → WordsAlong bytes n k queue from i → h ≡ imageAt bytes n (getD queue (128 + i) 0) → (r : Bool)
-      → AlongAnswer (morphismAt bytes n k) (getD queue (getD queue (64 + i) 0 - 1) 0) h (getD queue i 0) r → not r ≡ false → WordsAlong bytes n k queue from (i + 1)
-  words-next {from} {i} w e true a q = record {
+  pub words-next : {from i h : ℕ} → WordsAlong bytes n k queue from i → h ≡ imageAt bytes n (getD queue (128 + i) 0)
+      → Along (morphismAt bytes n k) (getD queue (getD queue (64 + i) 0 - 1) 0) h (getD queue i 0) → WordsAlong bytes n k queue from (i + 1)
+  words-next {from} {i} w e a = record {
     word = λ j l h. ⊎-elim
         (λ (p : j ≡ i). subst (WordAlong bytes n k queue) (sym p) (subst (λ (x : ℕ). Along (morphismAt bytes n k) (getD queue (getD queue (64 + i) 0 - 1) 0) x (getD queue i 0)) e a))
         (λ (b : j < i). w .word j l b) (eq-or-lt-of-le (let b : j ≤ i = omega arith in b));
   }
-  words-next w e false a q = absurd (true-apart q)
 
   pub words-all : {from i count : ℕ} → WordsAlong bytes n k queue from i → count ≤ i → WordsAlong bytes n k queue from count
   words-all w l = record { word = λ j g h. w .word j g (omega arith) }
@@ -97,10 +163,12 @@ module _ {bytes : List ℕ} {n k : ℕ} {queue : List ℕ} where
   row-start = record { behind = λ j l. absurd (omega arith) }
 
   -- one letter behind more
-  pub row-next : {i j : ℕ} → RowBetween bytes n k queue i j → (r : Bool) → BetweenAnswer (morphismAt bytes n k) (getD queue i 0) (getD queue j 0) r → not r ≡ false
-      → RowBetween bytes n k queue i (j + 1)
-  row-next {i} {j} b true a e = record { behind = below-more (λ q. Between (morphismAt bytes n k) (getD queue i 0) (getD queue q 0)) j (b .behind) a }
-  row-next b false a e = absurd (true-apart e)
+  pub row-next : {columns : List ℕ} {i j : ℕ} → Table bytes n k → Column bytes n columns j (getD queue j 0) → getD queue i 0 < n → RowBetween bytes n k queue i j
+      → (r : Bool) → BetweenAnswer (morphismAt bytes n k) columns j (getD queue i 0) r → not r ≡ false → RowBetween bytes n k queue i (j + 1)
+  row-next {columns} {i} {j} t c l b true a e = record {
+    behind = below-more (λ q. Between (morphismAt bytes n k) (getD queue i 0) (getD queue q 0)) j (b .behind) (column-between t c l a);
+  }
+  row-next t c l b false a e = absurd (true-apart e)
 
   module _ {letters : ℕ} where
     pub letters-start : LettersBetween bytes n k queue 0 letters

@@ -1,12 +1,12 @@
 -- What the tests with letters answer. Assumes nothing.
-use Prim.Native.Nat.{ℕ, suc, _+_, _-_, _≤_, _<_}
+use Prim.Native.Nat.{ℕ, suc, _+_, _-_, _*_, _≤_, _<_}
 use mathlib.Core.Path.{_≡_}
 use mathlib.Core.Bool.{Bool, true, false}
 use mathlib.Core.List.{List}
 use lib.ListN.{length, getD}
 use Rattle.finite.proofs.FirstWords.{FirstOrder}
 use Rattle.theory.specs.Rules.{Morphism, none}
-use Rattle.formats.specs.Table.{morphismAt, imageAt}
+use Rattle.formats.specs.Table.{morphismAt, productAt, imageAt}
 use Rattle.formats.proofs.Tables.{AllAssociate}
 use Rattle.rule_reach.specs.Reach.{entryAt, parentAt, letterAt, placeAt, wordStep, Places}
 
@@ -25,13 +25,30 @@ pub record LetterEntries (queue : List ℕ) (count letters : ℕ) : Type 0 where
   pub first : (i : ℕ) → i < letters → getD queue (64 + i) 0 ≡ 0
   pub later : (i : ℕ) → letters ≤ i → i < count → 0 < getD queue (64 + i) 0
 
+-- the products x·h of every x with an element h, 64 bytes for each column
+pub record Column (bytes : List ℕ) (n : ℕ) (columns : List ℕ) (j h : ℕ) : Type 0 where
+  pub product : (x : ℕ) → x < n → getD columns (64 * j + x) 0 ≡ productAt bytes n x h
+
+-- a column for each letter's element
+pub record LetterColumns (bytes : List ℕ) (n : ℕ) (queue : List ℕ) (letters : ℕ) (columns : List ℕ) : Type 0 where
+  pub column : (j : ℕ) → j < letters → Column bytes n columns j (getD queue j 0)
+
+-- one of the sixteen columns, with elements only
+pub record ColumnInside (columns : List ℕ) (n j : ℕ) : Type 0 where
+  pub below : j < 16
+  pub inside : (x : ℕ) → x < n → getD columns (64 * j + x) 0 < n
+
 -- (x·p)·h = x·s for every x
 pub record Along (m : Morphism) (p h s : ℕ) : Type 0 where
   pub along : (x : ℕ) → x < m .size → m .product (m .product x p) h ≡ m .product x s
 
-abbrev pub AlongAnswer : Morphism → ℕ → ℕ → ℕ → Bool → Type 0
-AlongAnswer m p h s true = Along m p h s
-AlongAnswer m p h s false = Unit {0}
+-- so with the products with h as they stand in a column
+pub record ColumnAlong (m : Morphism) (columns : List ℕ) (j p s : ℕ) : Type 0 where
+  pub along : (x : ℕ) → x < m .size → getD columns (64 * j + m .product x p) 0 ≡ m .product x s
+
+abbrev pub AlongAnswer : Morphism → List ℕ → ℕ → ℕ → ℕ → Bool → Type 0
+AlongAnswer m columns j p s true = ColumnAlong m columns j p s
+AlongAnswer m columns j p s false = Unit {0}
 
 -- so for the element of an entry, with the element that it was found from and its letter's
 abbrev pub WordAlong : List ℕ → ℕ → ℕ → List ℕ → ℕ → Type 0
@@ -50,9 +67,13 @@ WordsAnswer bytes n k queue from to false = Unit {0}
 pub record Between (m : Morphism) (g h : ℕ) : Type 0 where
   pub between : (x : ℕ) → x < m .size → m .product (m .product g x) h ≡ m .product g (m .product x h)
 
-abbrev pub BetweenAnswer : Morphism → ℕ → ℕ → Bool → Type 0
-BetweenAnswer m g h true = Between m g h
-BetweenAnswer m g h false = Unit {0}
+-- so with the products with h as they stand in a column
+pub record ColumnBetween (m : Morphism) (columns : List ℕ) (j g : ℕ) : Type 0 where
+  pub between : (x : ℕ) → x < m .size → getD columns (64 * j + m .product g x) 0 ≡ m .product g (getD columns (64 * j + x) 0)
+
+abbrev pub BetweenAnswer : Morphism → List ℕ → ℕ → ℕ → Bool → Type 0
+BetweenAnswer m columns j g true = ColumnBetween m columns j g
+BetweenAnswer m columns j g false = Unit {0}
 
 -- so for the elements of two entries, the first below one number and the second below another
 pub record LettersBetween (bytes : List ℕ) (n k : ℕ) (queue : List ℕ) (rows letters : ℕ) : Type 0 where

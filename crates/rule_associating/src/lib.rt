@@ -5,7 +5,7 @@ use rule_table::product;
 ghost use Prim.Native.Nat.{_<_};
 ghost use Rattle.rule_table.specs.Table.{Table};
 ghost use Rattle.formats.specs.Table.{morphismAt};
-ghost use Rattle.rule_associating.specs.Tests.{AllFound, LetterEntries, AlongAnswer, WordsAnswer, BetweenAnswer, LettersAnswer, AssociatesAnswer};
+ghost use Rattle.rule_associating.specs.Tests.{AllFound, LetterEntries, LetterColumns, ColumnInside, AlongAnswer, WordsAnswer, BetweenAnswer, LettersAnswer, AssociatesAnswer};
 
 // How many entries are letters' elements: those that were found from entry 0, which stand first, each once.
 fn letter_entries(rule: &[u8], n: usize, k: usize, queue: &[u8], count: usize) -> usize
@@ -21,15 +21,50 @@ fn letter_entries(rule: &[u8], n: usize, k: usize, queue: &[u8], count: usize) -
     count
 }
 
-// Whether (x·p)·h is x·s for every x.
-fn along(rule: &[u8], n: usize, k: usize, p: usize, h: usize, s: usize) -> bool
+// The products x·h of every x with each letter's element h, in 64 bytes for each h. The tests look them up there, so that their loops
+// multiply no numbers.
+fn letter_columns(
+    rule: &[u8],
+    n: usize,
+    k: usize,
+    queue: &[u8],
+    count: usize,
+    letters: usize,
+) -> [u8; 1024]
     requires { ⌜ Table (now rule) n k ⌝ }
-    requires { ⌜ (p < n) × (h < n) × (s < n) ⌝ }
-    ensures { λ r. ⌜ AlongAnswer (morphismAt (now (rule .entry)) n k) p h s r ⌝ }
+    requires { ⌜ AllFound (now rule) n k (now queue) count ⌝ }
+    requires { ⌜ LetterEntries (now queue) count letters ⌝ }
+    ensures { λ r. ⌜ LetterColumns (now (rule .entry)) n (now (queue .entry)) letters r ⌝ }
+{
+    let mut columns = [0u8; 1024];
+    for j in 0..letters {
+        let h = queue[j] as usize;
+        for x in 0..n {
+            let xh = product(rule, n, x, h);
+            columns[64 * j + x] = xh as u8;
+        }
+    }
+    columns
+}
+
+// Whether (x·p)·h is x·s for every x, with h the element of a column.
+fn along(
+    rule: &[u8],
+    n: usize,
+    k: usize,
+    columns: &[u8; 1024],
+    j: usize,
+    p: usize,
+    s: usize,
+) -> bool
+    requires { ⌜ Table (now rule) n k ⌝ }
+    requires { ⌜ ColumnInside (now columns) n j ⌝ }
+    requires { ⌜ (p < n) × (s < n) ⌝ }
+    ensures { λ r. ⌜ AlongAnswer (morphismAt (now (rule .entry)) n k) (now (columns .entry)) j p s r ⌝ }
 {
     for x in 0..n {
         let xp = product(rule, n, x, p);
-        let left = product(rule, n, xp, h);
+        let left = columns[64 * j + xp] as usize;
         let right = product(rule, n, x, s);
         if left != right {
             return false;
@@ -47,10 +82,12 @@ fn words_associate(
     queue: &[u8],
     count: usize,
     letters: usize,
+    columns: &[u8; 1024],
 ) -> bool
     requires { ⌜ Table (now rule) n k ⌝ }
     requires { ⌜ AllFound (now rule) n k (now queue) count ⌝ }
     requires { ⌜ LetterEntries (now queue) count letters ⌝ }
+    requires { ⌜ LetterColumns (now rule) n (now queue) letters (now columns) ⌝ }
     ensures { λ r. ⌜ WordsAnswer (now (rule .entry)) n k (now (queue .entry)) letters count r ⌝ }
 {
     for i in letters..count {
@@ -59,23 +96,25 @@ fn words_associate(
         let s = queue[i] as usize;
         let letter = queue[128 + i] as usize;
         let h = image(rule, n, letter);
-        if !along(rule, n, k, p, h, s) {
+        let place = queue[192 + h] as usize;
+        if !along(rule, n, k, columns, place - 1, p, s) {
             return false;
         }
     }
     true
 }
 
-// Whether (g·x)·h is g·(x·h) for every x.
-fn between(rule: &[u8], n: usize, k: usize, g: usize, h: usize) -> bool
+// Whether (g·x)·h is g·(x·h) for every x, with h the element of a column.
+fn between(rule: &[u8], n: usize, k: usize, columns: &[u8; 1024], j: usize, g: usize) -> bool
     requires { ⌜ Table (now rule) n k ⌝ }
-    requires { ⌜ (g < n) × (h < n) ⌝ }
-    ensures { λ r. ⌜ BetweenAnswer (morphismAt (now (rule .entry)) n k) g h r ⌝ }
+    requires { ⌜ ColumnInside (now columns) n j ⌝ }
+    requires { ⌜ g < n ⌝ }
+    ensures { λ r. ⌜ BetweenAnswer (morphismAt (now (rule .entry)) n k) (now (columns .entry)) j g r ⌝ }
 {
     for x in 0..n {
         let gx = product(rule, n, g, x);
-        let xh = product(rule, n, x, h);
-        let left = product(rule, n, gx, h);
+        let xh = columns[64 * j + x] as usize;
+        let left = columns[64 * j + gx] as usize;
         let right = product(rule, n, g, xh);
         if left != right {
             return false;
@@ -92,17 +131,18 @@ fn letters_associate(
     queue: &[u8],
     count: usize,
     letters: usize,
+    columns: &[u8; 1024],
 ) -> bool
     requires { ⌜ Table (now rule) n k ⌝ }
     requires { ⌜ AllFound (now rule) n k (now queue) count ⌝ }
     requires { ⌜ LetterEntries (now queue) count letters ⌝ }
+    requires { ⌜ LetterColumns (now rule) n (now queue) letters (now columns) ⌝ }
     ensures { λ r. ⌜ LettersAnswer (now (rule .entry)) n k (now (queue .entry)) letters r ⌝ }
 {
     for i in 0..letters {
         let g = queue[i] as usize;
         for j in 0..letters {
-            let h = queue[j] as usize;
-            if !between(rule, n, k, g, h) {
+            if !between(rule, n, k, columns, j, g) {
                 return false;
             }
         }
@@ -110,8 +150,9 @@ fn letters_associate(
     true
 }
 
-// Both tests: true only where every triple associates. The first looks up three products for each element and entry behind the letters',
-// the second four for each element and two letters; where that is no less than the three for each triple, the triples are left to decide.
+// Both tests: true only where every triple associates. Beside the columns, the first looks up three products for each element and entry
+// behind the letters', the second four for each element and two letters; where that is no less than the three for each triple, the triples
+// are left to decide.
 pub fn associates(rule: &[u8], n: usize, k: usize, queue: &[u8], count: usize) -> bool
     requires { ⌜ Table (now rule) n k ⌝ }
     requires { ⌜ AllFound (now rule) n k (now queue) count ⌝ }
@@ -121,8 +162,9 @@ pub fn associates(rule: &[u8], n: usize, k: usize, queue: &[u8], count: usize) -
     if 3 * (n * n) <= 3 * (n - letters) + 4 * (letters * letters) {
         return false;
     }
-    if !words_associate(rule, n, k, queue, count, letters) {
+    let columns = letter_columns(rule, n, k, queue, count, letters);
+    if !words_associate(rule, n, k, queue, count, letters, &columns) {
         return false;
     }
-    letters_associate(rule, n, k, queue, count, letters)
+    letters_associate(rule, n, k, queue, count, letters, &columns)
 }

@@ -1,5 +1,5 @@
 -- The loop holds that (y·p)·h is y·s for every y that was passed. The measure is the number of elements left. Assumes nothing.
-use Prim.Native.Nat.{_-_}
+use Prim.Native.Nat.{_<_, _-_}
 use native.Mathlib.Omega.{arith}
 use Rattle.rule_table.proofs.Facts.{table-place, product-below}
 use Rattle.rule_associating.proofs.Passed.{AlongBefore, along-start, along-next, along-all}
@@ -7,24 +7,41 @@ use Rattle.rule_associating.proofs.along.Statement.{statement}
 use Rattle.rule_associating.proofs.along.Tie as tie
 
 abbrev Inv-loop : tie.InvT-loop
-Inv-loop rule n k p h s x₀ x = AlongBefore rule n k p h s x
+Inv-loop rule n k columns j p s x₀ x = AlongBefore rule n k columns j p s x
 
 abbrev μ-loop : tie.MeasureT-loop
-μ-loop rule n k p h s x₀ x = n - x
+μ-loop rule n k columns j p s x₀ x = n - x
 
 loop-holds : tie.Need-loop-holds Inv-loop μ-loop
-loop-holds c = along-start (c .before .pre .0) (c .before .pre .1)
+loop-holds c = along-start (c .before .pre .0) (c .before .pre .1 .0) (c .before .pre .1 .1)
 
 product-requires : tie.Need-product-requires Inv-loop μ-loop
 product-requires c κs = table-place (c .before .loop .inv .table) (omega arith) (omega arith)
 
-product-requires-2 : tie.Need-product-requires-2 Inv-loop μ-loop
-product-requires-2 c κs =
-    let t = c .before .before .loop .inv .table in
-    table-place t (product-below t (omega arith) (omega arith) (c .product .ensures)) (omega arith)
+-- a product is an element
+product-inside : (c : tie.After-product Inv-loop μ-loop) → c .product .result < c .before .before .before .before .args .n
+product-inside c = product-below (c .before .before .loop .inv .table) (omega arith) (omega arith) (c .product .ensures)
 
-product-requires-3 : tie.Need-product-requires-3 Inv-loop μ-loop
-product-requires-3 c κs = table-place (c .before .before .before .loop .inv .table) (omega arith) (omega arith)
+mul-left : tie.Need-mul-left Inv-loop μ-loop
+mul-left c = omega (arith, c .before .before .loop .inv .column .below)
+
+add-left : tie.Need-add-left Inv-loop μ-loop
+add-left c =
+    let inv = c .before .before .loop .inv in
+    omega (arith, product-inside c, inv .column .below, inv .table .small)
+
+element-copy-out-left : tie.Need-element-copy-out-left Inv-loop μ-loop
+element-copy-out-left c =
+    let inv = c .before .before .loop .inv in
+    omega (arith, product-inside c, inv .column .below, inv .table .small)
+
+cast-left : tie.Need-cast-left Inv-loop μ-loop
+cast-left c =
+    let inv = c .before .before .before .loop .inv in
+    omega (arith, inv .column .inside (c .before .product .result) (product-inside (c .before)), inv .table .small)
+
+product-requires-2 : tie.Need-product-requires-2 Inv-loop μ-loop
+product-requires-2 c κs = table-place (c .before .before .before .loop .inv .table) (omega arith) (omega arith)
 
 returns : tie.Need-returns Inv-loop μ-loop
 returns c = tt
@@ -37,7 +54,7 @@ loop-less c = omega arith
 
 loop-again : tie.Need-loop-again Inv-loop μ-loop
 loop-again c =
-    along-next (c .before .before .before .before .before .loop .inv) (c .before .before .before .product .ensures) (c .before .before .product2 .ensures) (c .before .product3 .ensures) (c .if1 .left)
+    along-next (c .before .before .before .before .before .loop .inv) (c .before .before .before .product .ensures) (c .before .product2 .ensures) (c .if1 .left)
 
 returns-2 : tie.Need-returns-2 Inv-loop μ-loop
 returns-2 c = along-all (c .before .loop .inv) (c .loop-test .left)
@@ -50,8 +67,11 @@ along-spec =
     μ-loop
     loop-holds
     product-requires
+    mul-left
+    add-left
+    element-copy-out-left
+    cast-left
     product-requires-2
-    product-requires-3
     returns
     add-x
     loop-less

@@ -44,6 +44,9 @@ add-if1 c = omega (arith, letters-square c, c .before .before .before .pre .0 .s
 returns : tie.Need-returns
 returns c = tt
 
+letter-columns-requires : tie.Need-letter-columns-requires
+letter-columns-requires c κs = search needs
+
 words-associate-requires : tie.Need-words-associate-requires
 words-associate-requires c κs = search needs
 
@@ -55,10 +58,10 @@ letters-associate-requires c κs = search needs
 
 returns-3 : tie.Need-returns-3
 returns-3 c =
-    let words = c .before .before in
-    let letters = words .before .before in
+    let words = c .before .before .before in
+    let letters = words .before .before .before .before in
     let start = letters .before .before .before in
-    both-associate (start .pre .1) (letters .letter-entries .ensures) (start .pre .0) (words .words-associate .result) (words .words-associate .ensures) (c .before .if2 .left)
+    both-associate (start .pre .1) (letters .letter-entries .ensures) (start .pre .0) (words .words-associate .result) (words .words-associate .ensures) (c .before .before .if2 .left)
     (c .letters-associate .result) (c .letters-associate .ensures)
 
 pub associates-spec : {M : Type 1} → statement M
@@ -74,6 +77,7 @@ associates-spec =
     mul-if1-5
     add-if1
     returns
+    letter-columns-requires
     words-associate-requires
     returns-2
     letters-associate-requires

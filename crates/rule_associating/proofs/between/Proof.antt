@@ -1,5 +1,5 @@
 -- The loop holds that (g·y)·h is g·(y·h) for every y that was passed. The measure is the number of elements left. Assumes nothing.
-use Prim.Native.Nat.{_-_}
+use Prim.Native.Nat.{_<_, _-_}
 use native.Mathlib.Omega.{arith}
 use Rattle.rule_table.proofs.Facts.{table-place, product-below}
 use Rattle.rule_associating.proofs.Passed.{BetweenBefore, between-start, between-next, between-all}
@@ -7,29 +7,57 @@ use Rattle.rule_associating.proofs.between.Statement.{statement}
 use Rattle.rule_associating.proofs.between.Tie as tie
 
 abbrev Inv-loop : tie.InvT-loop
-Inv-loop rule n k g h x₀ x = BetweenBefore rule n k g h x
+Inv-loop rule n k columns j g x₀ x = BetweenBefore rule n k columns j g x
 
 abbrev μ-loop : tie.MeasureT-loop
-μ-loop rule n k g h x₀ x = n - x
+μ-loop rule n k columns j g x₀ x = n - x
 
 loop-holds : tie.Need-loop-holds Inv-loop μ-loop
-loop-holds c = between-start (c .before .pre .0) (c .before .pre .1)
+loop-holds c = between-start (c .before .pre .0) (c .before .pre .1 .0) (c .before .pre .1 .1)
 
 product-requires : tie.Need-product-requires Inv-loop μ-loop
 product-requires c κs = table-place (c .before .loop .inv .table) (omega arith) (omega arith)
 
+-- a product is an element
+product-inside : (c : tie.After-product Inv-loop μ-loop) → c .product .result < c .before .before .before .before .args .n
+product-inside c = product-below (c .before .before .loop .inv .table) (omega arith) (omega arith) (c .product .ensures)
+
+mul-xh : tie.Need-mul-xh Inv-loop μ-loop
+mul-xh c = omega (arith, c .before .before .loop .inv .column .below)
+
+add-xh : tie.Need-add-xh Inv-loop μ-loop
+add-xh c = omega (arith, c .before .before .loop .inv .column .below, c .before .before .loop .inv .table .small)
+
+element-copy-out-xh : tie.Need-element-copy-out-xh Inv-loop μ-loop
+element-copy-out-xh c = omega (arith, c .before .before .loop .inv .column .below, c .before .before .loop .inv .table .small)
+
+cast-xh : tie.Need-cast-xh Inv-loop μ-loop
+cast-xh c =
+    let here = c .before .before .before .loop in
+    omega (arith, here .inv .column .inside (here .x) (c .before .before .loop-test .taken), here .inv .table .small)
+
+mul-left : tie.Need-mul-left Inv-loop μ-loop
+mul-left c = omega (arith, c .before .before .before .loop .inv .column .below)
+
+add-left : tie.Need-add-left Inv-loop μ-loop
+add-left c =
+    let inv = c .before .before .before .loop .inv in
+    omega (arith, product-inside (c .before), inv .column .below, inv .table .small)
+
+element-copy-out-left : tie.Need-element-copy-out-left Inv-loop μ-loop
+element-copy-out-left c =
+    let inv = c .before .before .before .loop .inv in
+    omega (arith, product-inside (c .before), inv .column .below, inv .table .small)
+
+cast-left : tie.Need-cast-left Inv-loop μ-loop
+cast-left c =
+    let inv = c .before .before .before .before .loop .inv in
+    omega (arith, inv .column .inside (c .before .before .product .result) (product-inside (c .before .before)), inv .table .small)
+
 product-requires-2 : tie.Need-product-requires-2 Inv-loop μ-loop
-product-requires-2 c κs = table-place (c .before .before .loop .inv .table) (omega arith) (omega arith)
-
-product-requires-3 : tie.Need-product-requires-3 Inv-loop μ-loop
-product-requires-3 c κs =
-    let t = c .before .before .before .loop .inv .table in
-    table-place t (product-below t (omega arith) (omega arith) (c .before .product .ensures)) (omega arith)
-
-product-requires-4 : tie.Need-product-requires-4 Inv-loop μ-loop
-product-requires-4 c κs =
-    let t = c .before .before .before .before .loop .inv .table in
-    table-place t (omega arith) (product-below t (omega arith) (omega arith) (c .before .product2 .ensures))
+product-requires-2 c κs =
+    let here = c .before .before .before .before .loop in
+    table-place (here .inv .table) (here .inv .inside) (here .inv .column .inside (here .x) (c .before .before .before .loop-test .taken))
 
 returns : tie.Need-returns Inv-loop μ-loop
 returns c = tt
@@ -42,8 +70,7 @@ loop-less c = omega arith
 
 loop-again : tie.Need-loop-again Inv-loop μ-loop
 loop-again c =
-    between-next (c .before .before .before .before .before .before .loop .inv) (c .before .before .before .before .product .ensures) (c .before .before .before .product2 .ensures)
-    (c .before .before .product3 .ensures) (c .before .product4 .ensures) (c .if1 .left)
+    between-next (c .before .before .before .before .before .before .loop .inv) (c .before .before .before .before .product .ensures) (c .before .product2 .ensures) (c .if1 .left)
 
 returns-2 : tie.Need-returns-2 Inv-loop μ-loop
 returns-2 c = between-all (c .before .loop .inv) (c .loop-test .left)
@@ -56,9 +83,15 @@ between-spec =
     μ-loop
     loop-holds
     product-requires
+    mul-xh
+    add-xh
+    element-copy-out-xh
+    cast-xh
+    mul-left
+    add-left
+    element-copy-out-left
+    cast-left
     product-requires-2
-    product-requires-3
-    product-requires-4
     returns
     add-x
     loop-less

@@ -6,21 +6,22 @@ use lib.ListN.{getD}
 use native.Mathlib.Omega.{arith}
 use mir.Facts.{fits-8-64}
 use Rattle.rule_associating.specs.Tests.{LettersBetween}
-use Rattle.rule_associating.proofs.Passed.{RowBetween, row-start, row-next, letters-start, letters-next, letters-all}
+use Rattle.rule_associating.proofs.Entries.{letters-few}
+use Rattle.rule_associating.proofs.Passed.{RowBetween, column-inside, row-start, row-next, letters-start, letters-next, letters-all}
 use Rattle.rule_associating.proofs.letters_associate.Statement.{statement}
 use Rattle.rule_associating.proofs.letters_associate.Tie as tie
 
 abbrev Inv-loop2 : tie.InvT-loop2
-Inv-loop2 rule n k queue count letters i g j₀ j = RowBetween rule n k queue i j × LettersBetween rule n k queue i letters × (g ≡ getD queue i 0) × (i < letters)
+Inv-loop2 rule n k queue count letters columns i g j₀ j = RowBetween rule n k queue i j × LettersBetween rule n k queue i letters × (g ≡ getD queue i 0) × (i < letters)
 
 abbrev μ-loop2 : tie.MeasureT-loop2
-μ-loop2 rule n k queue count letters i g j₀ j = letters - j
+μ-loop2 rule n k queue count letters columns i g j₀ j = letters - j
 
 abbrev Inv-loop : tie.InvT-loop
-Inv-loop rule n k queue count letters i₀ i = LettersBetween rule n k queue i letters
+Inv-loop rule n k queue count letters columns i₀ i = LettersBetween rule n k queue i letters
 
 abbrev μ-loop : tie.MeasureT-loop
-μ-loop rule n k queue count letters i₀ i = letters - i
+μ-loop rule n k queue count letters columns i₀ i = letters - i
 
 loop-holds : tie.Need-loop-holds Inv-loop2 μ-loop2 Inv-loop μ-loop
 loop-holds c = letters-start
@@ -28,7 +29,7 @@ loop-holds c = letters-start
 shared-slice-read-g : tie.Need-shared-slice-read-g Inv-loop2 μ-loop2 Inv-loop μ-loop
 shared-slice-read-g c =
     let start = c .before .before .before .before .before in
-    omega (arith, start .pre .1 .0 .room, start .pre .1 .0 .few, start .pre .0 .small, start .pre .1 .1 .few)
+    omega (arith, start .pre .1 .0 .room, start .pre .1 .0 .few, start .pre .0 .small, start .pre .1 .1 .0 .few)
 
 cast-g : tie.Need-cast-g Inv-loop2 μ-loop2 Inv-loop μ-loop
 cast-g c = fits-8-64 (c .shared-slice-known3 .given _)
@@ -36,20 +37,20 @@ cast-g c = fits-8-64 (c .shared-slice-known3 .given _)
 loop2-holds : tie.Need-loop2-holds Inv-loop2 μ-loop2 Inv-loop μ-loop
 loop2-holds c = (row-start, c .before .before .loop .inv, refl, c .before .loop-test .taken)
 
-shared-slice-read-h : tie.Need-shared-slice-read-h Inv-loop2 μ-loop2 Inv-loop μ-loop
-shared-slice-read-h c =
-    let start = c .before .before .before .before .before .before .before .before in
-    omega (arith, start .pre .1 .0 .room, start .pre .1 .0 .few, start .pre .0 .small, start .pre .1 .1 .few)
-
-cast-h : tie.Need-cast-h Inv-loop2 μ-loop2 Inv-loop μ-loop
-cast-h c = fits-8-64 (c .shared-slice-known4 .given _)
+-- the elements of the two entries
+elements-inside : (c : tie.In-loop2 Inv-loop2 μ-loop2 Inv-loop μ-loop)
+    → let args = c .before .before .before .before .before .before .before .args in (getD (args .queue .now) (c .before .before .before .before .loop .i) 0 < args .n) × (getD (args .queue .now) (c .before .loop2 .j) 0 < args .n)
+elements-inside c =
+    let found = c .before .before .before .before .before .before .before .pre .1 .0 in
+    let few = c .before .before .before .before .before .before .before .pre .1 .1 .0 .few in
+    (found .inside (c .before .before .before .before .loop .i) (omega (arith, few)), found .inside (c .before .loop2 .j) (omega (arith, few)))
 
 between-requires : tie.Need-between-requires Inv-loop2 μ-loop2 Inv-loop μ-loop
 between-requires c κs =
-    let start = c .before .before .before .before .before .before .before .before in
-    let found = start .pre .1 .0 in
-    let few = start .pre .1 .1 .few in
-    (start .pre .0, (found .inside (c .before .before .before .before .before .loop .i) (omega (arith, few)), found .inside (c .before .before .loop2 .j) (omega (arith, few))))
+    let pre = c .before .before .before .before .before .before .before .pre in
+    let column = pre .1 .1 .1 .column (c .before .loop2 .j) (c .loop2-test .taken) in
+    let few = letters-few (pre .1 .0) (pre .1 .1 .0) (pre .0) in
+    (pre .0, (column-inside (pre .0) column (elements-inside c .1) (omega (arith, few)), elements-inside c .0))
 
 returns : tie.Need-returns Inv-loop2 μ-loop2 Inv-loop μ-loop
 returns c = tt
@@ -62,8 +63,11 @@ loop2-less c = omega arith
 
 loop2-again : tie.Need-loop2-again Inv-loop2 μ-loop2 Inv-loop μ-loop
 loop2-again c =
-    let row = c .before .before .before .before .loop2 .inv in
-    (row-next (row .0) (c .before .between .result) (c .before .between .ensures) (c .if1 .left), row .1, row .2, row .3)
+    let here = c .before .before in
+    let pre = c .before .before .before .before .before .before .before .before .before .pre in
+    let row = here .before .loop2 .inv in
+    let column = pre .1 .1 .1 .column (here .before .loop2 .j) (here .loop2-test .taken) in
+    (row-next (pre .0) column (elements-inside here .0) (row .0) (c .before .between .result) (c .before .between .ensures) (c .if1 .left), row .1, row .2, row .3)
 
 add-i : tie.Need-add-i Inv-loop2 μ-loop2 Inv-loop μ-loop
 add-i c = omega arith
@@ -89,8 +93,6 @@ letters-associate-spec =
     shared-slice-read-g
     cast-g
     loop2-holds
-    shared-slice-read-h
-    cast-h
     between-requires
     returns
     add-j

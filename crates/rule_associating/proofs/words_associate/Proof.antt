@@ -5,16 +5,16 @@ use native.Mathlib.Omega.{arith}
 use mir.Facts.{fits-8-64}
 use Rattle.rule_table.proofs.Facts.{image-place}
 use Rattle.rule_associating.specs.Tests.{WordsAlong}
-use Rattle.rule_associating.proofs.Entries.{parent-small, letter-small, image-below}
-use Rattle.rule_associating.proofs.Passed.{words-start, words-next, words-all}
+use Rattle.rule_associating.proofs.Entries.{WordEntry, place-column, parent-small, letter-small, word-entry}
+use Rattle.rule_associating.proofs.Passed.{column-along, column-inside, words-start, words-next, words-all}
 use Rattle.rule_associating.proofs.words_associate.Statement.{statement}
 use Rattle.rule_associating.proofs.words_associate.Tie as tie
 
 abbrev Inv-loop : tie.InvT-loop
-Inv-loop rule n k queue count letters i₀ i = WordsAlong rule n k queue letters i × (letters ≤ i)
+Inv-loop rule n k queue count letters columns i₀ i = WordsAlong rule n k queue letters i × (letters ≤ i)
 
 abbrev μ-loop : tie.MeasureT-loop
-μ-loop rule n k queue count letters i₀ i = count - i
+μ-loop rule n k queue count letters columns i₀ i = count - i
 
 loop-holds : tie.Need-loop-holds Inv-loop μ-loop
 loop-holds c = (words-start _, omega arith)
@@ -31,7 +31,7 @@ cast-from : tie.Need-cast-from Inv-loop μ-loop
 cast-from c = fits-8-64 (c .shared-slice-known3 .given _)
 
 sub-p : tie.Need-sub-p Inv-loop μ-loop
-sub-p c = c .before .before .before .before .before .pre .1 .1 .later (c .before .before .loop .i) (c .before .before .loop .inv .1) (c .before .loop-test .taken)
+sub-p c = c .before .before .before .before .before .pre .1 .1 .0 .later (c .before .before .loop .i) (c .before .before .loop .inv .1) (c .before .loop-test .taken)
 
 shared-slice-read-p : tie.Need-shared-slice-read-p Inv-loop μ-loop
 shared-slice-read-p c =
@@ -65,19 +65,32 @@ image-requires c κs =
     let start = c .before .before .before .before .before .before .before .before in
     image-place (start .pre .0) (letter-small (start .pre .1 .0) (c .before .before .before .before .before .loop .i) (c .before .before .before .before .loop-test .taken))
 
+-- what is known of the entry once its letter's element is there
+entry-known : (c : tie.After-image Inv-loop μ-loop) → let args = c .before .before .before .before .before .before .before .before .before .args in WordEntry (args .queue .now) (args .n) (args .letters) (c .before .before .before .before .before .before .loop .i) (c .image .result)
+entry-known c =
+    let pre = c .before .before .before .before .before .before .before .before .before .pre in
+    word-entry (pre .1 .0) (pre .1 .1 .0) (pre .0) (c .before .before .before .before .before .before .loop .inv .1) (c .before .before .before .before .before .loop-test .taken) (c .image .ensures)
+
+add-place : tie.Need-add-place Inv-loop μ-loop
+add-place c = omega (arith, entry-known c .image-inside, c .before .before .before .before .before .before .before .before .before .pre .0 .small)
+
+shared-slice-read-place : tie.Need-shared-slice-read-place Inv-loop μ-loop
+shared-slice-read-place c =
+    let pre = c .before .before .before .before .before .before .before .before .before .before .pre in
+    omega (arith, entry-known (c .before) .image-inside, pre .1 .0 .room, pre .0 .small)
+
+cast-place : tie.Need-cast-place Inv-loop μ-loop
+cast-place c = fits-8-64 (c .shared-slice-known7 .given _)
+
+sub-along : tie.Need-sub-along Inv-loop μ-loop
+sub-along c = entry-known (c .before) .place .above
+
 along-requires : tie.Need-along-requires Inv-loop μ-loop
 along-requires c κs =
-    let start = c .before .before .before .before .before .before .before .before .before in
-    let found = start .pre .1 .0 in
-    let i = c .before .before .before .before .before .before .loop .i in
-    let below = c .before .before .before .before .before .loop-test .taken in (
-      start .pre .0,
-      (
-        found .inside _ (omega (arith, parent-small found i below, start .pre .1 .1 .later i (c .before .before .before .before .before .before .loop .inv .1) below)),
-        image-below (start .pre .0) (letter-small found i below) (c .image .ensures),
-        found .inside i below,
-      ),
-    )
+    let pre = c .before .before .before .before .before .before .before .before .before .before .pre in
+    let entry = entry-known (c .before) in
+    let column = place-column (pre .1 .1 .1) (entry .place) in
+    (pre .0, (column-inside (pre .0) column (entry .image-inside) (omega (arith, entry .place .below, entry .few)), (entry .parent-inside, entry .inside)))
 
 returns : tie.Need-returns Inv-loop μ-loop
 returns c = tt
@@ -90,7 +103,11 @@ loop-less c = omega arith
 
 loop-again : tie.Need-loop-again Inv-loop μ-loop
 loop-again c =
-    (words-next (c .before .before .before .before .before .before .before .before .loop .inv .0) (c .before .before .image .ensures) (c .before .along .result) (c .before .along .ensures) (c .if1 .left), omega arith)
+    let letter = c .before .before .before in
+    let entry = entry-known letter in
+    let pre = letter .before .before .before .before .before .before .before .before .before .pre in
+    let along = column-along (pre .0) (place-column (pre .1 .1 .1) (entry .place)) (entry .parent-inside) (c .before .along .result) (c .before .along .ensures) (c .if1 .left) in
+    (words-next (letter .before .before .before .before .before .before .loop .inv .0) (letter .image .ensures) along, omega arith)
 
 returns-2 : tie.Need-returns-2 Inv-loop μ-loop
 returns-2 c = words-all (c .before .loop .inv .0) (c .loop-test .left)
@@ -114,6 +131,10 @@ words-associate-spec =
     shared-slice-read-letter
     cast-letter
     image-requires
+    add-place
+    shared-slice-read-place
+    cast-place
+    sub-along
     along-requires
     returns
     add-i
