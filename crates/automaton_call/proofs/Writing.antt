@@ -15,13 +15,14 @@ use Rattle.scratch.proofs.Parts.{part-length, part-byte}
 use Rattle.automaton_matrix_search.specs.Lists.{stepPlace}
 use Rattle.automaton_table.specs.Laying.{laidRule, laidMarks, WriteNeeds, LaidWritten}
 use Rattle.automaton_table.proofs.Marks.{product-place}
+use Rattle.formats.specs.RuleChecks.{scratchSize}
 
 -- the rest of scratch from a byte on
 abbrev rest : List ℕ → ℕ → List ℕ
 rest scratch at = take (length scratch - at) (drop at scratch)
 
 module _ {count k : ℕ} {scratch out : List ℕ} (place : WriteNeeds count k scratch out) where
-  from : (at : ℕ) → at ≤ 65536 → at ≤ length scratch
+  from : (at : ℕ) → at ≤ scratchSize → at ≤ length scratch
   from at h = omega (arith, place .laid-long)
 
   square : count * count ≤ 4096

@@ -4,7 +4,7 @@ use mathlib.Core.Path.{_≡_}
 use mathlib.Core.List.{List, [], _∷_}
 use lib.ListN.{length, replicate}
 use Rattle.answer.specs.Checks.{FirstFailure}
-use Rattle.formats.specs.RuleChecks.{ruleSize}
+use Rattle.formats.specs.RuleChecks.{ruleSize, scratchSize}
 use Rattle.formats.specs.AutomatonFile.{statesOf, lettersOf, hasTransition}
 use Rattle.formats.proofs.GoodAutomaton.{GoodSections}
 use Rattle.automaton_file.specs.Answers.{TransitionsLaid}
@@ -17,7 +17,7 @@ pub record ReadHere (bytes : List ℕ) (n k : ℕ) (out scratch : List ℕ) : Ty
   pub states-are : n ≡ statesOf bytes
   pub letters-are : k ≡ lettersOf bytes
   pub laid : TransitionsLaid (hasTransition bytes) (statesOf bytes) (lettersOf bytes) (length scratch) scratch
-  pub room : 65536 ≤ length scratch
+  pub room : scratchSize ≤ length scratch
   pub out-room : ruleSize ≤ length out
 
 -- what is promised of an automaton that was read: only 14 is left to look at

@@ -10,8 +10,12 @@ use automaton_marks::lay_marks;
 use automaton_matrix_list::list_matrices;
 use automaton_matrix_search::MatrixCount;
 use automaton_table::lay_products;
+use formats::RULE_SIZE;
 use promises::Translated;
 use rule_writer::write_rule;
+use scratch::LAID_MARKS_BASE;
+use scratch::LAID_PRODUCTS_BASE;
+use scratch::STEPS_BASE;
 use sections::zero;
 ghost use Prim.Native.Nat.{_<_};
 ghost use lib.ListN.{length};
@@ -34,9 +38,9 @@ fn write_laid(scratch: &[u8], count: usize, k: usize, out: &mut [u8]) -> usize
     requires { ⌜ WriteNeeds count k (now scratch) (now out) ⌝ }
     ensures { λ r. ⌜ LaidWritten (now (scratch .entry)) count k (now (out .entry)) (now (out .exit)) r ⌝ }
 {
-    let table = &scratch[16384..];
-    let images = &scratch[12288..];
-    let marks = &scratch[24576..];
+    let table = &scratch[LAID_PRODUCTS_BASE..];
+    let images = &scratch[STEPS_BASE..];
+    let marks = &scratch[LAID_MARKS_BASE..];
     write_rule(table, images, marks, count, k, out)
 }
 
@@ -67,7 +71,7 @@ fn make_rule(automaton: &[u8], n: usize, k: usize, out: &mut [u8], scratch: &mut
 pub fn automaton_rule(automaton: &[u8], out: &mut [u8], scratch: &mut [u8]) -> Translated
     ensures { λ r. ⌜ RulePromise (now (automaton .entry)) (now (out .entry)) (now (out .exit)) (now (scratch .entry)) (now (scratch .exit)) r ⌝ }
 {
-    if out.len() < 12308 {
+    if out.len() < RULE_SIZE {
         return Translated::Refused {
             refusal: Refusal::BufferTooShort,
             input: 1,

@@ -1,5 +1,8 @@
 // The marks of the pairs of an automaton's matrices, as document 01 has them: a linked pair (R, E) for which some initial p and some
 // q have entry (p, q) of R not 0 and entry (q, q) of E equal to 2. They are laid out behind the table, as automaton_table/specs/Laying says.
+use scratch::LAID_MARKS_BASE;
+use scratch::LAID_PRODUCTS_BASE;
+use scratch::MATRICES_BASE;
 ghost use mathlib.Core.Path.{_≡_};
 ghost use Prim.Native.Nat.{_+_, _*_, _≤_, _<_};
 ghost use lib.ListN.{length};
@@ -8,17 +11,19 @@ ghost use Rattle.buchi.proofs.MatrixTests.{returns-at, returns-from, recurs-tes
 ghost use Rattle.automaton_matrices.specs.Bytes.{initialAt};
 ghost use Rattle.automaton_matrix_search.specs.Lists.{matrixAt};
 ghost use Rattle.automaton_table.specs.Laying.{RowFilled, RowsFilled, laidRule, initialStates, PairNeeds, MarkNeeds, MarkByte};
+ghost use Rattle.scratch.specs.Map.{laidMarksBase};
+ghost use Rattle.formats.specs.RuleChecks.{scratchSize};
 
 // Whether the pair (s, e) is linked by the products that were laid out.
 pub fn linked(scratch: &[u8], count: usize, s: usize, e: usize) -> bool
-    requires { ⌜ (count ≤ 64) × (65536 ≤ length (now scratch)) ⌝ }
+    requires { ⌜ (count ≤ 64) × (scratchSize ≤ length (now scratch)) ⌝ }
     requires { ⌜ (s < count) × (e < count) ⌝ }
     ensures { λ r. ⌜ LinkedAnswer (laidRule (now (scratch .entry)) count 0) s e r ⌝ }
 {
-    if scratch[16384 + (e * count + e)] as usize != e {
+    if scratch[LAID_PRODUCTS_BASE + (e * count + e)] as usize != e {
         return false;
     }
-    if scratch[16384 + (s * count + e)] as usize != s {
+    if scratch[LAID_PRODUCTS_BASE + (s * count + e)] as usize != s {
         return false;
     }
     true
@@ -40,14 +45,14 @@ pub fn initial(kinds: &[u8], p: usize) -> bool
 
 // Whether entry (p, q) of matrix s is not 0 and entry (q, q) of matrix e is 2.
 pub fn returns_at(scratch: &[u8], s: usize, e: usize, p: usize, q: usize) -> bool
-    requires { ⌜ (s < 64) × (e < 64) × (65536 ≤ length (now scratch)) ⌝ }
+    requires { ⌜ (s < 64) × (e < 64) × (scratchSize ≤ length (now scratch)) ⌝ }
     requires { ⌜ (p < 6) × (q < 6) ⌝ }
     ensures { λ r. ⌜ r ≡ returns-at (matrixAt (now (scratch .entry)) s) (matrixAt (now (scratch .entry)) e) p q ⌝ }
 {
-    if scratch[8192 + (s * 64 + (p * 6 + q))] == 0 {
+    if scratch[MATRICES_BASE + (s * 64 + (p * 6 + q))] == 0 {
         return false;
     }
-    if scratch[8192 + (e * 64 + (q * 6 + q))] == 2 {
+    if scratch[MATRICES_BASE + (e * 64 + (q * 6 + q))] == 2 {
         return true;
     }
     false
@@ -102,9 +107,9 @@ pub fn mark_byte(kinds: &[u8], n: usize, scratch: &[u8], count: usize, s: usize,
 pub fn lay_marks_of(kinds: &[u8], n: usize, scratch: &mut [u8], count: usize, s: usize)
     requires { ⌜ MarkNeeds (now kinds) n (now scratch) count ⌝ }
     requires { ⌜ s < count ⌝ }
-    ensures { λ _. ⌜ RowFilled (MarkByte (now (kinds .entry)) n count (now (scratch .entry)) s) (24576 + s * 64) count (now (scratch .entry)) (now (scratch .exit)) ⌝ }
+    ensures { λ _. ⌜ RowFilled (MarkByte (now (kinds .entry)) n count (now (scratch .entry)) s) (laidMarksBase + s * 64) count (now (scratch .entry)) (now (scratch .exit)) ⌝ }
 {
-    let base = 24576 + s * 64;
+    let base = LAID_MARKS_BASE + s * 64;
     for e in 0..count {
         let byte = mark_byte(kinds, n, scratch, count, s, e);
         scratch[base + e] = byte;
@@ -114,7 +119,7 @@ pub fn lay_marks_of(kinds: &[u8], n: usize, scratch: &mut [u8], count: usize, s:
 // All marks.
 pub fn lay_marks(kinds: &[u8], n: usize, scratch: &mut [u8], count: usize)
     requires { ⌜ MarkNeeds (now kinds) n (now scratch) count ⌝ }
-    ensures { λ _. ⌜ RowsFilled (MarkByte (now (kinds .entry)) n count (now (scratch .entry))) 24576 64 count count (now (scratch .entry)) (now (scratch .exit)) ⌝ }
+    ensures { λ _. ⌜ RowsFilled (MarkByte (now (kinds .entry)) n count (now (scratch .entry))) laidMarksBase 64 count count (now (scratch .entry)) (now (scratch .exit)) ⌝ }
 {
     for s in 0..count {
         lay_marks_of(kinds, n, scratch, count, s);

@@ -8,6 +8,8 @@ use automaton_matrices::load_matrix;
 use automaton_matrix_search::MatrixCount;
 use automaton_matrix_search::add_step;
 use automaton_products::matrix_product;
+use scratch::MATRICES_BASE;
+use scratch::STEPS_BASE;
 ghost use Prim.Native.Nat.{_+_, _≤_, _<_};
 ghost use Rattle.automaton_matrix_search.specs.Lists.{ListNeeds, MatricesAnswer};
 ghost use Rattle.automaton_matrix_search.specs.Steps.{Followed, LetterList, ProductsAdded, ListClosed};
@@ -37,11 +39,11 @@ fn add_products(n: usize, k: usize, scratch: &mut [u8], count: usize, from: usiz
     requires { ⌜ from < count ⌝ }
     ensures { λ r. ⌜ ProductsAdded n k (now (scratch .entry)) count (from + 1) (now (scratch .exit)) r ⌝ }
 {
-    let left = load_matrix(scratch, 8192, from);
+    let left = load_matrix(scratch, MATRICES_BASE, from);
     let mut total = count;
     for letter in 0..k {
-        let at = scratch[12288 + letter] as usize;
-        let right = load_matrix(scratch, 8192, at);
+        let at = scratch[STEPS_BASE + letter] as usize;
+        let right = load_matrix(scratch, MATRICES_BASE, at);
         let m = matrix_product(n, left, right);
         let next = match add_step(scratch, n, total, from + 1, letter, m) {
             MatrixCount::Listed(c) => c,

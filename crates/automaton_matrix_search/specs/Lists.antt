@@ -14,20 +14,22 @@ use Rattle.automaton_products.specs.Arrays.{StateEntries}
 use Rattle.automaton_matrices.specs.Bytes.{MarkingAt, matrixFrom, letterEntry}
 use Rattle.automaton_matrix_search.specs.declared.MatrixCount.{MatrixCount}
 use Rattle.automaton_matrix_search.specs.declared.MatrixCount.the-variants.{Listed, TooMany}
+use Rattle.scratch.specs.Map.{matricesBase, stepLettersBase, stepParentsBase, stepsBase}
+use Rattle.formats.specs.RuleChecks.{scratchSize}
 
 -- matrix i of the list
 abbrev pub matrixAt : List ℕ → ℕ → Matrix
-matrixAt scratch i = matrixFrom scratch 8192 i
+matrixAt scratch i = matrixFrom scratch matricesBase i
 
 -- the byte of the step from entry p by letter x, and those of the entry from which matrix j was found and of the letter by which
 abbrev pub stepPlace : ℕ → ℕ → ℕ
-stepPlace p x = 12288 + (p * 16 + x)
+stepPlace p x = stepsBase + (p * 16 + x)
 
 abbrev pub parentPlace : ℕ → ℕ
-parentPlace j = 14336 + j
+parentPlace j = stepParentsBase + j
 
 abbrev pub letterPlace : ℕ → ℕ
-letterPlace j = 15360 + j
+letterPlace j = stepLettersBase + j
 
 -- what stands there: the number of the matrix that the letter leads to, the entry, and the letter
 abbrev pub nextAt : List ℕ → ℕ → ℕ → ℕ
@@ -44,7 +46,7 @@ pub record ListNeeds (kinds : List ℕ) (n k : ℕ) (scratch : List ℕ) : Type 
   pub few-states : n ≤ 6
   pub few-letters : k ≤ 16
   pub kinds-long : n ≤ length kinds
-  pub room : 65536 ≤ length scratch
+  pub room : scratchSize ≤ length scratch
 
 -- an automaton of n states and k letters stands in the bytes
 pub record StandsHere (automaton : Automaton) (kinds : List ℕ) (n k : ℕ) (scratch : List ℕ) : Type 0 where
@@ -55,7 +57,7 @@ pub record StandsHere (automaton : Automaton) (kinds : List ℕ) (n k : ℕ) (sc
 -- count different matrices over n states
 pub record MatrixList (n : ℕ) (scratch : List ℕ) (count : ℕ) : Type 0 where
   pub few-states : n ≤ 6
-  pub room : 65536 ≤ length scratch
+  pub room : scratchSize ≤ length scratch
   pub few : count ≤ 64
   pub entries : (i : ℕ) → i < count → StateEntries n (matrixAt scratch i)
   pub apart : (i j : ℕ) → i < count → j < count → ¬ (i ≡ j) → OtherEntry n (matrixAt scratch i) (matrixAt scratch j)
@@ -67,7 +69,7 @@ pub record KeptBelow (limit : ℕ) (entry now : List ℕ) : Type 0 where
 
 -- those before the list are
 abbrev pub Kept : List ℕ → List ℕ → Type 0
-Kept entry exit = KeptBelow 8192 entry exit
+Kept entry exit = KeptBelow matricesBase entry exit
 
 -- what letter x makes of entry p of the search: of entry 0, the empty word, the letter's own matrix, and of entry i + 1 the
 -- product of matrix i with it

@@ -15,6 +15,8 @@ use Rattle.automaton_matrix_search.specs.declared.Addition.{Addition}
 use Rattle.automaton_matrix_search.specs.declared.Addition.the-variants.{Placed, NoPlace}
 use Rattle.automaton_matrix_search.specs.declared.MatrixCount.{MatrixCount}
 use Rattle.automaton_matrix_search.specs.declared.MatrixCount.the-variants.{Listed, TooMany}
+use Rattle.scratch.specs.Map.{stepsBase}
+use Rattle.formats.specs.RuleChecks.{scratchSize}
 
 -- ---- a matrix is added
 
@@ -46,7 +48,7 @@ AddAnswer n entry count m exit NoPlace = Full n entry count m
 -- the answer, and the bytes before and behind the list
 pub record Added (n : ℕ) (entry : List ℕ) (count : ℕ) (m : List (List ℕ)) (exit : List ℕ) (answer : Addition) : Type 0 where
   pub kept : Kept entry exit
-  pub behind : (i : ℕ) → 12288 ≤ i → getD exit i 0 ≡ getD entry i 0
+  pub behind : (i : ℕ) → stepsBase ≤ i → getD exit i 0 ≡ getD entry i 0
   pub says : AddAnswer n entry count m exit answer
 
 -- ---- a step is taken
@@ -57,7 +59,7 @@ pub record RecordNeeds (scratch : List ℕ) (p x number next : ℕ) : Type 0 whe
   pub letter-small : x < 16
   pub number-small : number < 64
   pub next-small : next ≤ 64
-  pub room : 65536 ≤ length scratch
+  pub room : scratchSize ≤ length scratch
 
 -- letter x leads from entry p to this number, and the matrix at `next` was found so; no other byte changed
 pub record StepRecorded (entry exit : List ℕ) (p x number next : ℕ) : Type 0 where
@@ -72,7 +74,7 @@ pub record StepTaken (n : ℕ) (entry : List ℕ) (count : ℕ) (m : List (List 
   pub added : AddedTo n entry count m exit (nextAt exit p x) total
   pub parent : parentAt exit count ≡ p
   pub letter : letterAt exit count ≡ x
-  pub others : (i : ℕ) → 12288 ≤ i → i ≢ stepPlace p x → i ≢ parentPlace count → i ≢ letterPlace count → getD exit i 0 ≡ getD entry i 0
+  pub others : (i : ℕ) → stepsBase ≤ i → i ≢ stepPlace p x → i ≢ parentPlace count → i ≢ letterPlace count → getD exit i 0 ≡ getD entry i 0
 
 -- the step was taken, or there is no place for its matrix
 abbrev pub StepAnswer : ℕ → List ℕ → ℕ → List (List ℕ) → ℕ → ℕ → List ℕ → MatrixCount → Type 0

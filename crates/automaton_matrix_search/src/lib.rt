@@ -5,6 +5,10 @@
 // from byte 14336 on the entry from which each matrix was found, and from byte 15360 on the letter by which.
 use automaton_matrices::same_stored;
 use automaton_matrices::store_matrix;
+use scratch::MATRICES_BASE;
+use scratch::STEP_LETTERS_BASE;
+use scratch::STEP_PARENTS_BASE;
+use scratch::STEPS_BASE;
 ghost use mathlib.Core.Path.{_≡_};
 ghost use Prim.Native.Nat.{_≤_, _<_};
 ghost use Rattle.buchi.proofs.MatrixLists.{number-of};
@@ -30,7 +34,7 @@ pub fn find_matrix(scratch: &[u8], n: usize, count: usize, m: [[u8; 6]; 6]) -> u
     ensures { λ r. ⌜ r ≡ number-of n count (matrixAt (now (scratch .entry))) (entryIn m) ⌝ }
 {
     for i in 0..count {
-        if same_stored(scratch, 8192, i, n, &m) {
+        if same_stored(scratch, MATRICES_BASE, i, n, &m) {
             return i;
         }
     }
@@ -53,7 +57,7 @@ pub fn add_matrix(scratch: &mut [u8], n: usize, count: usize, m: [[u8; 6]; 6]) -
     if count == 64 {
         return Addition::NoPlace;
     }
-    store_matrix(scratch, 8192, count, m);
+    store_matrix(scratch, MATRICES_BASE, count, m);
     Addition::Placed {
         number: count,
         total: count + 1,
@@ -66,9 +70,9 @@ fn record_step(scratch: &mut [u8], parent: usize, letter: usize, number: usize, 
     requires { ⌜ RecordNeeds (now scratch) parent letter number next ⌝ }
     ensures { λ _. ⌜ StepRecorded (now (scratch .entry)) (now (scratch .exit)) parent letter number next ⌝ }
 {
-    scratch[12288 + (parent * 16 + letter)] = number as u8;
-    scratch[14336 + next] = parent as u8;
-    scratch[15360 + next] = letter as u8;
+    scratch[STEPS_BASE + (parent * 16 + letter)] = number as u8;
+    scratch[STEP_PARENTS_BASE + next] = parent as u8;
+    scratch[STEP_LETTERS_BASE + next] = letter as u8;
 }
 
 // Adds the matrix that a letter makes of an entry, unless it is there, and records the step.

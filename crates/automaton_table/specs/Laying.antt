@@ -14,6 +14,8 @@ use Rattle.buchi.proofs.Products.{product}
 use Rattle.automaton_matrices.specs.Bytes.{initialAt, finalAt}
 use Rattle.automaton_matrix_search.specs.Lists.{matrixAt, nextAt, parentAt, letterAt, MatrixList, KeptBelow, Recorded}
 use Rattle.formats.specs.WrittenFile.{fileOf}
+use Rattle.scratch.specs.Map.{laidMarksBase, laidProductsBase}
+use Rattle.formats.specs.RuleChecks.{ruleSize, scratchSize}
 
 -- ---- bytes that stay, and bytes that are filled
 
@@ -34,13 +36,13 @@ abbrev pub laidRule : List ℕ → ℕ → ℕ → Morphism
 laidRule scratch count k = record {
   size = count;
   letters = k;
-  product = λ a b. getD scratch (16384 + (a * count + b)) 0;
+  product = λ a b. getD scratch (laidProductsBase + (a * count + b)) 0;
   image = λ a. nextAt scratch 0 a;
 }
 
 -- marks from byte 24576 on
 abbrev pub laidMarks : List ℕ → Marking
-laidMarks scratch s e = getD scratch (24576 + (s * 64 + e)) 0
+laidMarks scratch s e = getD scratch (laidMarksBase + (s * 64 + e)) 0
 
 -- ---- what each byte is to be
 
@@ -48,7 +50,7 @@ laidMarks scratch s e = getD scratch (24576 + (s * 64 + e)) 0
 -- was leads from every matrix to one of the list
 pub record StepNeeds (scratch : List ℕ) (count : ℕ) : Type 0 where
   pub few : count ≤ 64
-  pub room : 65536 ≤ length scratch
+  pub room : scratchSize ≤ length scratch
   pub parents : (j : ℕ) → j < count → parentAt scratch j ≤ j
   pub letters : (j : ℕ) → j < count → letterAt scratch j < 16
   pub steps : (i j : ℕ) → i < count → j < count → nextAt scratch (i + 1) (letterAt scratch j) < count
@@ -72,7 +74,7 @@ pub record TableNumber (count : ℕ) (scratch : List ℕ) (i j r : ℕ) : Type 0
 
 -- the products of matrix i with the first j matrices are laid out
 pub record RowLaid (count : ℕ) (scratch : List ℕ) (i j : ℕ) : Type 0 where
-  pub numbers : (y : ℕ) → y < j → TableNumber count scratch i y (getD scratch (16384 + i * count + y) 0)
+  pub numbers : (y : ℕ) → y < j → TableNumber count scratch i y (getD scratch (laidProductsBase + i * count + y) 0)
 
 -- n states, which of them are initial, and nothing else: what the marking looks at
 abbrev pub initialStates : List ℕ → ℕ → Automaton
@@ -89,7 +91,7 @@ pub record MarkByte (kinds : List ℕ) (n count : ℕ) (scratch : List ℕ) (s e
 pub record PairNeeds (kinds : List ℕ) (n : ℕ) (scratch : List ℕ) (s e : ℕ) : Type 0 where
   pub few-states : n ≤ 6
   pub kinds-long : n ≤ length kinds
-  pub room : 65536 ≤ length scratch
+  pub room : scratchSize ≤ length scratch
   pub start-small : s < 64
   pub cycle-small : e < 64
 
@@ -97,12 +99,12 @@ pub record PairNeeds (kinds : List ℕ) (n : ℕ) (scratch : List ℕ) (s e : �
 pub record MarkNeeds (kinds : List ℕ) (n : ℕ) (scratch : List ℕ) (count : ℕ) : Type 0 where
   pub few-states : n ≤ 6
   pub kinds-long : n ≤ length kinds
-  pub room : 65536 ≤ length scratch
+  pub room : scratchSize ≤ length scratch
   pub few : count ≤ 64
 
 -- the products and marks were laid out; the matrices and what was recorded of them, the images too, are as they were
 pub record RuleLaid (kinds : List ℕ) (n count : ℕ) (entry exit : List ℕ) : Type 0 where
-  pub kept : KeptBelow 16384 entry exit
+  pub kept : KeptBelow laidProductsBase entry exit
   pub products : (i j : ℕ) → i < count → j < count → ProductNumber n count exit i j (laidRule exit count 0 .product i j)
   pub marks : (s e : ℕ) → s < count → e < count → MarkByte kinds n count exit s e (laidMarks exit s e)
 
@@ -114,8 +116,8 @@ pub record WriteNeeds (count k : ℕ) (scratch out : List ℕ) : Type 0 where
   pub few : count ≤ 64
   pub letters-some : 1 ≤ k
   pub letters-few : k ≤ 16
-  pub laid-long : 65536 ≤ length scratch
-  pub room : 12308 ≤ length out
+  pub laid-long : scratchSize ≤ length scratch
+  pub room : ruleSize ≤ length out
 
 -- the rule that is laid out was written to the front of the buffer, r bytes long
 pub record LaidWritten (scratch : List ℕ) (count k : ℕ) (entry exit : List ℕ) (r : ℕ) : Type 0 where

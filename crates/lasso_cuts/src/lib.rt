@@ -4,6 +4,8 @@
 use lasso_turns::some_cut;
 use rule_table::image;
 use rule_table::product;
+use scratch::BEGINNINGS_BASE;
+use scratch::ENDS_BASE;
 ghost use mathlib.Core.Path.{_≡_};
 ghost use Prim.Native.Nat.{_+_, _≤_, _<_};
 ghost use lib.ListN.{length};
@@ -13,6 +15,7 @@ ghost use Rattle.rule_table.specs.Table.{Table};
 ghost use Rattle.formats.specs.Table.{morphismAt};
 ghost use Rattle.lasso_cuts.specs.WordValues.{CallWord};
 ghost use Rattle.lasso_turns.specs.Cuts.{markedIn, Beginnings, Ends, KeptAround};
+ghost use Rattle.formats.specs.RuleChecks.{scratchSize};
 
 // The value of a word.
 pub fn word_value(rule: &[u8], n: usize, k: usize, w: &[u8]) -> usize
@@ -73,11 +76,11 @@ pub fn accepts(rule: &[u8], n: usize, k: usize, u: &[u8], v: &[u8], scratch: &mu
     requires { ⌜ Lawful (morphismAt (now rule) n k) ⌝ }
     requires { ⌜ CallWord k (now u) ⌝ }
     requires { ⌜ CallWord k (now v) ⌝ }
-    requires { ⌜ 65536 ≤ length (now scratch) ⌝ }
+    requires { ⌜ scratchSize ≤ length (now scratch) ⌝ }
     ensures { λ b. ⌜ b ≡ accepts-test (morphismAt (now (rule .entry)) n k) (markedIn (now (scratch .entry))) (now (u .entry)) (now (v .entry)) ⌝ }
 {
     let s = word_value(rule, n, k, u);
-    beginnings(rule, n, k, v, scratch, 4096);
-    ends(rule, n, k, v, scratch, 8320);
+    beginnings(rule, n, k, v, scratch, BEGINNINGS_BASE);
+    ends(rule, n, k, v, scratch, ENDS_BASE);
     some_cut(rule, n, k, scratch, s, v.len())
 }

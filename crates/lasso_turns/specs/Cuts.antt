@@ -9,6 +9,7 @@ use lib.Dec.{ltb}
 use Rattle.finite.specs.Search.{anyBelow}
 use Rattle.theory.specs.Rules.{Morphism, Pairs, element, value}
 use Rattle.theory.proofs.Membership.{turn-test}
+use Rattle.scratch.specs.Map.{beginningsBase, endsBase, wordsEnd}
 
 -- the pairs that a table of bytes marks: (s, e) has a byte at s·64 + e
 unfoldable pub markedIn : List ℕ → Pairs
@@ -31,19 +32,19 @@ pub record KeptAround (entry exit : List ℕ) (base count : ℕ) : Type 0 where
 -- the values of the beginnings from byte 4096 on and of the ends from byte 8320 on, of a word with len letters, are elements
 pub record CutValues (bytes : List ℕ) (n len : ℕ) : Type 0 where
   pub short : len ≤ 4224
-  pub long : 12544 ≤ length bytes
-  pub beginning-inside : (j : ℕ) → j < len → getD bytes (4096 + j) 0 < n
-  pub end-inside : (j : ℕ) → j < len → getD bytes (8320 + j) 0 < n
+  pub long : wordsEnd ≤ length bytes
+  pub beginning-inside : (j : ℕ) → j < len → getD bytes (beginningsBase + j) 0 < n
+  pub end-inside : (j : ℕ) → j < len → getD bytes (endsBase + j) 0 < n
 
 -- the value of one turn from the cut after j + 1 letters on: that of the end behind the cut, then that of the beginning
 -- before it; behind the last letter there is no end
 unfoldable pub turnValue : Morphism → List ℕ → ℕ → ℕ → ℕ
 turnValue m bytes len j =
-    cond (ltb (j + 1) len) (m .product (getD bytes (8320 + j + 1) 0) (getD bytes (4096 + j) 0)) (getD bytes (4096 + j) 0)
+    cond (ltb (j + 1) len) (m .product (getD bytes (endsBase + j + 1) 0) (getD bytes (beginningsBase + j) 0)) (getD bytes (beginningsBase + j) 0)
 
 -- the cut after j + 1 letters passes, after a start of value s
 unfoldable pub cutAt : Morphism → Pairs → ℕ → List ℕ → ℕ → ℕ → Bool
-cutAt m P s bytes len j = turn-test m P (m .product s (getD bytes (4096 + j) 0)) (turnValue m bytes len j)
+cutAt m P s bytes len j = turn-test m P (m .product s (getD bytes (beginningsBase + j) 0)) (turnValue m bytes len j)
 
 -- one of the len cuts of a turn does
 unfoldable pub someCut : Morphism → Pairs → ℕ → List ℕ → ℕ → Bool

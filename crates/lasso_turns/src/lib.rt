@@ -2,6 +2,8 @@
 use rule_table::Power;
 use rule_table::idempotent_power;
 use rule_table::product;
+use scratch::BEGINNINGS_BASE;
+use scratch::ENDS_BASE;
 ghost use mathlib.Core.Path.{_≡_};
 ghost use Prim.Native.Nat.{_+_, _≤_, _<_};
 ghost use lib.ListN.{length};
@@ -11,6 +13,7 @@ ghost use Rattle.rule_table.specs.Table.{Table};
 ghost use Rattle.formats.specs.Table.{morphismAt};
 ghost use Rattle.formats.proofs.Tables.{LeastPower};
 ghost use Rattle.lasso_turns.specs.Cuts.{markedIn, CutValues, someCut};
+ghost use Rattle.scratch.specs.Map.{beginningsBase};
 
 // Whether a pair (p·e·r^j, e) is marked, e the idempotent power of r. They come again after as many as the exponent of e.
 fn powers_marked(
@@ -25,7 +28,7 @@ fn powers_marked(
 ) -> bool
     requires { ⌜ Table (now rule) n k ⌝ }
     requires { ⌜ Lawful (morphismAt (now rule) n k) ⌝ }
-    requires { ⌜ 4096 ≤ length (now marks) ⌝ }
+    requires { ⌜ beginningsBase ≤ length (now marks) ⌝ }
     requires { ⌜ (p < n) × (r < n) ⌝ }
     requires { ⌜ LeastPower (morphismAt (now rule) n k) r e exponent ⌝ }
     ensures { λ b. ⌜ b ≡ turn-test (morphismAt (now (rule .entry)) n k) (markedIn (now (marks .entry))) p r ⌝ }
@@ -44,7 +47,7 @@ fn powers_marked(
 pub fn turn_accepts(rule: &[u8], n: usize, k: usize, marks: &[u8], p: usize, r: usize) -> bool
     requires { ⌜ Table (now rule) n k ⌝ }
     requires { ⌜ Lawful (morphismAt (now rule) n k) ⌝ }
-    requires { ⌜ 4096 ≤ length (now marks) ⌝ }
+    requires { ⌜ beginningsBase ≤ length (now marks) ⌝ }
     requires { ⌜ (p < n) × (r < n) ⌝ }
     ensures { λ b. ⌜ b ≡ turn-test (morphismAt (now (rule .entry)) n k) (markedIn (now (marks .entry))) p r ⌝ }
 {
@@ -65,11 +68,11 @@ pub fn some_cut(rule: &[u8], n: usize, k: usize, scratch: &[u8], s: usize, len: 
     ensures { λ b. ⌜ b ≡ someCut (morphismAt (now (rule .entry)) n k) (markedIn (now (scratch .entry))) s (now (scratch .entry)) len ⌝ }
 {
     for j in 0..len {
-        let x = scratch[4096 + j] as usize;
+        let x = scratch[BEGINNINGS_BASE + j] as usize;
         let p = product(rule, n, s, x);
         let mut r = x;
         if j + 1 < len {
-            r = product(rule, n, scratch[8320 + j + 1] as usize, x);
+            r = product(rule, n, scratch[ENDS_BASE + j + 1] as usize, x);
         }
         if turn_accepts(rule, n, k, scratch, p, r) {
             return true;

@@ -10,6 +10,8 @@ use Rattle.mark_search.specs.Search.{MarkingAt}
 use Rattle.promises.specs.Inclusion.{WordWritten, InclusionAnswer}
 use Rattle.promises.specs.declared.Inclusion.{Inclusion}
 use Rattle.promises.specs.declared.Inclusion.the-variants.{Included as Is-included, NotIncluded}
+use Rattle.scratch.specs.Map.{secondBase}
+use Rattle.formats.specs.RuleChecks.{scratchSize}
 
 -- a table whose elements are all reached, one of them, and room for its first word
 pub record StartNeeds (m : Morphism) (s : ℕ) (out : List ℕ) : Type 0 where
@@ -27,7 +29,7 @@ pub record StartWritten (m : Morphism) (s : ℕ) (entry exit : List ℕ) (r : �
 pub record CompareNeeds (m : Morphism) (scratch : List ℕ) : Type 0 where
   pub lawful : Lawful m
   pub reached : AllReached m
-  pub room : 65536 ≤ length scratch
+  pub room : scratchSize ≤ length scratch
 
 -- an answer that is no refusal
 pub data Answered : Inclusion → Type 0 where
@@ -36,7 +38,7 @@ pub data Answered : Inclusion → Type 0 where
 
 -- two markings compared; scratch is zeros then
 pub record Compared (m : Morphism) (u-entry u-exit v-entry v-exit entry exit : List ℕ) (answer : Inclusion) : Type 0 where
-  pub answers : (P P′ : Pairs) → LinkedOnly m P → LinkedOnly m P′ → MarkingAt (m .size) P entry 0 → MarkingAt (m .size) P′ entry 4096
+  pub answers : (P P′ : Pairs) → LinkedOnly m P → LinkedOnly m P′ → MarkingAt (m .size) P entry 0 → MarkingAt (m .size) P′ entry secondBase
       → InclusionAnswer m P P′ u-entry u-exit v-entry v-exit answer
   pub answered : Answered answer
   pub scratch : exit ≡ replicate (length entry) 0

@@ -7,6 +7,7 @@ use mark_search::first_escape;
 use mark_spelling::write_first_word;
 use promises::Inclusion;
 use rule_reach::reach;
+use scratch::SECOND_BASE;
 use sections::zero;
 ghost use Prim.Native.Nat.{_≤_};
 ghost use lib.ListN.{length};
@@ -39,7 +40,7 @@ pub fn compare(
     requires { ⌜ (64 ≤ length (now u)) × (4224 ≤ length (now v)) ⌝ }
     ensures { λ r. ⌜ Compared (morphismAt (now (rule .entry)) n k) (now (u .entry)) (now (u .exit)) (now (v .entry)) (now (v .exit)) (now (scratch .entry)) (now (scratch .exit)) r ⌝ }
 {
-    match first_escape(rule, n, k, scratch, 0, 4096) {
+    match first_escape(rule, n, k, scratch, 0, SECOND_BASE) {
         Escape::Nothing => {
             zero(scratch);
             Inclusion::Included

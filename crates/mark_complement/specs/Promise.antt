@@ -6,16 +6,17 @@ use lib.ListN.{length, getD, drop}
 use Rattle.theory.specs.Rules.{Morphism, Marking}
 use Rattle.formats.specs.RuleChecks.{ruleSize}
 use Rattle.formats.specs.WrittenFile.{fileOf}
+use Rattle.scratch.specs.Map.{secondBase, tablesEnd}
 
 -- a second table of marks, and room for the longest file
 pub record WriteNeeds (k : ℕ) (scratch out : List ℕ) : Type 0 where
   pub letters-some : 1 ≤ k
-  pub marks-long : 8192 ≤ length scratch
+  pub marks-long : tablesEnd ≤ length scratch
   pub room : ruleSize ≤ length out
 
 -- the numbers of the second table
 abbrev pub secondMarking : List ℕ → Marking
-secondMarking scratch s e = getD scratch (4096 + (s * 64 + e)) 0
+secondMarking scratch s e = getD scratch (secondBase + (s * 64 + e)) 0
 
 -- the rule with the marks of the second table was written to the front of the buffer
 pub record TablesWritten (m : Morphism) (scratch entry exit : List ℕ) (r : ℕ) : Type 0 where

@@ -1,12 +1,14 @@
 // The complement of a strong rule: same elements and numbering, marked are the linked pairs that are not in the closure of the
 // rule's marks.
 use answer::Refusal;
+use formats::RULE_SIZE;
 use mark_complement_marks::complement_marks;
 use mark_strong::decide;
 use promises::Complemented;
 use rule_check::Checked;
 use rule_check::check;
 use rule_writer::write_rule;
+use scratch::SECOND_BASE;
 use sections::zero;
 ghost use Prim.Native.Nat.{_<_};
 ghost use lib.ListN.{length};
@@ -23,7 +25,7 @@ fn write_marked(rule: &[u8], n: usize, k: usize, scratch: &[u8], out: &mut [u8])
 {
     let table = &rule[1..];
     let images = &rule[2 + n * n..];
-    let marks = &scratch[4096..];
+    let marks = &scratch[SECOND_BASE..];
     write_rule(table, images, marks, n, k, out)
 }
 
@@ -31,7 +33,7 @@ fn write_marked(rule: &[u8], n: usize, k: usize, scratch: &[u8], out: &mut [u8])
 pub fn complement(rule: &[u8], out: &mut [u8], scratch: &mut [u8]) -> Complemented
     ensures { λ r. ⌜ ComplementPromise (now (rule .entry)) (now (out .entry)) (now (out .exit)) (now (scratch .entry)) (now (scratch .exit)) r ⌝ }
 {
-    if out.len() < 12308 {
+    if out.len() < RULE_SIZE {
         return Complemented::Refused {
             refusal: Refusal::BufferTooShort,
             input: 1,

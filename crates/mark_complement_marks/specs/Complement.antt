@@ -7,7 +7,7 @@ use lib.ListN.{length, getD}
 use lib.Dec.{ltb}
 use Rattle.theory.specs.Rules.{Morphism, Pairs}
 use Rattle.theory.proofs.Closure.{linked-test}
-use Rattle.scratch.specs.Map.{pairsFrom}
+use Rattle.scratch.specs.Map.{pairsFrom, secondBase, tablesEnd}
 use Rattle.mark_closure.specs.Closing.{place}
 
 -- the linked pairs that are not in P
@@ -17,15 +17,15 @@ linkedOutside m P s e = linked-test m s e && not (P s e)
 -- the second table has the linked pairs that it did not have; no byte has changed but those of pairs of elements there
 pub record ComplementLaid (m : Morphism) (entry exit : List ℕ) : Type 0 where
   pub same-length : length exit ≡ length entry
-  pub marks : (s e : ℕ) → s < m .size → e < m .size → pairsFrom exit 4096 s e ≡ linkedOutside m (pairsFrom entry 4096) s e
-  pub bits : (s e : ℕ) → s < m .size → e < m .size → getD exit (4096 + (s * 64 + e)) 0 ≤ 1
-  pub before : (i : ℕ) → i < 4096 → getD exit i 0 ≡ getD entry i 0
-  pub after : (i : ℕ) → 8192 ≤ i → getD exit i 0 ≡ getD entry i 0
-  pub between : (i : ℕ) → ((s e : ℕ) → s < m .size → e < m .size → i ≡ 4096 + (s * 64 + e) → ⊥) → getD exit i 0 ≡ getD entry i 0
+  pub marks : (s e : ℕ) → s < m .size → e < m .size → pairsFrom exit secondBase s e ≡ linkedOutside m (pairsFrom entry secondBase) s e
+  pub bits : (s e : ℕ) → s < m .size → e < m .size → getD exit (secondBase + (s * 64 + e)) 0 ≤ 1
+  pub before : (i : ℕ) → i < secondBase → getD exit i 0 ≡ getD entry i 0
+  pub after : (i : ℕ) → tablesEnd ≤ i → getD exit i 0 ≡ getD entry i 0
+  pub between : (i : ℕ) → ((s e : ℕ) → s < m .size → e < m .size → i ≡ secondBase + (s * 64 + e) → ⊥) → getD exit i 0 ≡ getD entry i 0
 
 -- the byte that a pair is to have: 1 where it is linked and its byte is 0, else 0
 pub record ComplementByte (m : Morphism) (bytes : List ℕ) (s e byte : ℕ) : Type 0 where
-  pub says : ltb 0 byte ≡ linkedOutside m (pairsFrom bytes 4096) s e
+  pub says : ltb 0 byte ≡ linkedOutside m (pairsFrom bytes secondBase) s e
   pub bit : byte ≤ 1
 
 -- the first pairs that begin with s have their bytes, and every other byte is as it was

@@ -6,6 +6,7 @@ use mathlib.Core.List.{List, [], _∷_}
 use lib.ListN.{length}
 use Rattle.promises.specs.Inclusion.{WordWritten}
 use Rattle.mark_search_list.specs.Queue.{backAt, letterAt, parentAt}
+use Rattle.formats.specs.RuleChecks.{scratchSize}
 
 -- the letters from entry i back to a start
 pub data Spells (n : ℕ) (scratch : List ℕ) : ℕ → List ℕ → Type 0 where
@@ -14,7 +15,7 @@ pub data Spells (n : ℕ) (scratch : List ℕ) : ℕ → List ℕ → Type 0 whe
 
 -- an entry whose parents come before it, and room for its cycle
 pub record CycleNeeds (n : ℕ) (scratch : List ℕ) (i : ℕ) (out : List ℕ) : Type 0 where
-  pub room : 65536 ≤ length scratch
+  pub room : scratchSize ≤ length scratch
   pub few : i < 4225
   pub parents : (j : ℕ) → j ≤ i → (backAt scratch j ≡ n → ⊥) → parentAt scratch j < j
   pub long : 4224 ≤ length out

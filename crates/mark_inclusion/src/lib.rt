@@ -7,6 +7,8 @@ use rule_check::Checked;
 use rule_check::check;
 use rule_marks::Fault;
 use rule_second_marks::second_marks;
+use scratch::SECOND_BASE;
+use scratch::TABLES_END;
 use sections::zero;
 use sections::zero_part;
 ghost use mathlib.Core.Path.{_≡_};
@@ -27,8 +29,8 @@ fn lay_second(rule: &[u8], n: usize, k: usize, second: &[u8], scratch: &mut [u8]
     ensures refusal { λ r. ⌜ FaultAnswer (λ input. secondMarksChecks input (now (rule .entry)) (now (second .entry))) r ⌝ }
     ensures laid { λ r. ⌜ LaidAnswer (now (second .entry)) n (now (scratch .entry)) (now (scratch .exit)) r ⌝ }
 {
-    zero_part(scratch, 4096, 8192);
-    second_marks(rule, n, k, second, &mut scratch[4096..])
+    zero_part(scratch, SECOND_BASE, TABLES_END);
+    second_marks(rule, n, k, second, &mut scratch[SECOND_BASE..])
 }
 
 // Checks a rule and a second marks section, and compares the two markings. A witness is written to the front of u and v; scratch

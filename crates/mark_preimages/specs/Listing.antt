@@ -5,10 +5,11 @@ use mathlib.Core.List.{List}
 use lib.ListN.{length, getD}
 use Rattle.theory.specs.Rules.{Morphism}
 use Rattle.scratch.specs.Preimages.{firstAt, nextAt, Listed, KeptBut}
+use Rattle.scratch.specs.Map.{firstPreimagesBase, nextPreimagesBase, searchEnd}
 
 -- a letter, a value and an element whose bytes stand within the lists
 pub record ValueNeeds (scratch : List ℕ) (a c x : ℕ) : Type 0 where
-  pub room : 61440 ≤ length scratch
+  pub room : searchEnd ≤ length scratch
   pub letter : a < 16
   pub value : c < 65
   pub element : x < 65
@@ -18,11 +19,11 @@ pub record ValueListed (entry exit : List ℕ) (a c x : ℕ) : Type 0 where
   pub same-length : length exit ≡ length entry
   pub first : firstAt exit a x ≡ c + 1
   pub next : nextAt exit a c ≡ firstAt entry a x
-  pub others : (i : ℕ) → (i ≡ 57344 + (a * 65 + x) → ⊥) → (i ≡ 59392 + (a * 65 + c) → ⊥) → getD exit i 0 ≡ getD entry i 0
+  pub others : (i : ℕ) → (i ≡ firstPreimagesBase + (a * 65 + x) → ⊥) → (i ≡ nextPreimagesBase + (a * 65 + c) → ⊥) → getD exit i 0 ≡ getD entry i 0
 
 -- room for the lists, and no value of the letter listed yet
 pub record LetterRoom (scratch : List ℕ) (a : ℕ) : Type 0 where
-  pub room : 61440 ≤ length scratch
+  pub room : searchEnd ≤ length scratch
   pub blank : (x : ℕ) → x < 65 → firstAt scratch a x ≡ 0
 
 -- the lists of the other letters are as they were, and so is what stands outside the lists

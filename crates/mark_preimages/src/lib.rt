@@ -4,6 +4,8 @@
 // than the number, or 0 where the list ends.
 use rule_table::image;
 use rule_table::product;
+use scratch::FIRST_PREIMAGES_BASE;
+use scratch::NEXT_PREIMAGES_BASE;
 ghost use mathlib.Core.Path.{_≡_};
 ghost use Prim.Native.Nat.{_+_, _<_};
 ghost use Rattle.rule_table.specs.Table.{Table};
@@ -29,8 +31,8 @@ fn list_value(scratch: &mut [u8], a: usize, c: usize, x: usize)
     requires { ⌜ ValueNeeds (now scratch) a c x ⌝ }
     ensures { λ r. ⌜ ValueListed (now (scratch .entry)) (now (scratch .exit)) a c x ⌝ }
 {
-    scratch[59392 + (a * 65 + c)] = scratch[57344 + (a * 65 + x)];
-    scratch[57344 + (a * 65 + x)] = (c + 1) as u8;
+    scratch[NEXT_PREIMAGES_BASE + (a * 65 + c)] = scratch[FIRST_PREIMAGES_BASE + (a * 65 + x)];
+    scratch[FIRST_PREIMAGES_BASE + (a * 65 + x)] = (c + 1) as u8;
 }
 
 // The lists of one letter: every value in the order of the numbers.

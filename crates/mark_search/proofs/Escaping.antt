@@ -10,7 +10,7 @@ use Rattle.finite.proofs.Numbers.{below-cases}
 use Rattle.theory.specs.Rules.{Morphism, Lawful, Pairs}
 use Rattle.theory.proofs.Escapes.{Escapes}
 use Rattle.sections.specs.Answers.{PartZeroed}
-use Rattle.scratch.specs.Map.{pairsFrom, statesBase, listsEnd}
+use Rattle.scratch.specs.Map.{pairsFrom, statesBase, nextPreimagesBase}
 use Rattle.scratch.specs.Preimages.{Preimages, PreimagesRoom, KeptBut, PreimagesListed}
 use Rattle.mark_search_list.specs.Queue.{seenAt, Kept}
 use Rattle.mark_search.specs.Search.{MarkingAt, SearchNeeds, Searched, AllNeeds, EscapeNeeds, Escaped}
@@ -96,7 +96,7 @@ module _ {m : Morphism} {first second : ℕ} {entry : List ℕ} (small : m .size
 
 -- with the states and the lists of preimages made blank first, and the lists made then
 module _ {m : Morphism} {first second : ℕ} {entry blank : List ℕ} (small : m .size ≤ 64) (place : EscapeNeeds m first second entry)
-    (z : PartZeroed statesBase listsEnd entry blank) where
+    (z : PartZeroed statesBase nextPreimagesBase entry blank) where
   pub preimages-room : PreimagesRoom blank
   preimages-room = record { room = omega (arith, place .room, z .outside .same-length); blank = λ i h l. z .zeros i (omega arith) l }
 

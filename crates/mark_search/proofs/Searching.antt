@@ -22,6 +22,7 @@ use Rattle.mark_search_list.proofs.Growth.{kept-refl, kept-trans, grown-trans, 
 use Rattle.mark_search_list.proofs.Beginning.{queue-none, pairs-kept}
 use Rattle.mark_search_list.proofs.Taking.{preimages-kept}
 use Rattle.mark_search.proofs.Meeting.{no-escape, split-inside, entries-as}
+use Rattle.formats.specs.RuleChecks.{scratchSize}
 
 -- a source stays one while entries are added
 pub source-grown : {m : Morphism} {P P′ : Pairs} {s count total i : ℕ} {entry exit : List ℕ} → Grown (m .size) s entry count exit total → i < count
@@ -92,7 +93,7 @@ module _ {m : Morphism} {first second s : ℕ} {entry : List ℕ} (place : RunNe
     pub at-few : at ≤ 4225
     at-few = omega (arith, k .within, queue-few queue)
 
-    pub searching-room : 65536 ≤ length now
+    pub searching-room : scratchSize ≤ length now
     searching-room = queue .room
 
     -- the entry at hand has an element in front

@@ -6,7 +6,7 @@ use lib.ListN.{length, getD}
 use lib.Dec.{T}
 use Rattle.theory.specs.Rules.{Morphism, Lawful, Pairs}
 use Rattle.theory.proofs.Escapes.{Escapes}
-use Rattle.scratch.specs.Map.{pairsFrom}
+use Rattle.scratch.specs.Map.{pairsFrom, searchEnd, secondBase, tablesEnd}
 use Rattle.scratch.specs.Preimages.{afterLetter, Preimages}
 use Rattle.mark_search_list.specs.Queue.{frontAt, backAt, letterAt, parentAt, seenAt, Queue, HasState, Kept, Grown}
 use Rattle.mark_search_list.specs.Steps.{beforeLetter, Takes, splitMarked}
@@ -14,6 +14,7 @@ use Rattle.mark_search.specs.declared.Escape.{Escape}
 use Rattle.mark_search.specs.declared.Escape.the-variants.{At as Escape-at, Nothing as No-escape}
 use Rattle.mark_search.specs.declared.Ended.{Ended}
 use Rattle.mark_search.specs.declared.Ended.the-variants.{At, Nothing}
+use Rattle.formats.specs.RuleChecks.{scratchSize}
 
 -- a set of pairs of n elements stands in a table of marks that begins at a byte
 pub record MarkingAt (n : ℕ) (P : Pairs) (scratch : List ℕ) (base : ℕ) : Type 0 where
@@ -59,9 +60,9 @@ pub record EndedAt (m : Morphism) (P P′ : Pairs) (s : ℕ) (scratch : List ℕ
 pub record SearchNeeds (m : Morphism) (first second s : ℕ) (scratch : List ℕ) : Type 0 where
   pub lawful : Lawful m
   pub start-inside : s < m .size
-  pub first-base : first ≤ 4096
-  pub second-base : second ≤ 4096
-  pub room : 65536 ≤ length scratch
+  pub first-base : first ≤ secondBase
+  pub second-base : second ≤ secondBase
+  pub room : scratchSize ≤ length scratch
   pub preimages : Preimages m scratch
   pub unseen : (c : ℕ) → c < 4225 → seenAt scratch c ≤ s
 
@@ -69,8 +70,8 @@ pub record SearchNeeds (m : Morphism) (first second s : ℕ) (scratch : List ℕ
 pub record RunNeeds (m : Morphism) (first second s : ℕ) : Type 0 where
   pub lawful : Lawful m
   pub start-inside : s < m .size
-  pub first-base : first ≤ 4096
-  pub second-base : second ≤ 4096
+  pub first-base : first ≤ secondBase
+  pub second-base : second ≤ secondBase
 
 -- a cycle that escapes ends the search at an entry; where none does, nothing ends it
 abbrev pub Ends : Morphism → Pairs → Pairs → ℕ → List ℕ → Ended → Type 0
@@ -85,18 +86,18 @@ pub record Searched (m : Morphism) (first second s : ℕ) (entry exit : List ℕ
 -- tables of marks and the lists of preimages, and no state found yet
 pub record AllNeeds (m : Morphism) (first second : ℕ) (scratch : List ℕ) : Type 0 where
   pub lawful : Lawful m
-  pub first-base : first ≤ 4096
-  pub second-base : second ≤ 4096
-  pub room : 65536 ≤ length scratch
+  pub first-base : first ≤ secondBase
+  pub second-base : second ≤ secondBase
+  pub room : scratchSize ≤ length scratch
   pub preimages : Preimages m scratch
   pub unseen : (c : ℕ) → c < 4225 → seenAt scratch c ≤ 0
 
 -- the same whatever stands behind the tables of marks
 pub record EscapeNeeds (m : Morphism) (first second : ℕ) (scratch : List ℕ) : Type 0 where
   pub lawful : Lawful m
-  pub first-base : first ≤ 4096
-  pub second-base : second ≤ 4096
-  pub room : 65536 ≤ length scratch
+  pub first-base : first ≤ secondBase
+  pub second-base : second ≤ secondBase
+  pub room : scratchSize ≤ length scratch
 
 -- the search ended at an entry for the start value s
 pub record EscapedAt (m : Morphism) (P P′ : Pairs) (s : ℕ) (scratch : List ℕ) (i : ℕ) : Type 0 where
@@ -112,5 +113,5 @@ EscapeAnswer m P P′ scratch No-escape = (s : ℕ) → s < m .size → (v : Lis
 pub record Escaped (m : Morphism) (first second : ℕ) (entry exit : List ℕ) (answer : Escape) : Type 0 where
   pub same-length : length exit ≡ length entry
   pub says : (P P′ : Pairs) → MarkingAt (m .size) P entry first → MarkingAt (m .size) P′ entry second → EscapeAnswer m P P′ exit answer
-  pub marks : (i : ℕ) → i < 8192 → getD exit i 0 ≡ getD entry i 0
-  pub behind : (i : ℕ) → 61440 ≤ i → getD exit i 0 ≡ getD entry i 0
+  pub marks : (i : ℕ) → i < tablesEnd → getD exit i 0 ≡ getD entry i 0
+  pub behind : (i : ℕ) → searchEnd ≤ i → getD exit i 0 ≡ getD entry i 0

@@ -8,6 +8,10 @@ use mark_preimages::list_preimages;
 use mark_search_list::begin;
 use mark_search_list::expand;
 use rule_table::product;
+use scratch::BACKS_BASE;
+use scratch::FRONTS_BASE;
+use scratch::NEXT_PREIMAGES_BASE;
+use scratch::STATES_BASE;
 use sections::zero_part;
 ghost use mathlib.Core.Path.{_≡_};
 ghost use Prim.Native.Nat.{_≤_, _<_};
@@ -16,9 +20,10 @@ ghost use Rattle.rule_table.specs.Table.{Table};
 ghost use Rattle.formats.specs.Table.{morphismAt};
 ghost use Rattle.theory.proofs.Codes.{value-at};
 ghost use Rattle.theory.proofs.Turns.{turned};
-ghost use Rattle.scratch.specs.Map.{pairsFrom};
+ghost use Rattle.scratch.specs.Map.{pairsFrom, secondBase};
 ghost use Rattle.mark_search_list.specs.Steps.{ExpandNeeds, splitMarked, Visited};
 ghost use Rattle.mark_search.specs.Search.{SearchNeeds, RunNeeds, Searching, Searched, AllNeeds, EscapeNeeds, Escaped};
+ghost use Rattle.formats.specs.RuleChecks.{scratchSize};
 
 // The value with number y and then the element x.
 fn turn(rule: &[u8], n: usize, k: usize, x: usize, y: usize) -> usize
@@ -45,7 +50,7 @@ fn split_marked(
 ) -> bool
     requires { ⌜ Table (now rule) n k ⌝ }
     requires { ⌜ (s < n) × (x < n) × (y ≤ n) ⌝ }
-    requires { ⌜ (second ≤ 4096) × (65536 ≤ length (now scratch)) ⌝ }
+    requires { ⌜ (second ≤ secondBase) × (scratchSize ≤ length (now scratch)) ⌝ }
     ensures { λ r. ⌜ r ≡ splitMarked (morphismAt (now (rule .entry)) n k) (pairsFrom (now (scratch .entry)) second) s x y ⌝ }
 {
     let turned = turn(rule, n, k, x, y);
@@ -67,11 +72,11 @@ fn visit(
 ) -> usize
     requires { ⌜ Table (now rule) n k ⌝ }
     requires { ⌜ ExpandNeeds (morphismAt (now rule) n k) s (now scratch) count from ⌝ }
-    requires { ⌜ second ≤ 4096 ⌝ }
+    requires { ⌜ second ≤ secondBase ⌝ }
     ensures { λ r. ⌜ Visited (morphismAt (now (rule .entry)) n k) (pairsFrom (now (scratch .entry)) second) s (now (scratch .entry)) count from (now (scratch .exit)) r ⌝ }
 {
-    let x = scratch[8192 + from] as usize;
-    let y = scratch[16384 + from] as usize;
+    let x = scratch[FRONTS_BASE + from] as usize;
+    let y = scratch[BACKS_BASE + from] as usize;
     if split_marked(rule, n, k, scratch, second, s, x, y) {
         return count;
     }
@@ -103,7 +108,7 @@ fn run(
     let mut count = begun;
     let mut at = 0;
     while at < count {
-        let x = scratch[8192 + at] as usize;
+        let x = scratch[FRONTS_BASE + at] as usize;
         if x == n {
             return Ended::At(at);
         }
@@ -176,7 +181,7 @@ pub fn first_escape(
     requires { ⌜ EscapeNeeds (morphismAt (now rule) n k) first second (now scratch) ⌝ }
     ensures { λ r. ⌜ Escaped (morphismAt (now (rule .entry)) n k) first second (now (scratch .entry)) (now (scratch .exit)) r ⌝ }
 {
-    zero_part(scratch, 49152, 59392);
+    zero_part(scratch, STATES_BASE, NEXT_PREIMAGES_BASE);
     list_preimages(rule, n, k, scratch);
     search_all(rule, n, k, scratch, first, second)
 }

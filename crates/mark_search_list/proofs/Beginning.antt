@@ -15,9 +15,10 @@ use Rattle.scratch.specs.Map.{pairsFrom}
 use Rattle.mark_search_list.specs.Queue.{frontAt, backAt, seenAt, Queue, HasState, Kept, Grown}
 use Rattle.mark_search_list.specs.Steps.{AddNeeds, Added, BeginNeeds, BegunWith, Begun}
 use Rattle.mark_search_list.proofs.Growth.{grown-refl, grown-trans, state-grown}
+use Rattle.formats.specs.RuleChecks.{scratchSize}
 
 -- a worklist with no entry: no state was found for s yet
-pub queue-none : {n s : ℕ} {scratch : List ℕ} → n ≤ 64 → s < n → 65536 ≤ length scratch → ((c : ℕ) → c < 4225 → seenAt scratch c ≤ s) → Queue n s scratch 0
+pub queue-none : {n s : ℕ} {scratch : List ℕ} → n ≤ 64 → s < n → scratchSize ≤ length scratch → ((c : ℕ) → c < 4225 → seenAt scratch c ≤ s) → Queue n s scratch 0
 queue-none small hs room unseen = record {
   small = small;
   start-inside = hs;

@@ -5,22 +5,24 @@ use mathlib.Core.Path.{_≡_}
 use mathlib.Core.List.{List}
 use lib.ListN.{length, getD}
 use Rattle.finite.proofs.Worklist.{Entry}
+use Rattle.scratch.specs.Map.{backsBase, firstPreimagesBase, frontsBase, lettersBase, parentsHighBase, parentsLowBase, statesBase, tablesEnd}
+use Rattle.formats.specs.RuleChecks.{scratchSize}
 
 -- the value in front of an entry
 unfoldable pub frontAt : List ℕ → ℕ → ℕ
-frontAt scratch i = getD scratch (8192 + i) 0
+frontAt scratch i = getD scratch (frontsBase + i) 0
 
 -- and the one behind
 unfoldable pub backAt : List ℕ → ℕ → ℕ
-backAt scratch i = getD scratch (16384 + i) 0
+backAt scratch i = getD scratch (backsBase + i) 0
 
 -- the letter that the entry was found by
 unfoldable pub letterAt : List ℕ → ℕ → ℕ
-letterAt scratch i = getD scratch (24576 + i) 0
+letterAt scratch i = getD scratch (lettersBase + i) 0
 
 -- the entry that it was found from
 unfoldable pub parentAt : List ℕ → ℕ → ℕ
-parentAt scratch i = getD scratch (32768 + i) 0 + 256 * getD scratch (40960 + i) 0
+parentAt scratch i = getD scratch (parentsLowBase + i) 0 + 256 * getD scratch (parentsHighBase + i) 0
 
 -- the number of a state
 unfoldable pub stateCode : ℕ → ℕ → ℕ
@@ -31,13 +33,13 @@ codeAt scratch i = stateCode (frontAt scratch i) (backAt scratch i)
 
 -- one more than the start value for which the state with this number was last found
 unfoldable pub seenAt : List ℕ → ℕ → ℕ
-seenAt scratch c = getD scratch (49152 + c) 0
+seenAt scratch c = getD scratch (statesBase + c) 0
 
 -- count different states, found for the start value s; a state is one of them exactly if its byte says so
 pub record Queue (n s : ℕ) (scratch : List ℕ) (count : ℕ) : Type 0 where
   pub small : n ≤ 64
   pub start-inside : s < n
-  pub room : 65536 ≤ length scratch
+  pub room : scratchSize ≤ length scratch
   pub front-inside : (i : ℕ) → i < count → frontAt scratch i ≤ n
   pub back-inside : (i : ℕ) → i < count → backAt scratch i ≤ n
   pub apart : (i j : ℕ) → i < j → j < count → codeAt scratch i ≡ codeAt scratch j → ⊥
@@ -55,8 +57,8 @@ pub record HasState (scratch : List ℕ) (count x y : ℕ) : Type 0 where
 -- only the worklist and the bytes of the states may differ
 pub record Kept (entry exit : List ℕ) : Type 0 where
   pub same-length : length exit ≡ length entry
-  pub marks : (i : ℕ) → i < 8192 → getD exit i 0 ≡ getD entry i 0
-  pub lists : (i : ℕ) → 57344 ≤ i → getD exit i 0 ≡ getD entry i 0
+  pub marks : (i : ℕ) → i < tablesEnd → getD exit i 0 ≡ getD entry i 0
+  pub lists : (i : ℕ) → firstPreimagesBase ≤ i → getD exit i 0 ≡ getD entry i 0
 
 -- an entry is as it was
 pub record SameEntry (entry exit : List ℕ) (i : ℕ) : Type 0 where

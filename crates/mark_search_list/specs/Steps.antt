@@ -10,10 +10,12 @@ use Rattle.theory.proofs.Codes.{value-at}
 use Rattle.theory.proofs.Splits.{turn-square}
 use Rattle.scratch.specs.Preimages.{afterLetter, Preimages}
 use Rattle.mark_search_list.specs.Queue.{frontAt, backAt, letterAt, parentAt, seenAt, stateCode, Queue, HasState, Kept, SameEntry, Grown}
+use Rattle.scratch.specs.Map.{backsBase, frontsBase, lettersBase, parentsHighBase, parentsLowBase, secondBase}
+use Rattle.formats.specs.RuleChecks.{scratchSize}
 
 -- room for one entry more, and every number to store fits its bytes
 pub record StoreNeeds (scratch : List ℕ) (count x y from letter : ℕ) : Type 0 where
-  pub room : 65536 ≤ length scratch
+  pub room : scratchSize ≤ length scratch
   pub few : count < 4225
   pub front-small : x ≤ 64
   pub back-small : y ≤ 64
@@ -28,8 +30,8 @@ pub record Stored (entry exit : List ℕ) (count x y from letter : ℕ) : Type 0
   pub the-letter : letterAt exit count ≡ letter
   pub the-parent : parentAt exit count ≡ from
   pub others : (i : ℕ) → i < 4225 → (i ≡ count → ⊥) → SameEntry entry exit i
-  pub outside : (i : ℕ) → (i ≡ 8192 + count → ⊥) → (i ≡ 16384 + count → ⊥) → (i ≡ 24576 + count → ⊥) → (i ≡ 32768 + count → ⊥)
-      → (i ≡ 40960 + count → ⊥) → getD exit i 0 ≡ getD entry i 0
+  pub outside : (i : ℕ) → (i ≡ frontsBase + count → ⊥) → (i ≡ backsBase + count → ⊥) → (i ≡ lettersBase + count → ⊥) → (i ≡ parentsLowBase + count → ⊥)
+      → (i ≡ parentsHighBase + count → ⊥) → getD exit i 0 ≡ getD entry i 0
 
 -- a state of n elements that may be added
 pub record AddNeeds (n s : ℕ) (scratch : List ℕ) (count x y from letter : ℕ) : Type 0 where
@@ -55,7 +57,7 @@ pub record Added (n s : ℕ) (entry : List ℕ) (count x y from letter : ℕ) (e
 -- a table of marks that begins at a byte in front of the worklist
 pub record BeginNeeds (n s : ℕ) (scratch : List ℕ) (first count : ℕ) : Type 0 where
   pub queue : Queue n s scratch count
-  pub base : first ≤ 4096
+  pub base : first ≤ secondBase
 
 -- the state (e, none) is an entry where the pair (s, e) is marked, and no other was added
 pub record BegunWith (n s : ℕ) (P : Pairs) (e : ℕ) (entry : List ℕ) (count : ℕ) (exit : List ℕ) (total : ℕ) : Type 0 where

@@ -3,6 +3,14 @@
 // letter hands a state over from the front to the back. Where all of it stands in scratch is said in scratch/specs/Map.
 use rule_table::image;
 use rule_table::product;
+use scratch::BACKS_BASE;
+use scratch::FIRST_PREIMAGES_BASE;
+use scratch::FRONTS_BASE;
+use scratch::LETTERS_BASE;
+use scratch::NEXT_PREIMAGES_BASE;
+use scratch::PARENTS_HIGH_BASE;
+use scratch::PARENTS_LOW_BASE;
+use scratch::STATES_BASE;
 ghost use mathlib.Core.Path.{_≡_};
 ghost use Prim.Native.Nat.{_≤_, _<_};
 ghost use Rattle.rule_table.specs.Table.{Table};
@@ -15,11 +23,11 @@ pub fn store(scratch: &mut [u8], count: usize, x: usize, y: usize, from: usize, 
     requires { ⌜ StoreNeeds (now scratch) count x y from letter ⌝ }
     ensures { λ r. ⌜ Stored (now (scratch .entry)) (now (scratch .exit)) count x y from letter ⌝ }
 {
-    scratch[8192 + count] = x as u8;
-    scratch[16384 + count] = y as u8;
-    scratch[24576 + count] = letter as u8;
-    scratch[32768 + count] = (from % 256) as u8;
-    scratch[40960 + count] = (from / 256) as u8;
+    scratch[FRONTS_BASE + count] = x as u8;
+    scratch[BACKS_BASE + count] = y as u8;
+    scratch[LETTERS_BASE + count] = letter as u8;
+    scratch[PARENTS_LOW_BASE + count] = (from % 256) as u8;
+    scratch[PARENTS_HIGH_BASE + count] = (from / 256) as u8;
 }
 
 // Adds a state that was found from an entry by a letter, unless it is there.
@@ -36,7 +44,7 @@ pub fn add(
     requires { ⌜ AddNeeds n s (now scratch) count x y from letter ⌝ }
     ensures { λ r. ⌜ Added n s (now (scratch .entry)) count x y from letter (now (scratch .exit)) r ⌝ }
 {
-    let place = 49152 + (x * 65 + y);
+    let place = STATES_BASE + (x * 65 + y);
     let seen = scratch[place] as usize;
     if seen == s + 1 {
         return count;
@@ -107,15 +115,15 @@ pub fn take_letter(
     requires { ⌜ a < k ⌝ }
     ensures { λ r. ⌜ Taken (morphismAt (now (rule .entry)) n k) s (now (scratch .entry)) count from a (now (scratch .exit)) r ⌝ }
 {
-    let x = scratch[8192 + from] as usize;
-    let y = scratch[16384 + from] as usize;
+    let x = scratch[FRONTS_BASE + from] as usize;
+    let y = scratch[BACKS_BASE + from] as usize;
     let back = back_with(rule, n, k, a, y);
     let mut total = count;
-    let mut rest = scratch[57344 + (a * 65 + x)] as usize;
+    let mut rest = scratch[FIRST_PREIMAGES_BASE + (a * 65 + x)] as usize;
     while 0 < rest {
         let c = rest - 1;
         total = add(scratch, n, s, total, c, back, from, a);
-        rest = scratch[59392 + (a * 65 + c)] as usize;
+        rest = scratch[NEXT_PREIMAGES_BASE + (a * 65 + c)] as usize;
     }
     total
 }

@@ -26,6 +26,7 @@ use Rattle.mark_search.specs.Search.{MarkingAt}
 use Rattle.mark_strong.specs.Deciding.{DecideNeeds, StrongIf, Decided}
 use Rattle.promises.specs.Strong.{StrongPromise}
 use Rattle.promises.specs.declared.Strength.the-variants.{Strong as Is-strong, Weak, Refused}
+use Rattle.formats.specs.RuleChecks.{scratchSize}
 
 module _ (input : ℕ) (bytes entry : List ℕ) {shape : Shape} {mid : List ℕ} (p : CheckPromise input bytes entry mid (Rule shape)) where
   good : GoodRule bytes
@@ -51,7 +52,7 @@ module _ (input : ℕ) (bytes entry : List ℕ) {shape : Shape} {mid : List ℕ}
         (sym (ap (λ (x : ℕ). getD mid x 0) (let z : 0 + (s * 64 + e) ≡ s * 64 + e = omega arith in z) ∙ p .scratch .mark s e (omega (arith, p .scratch .shape-is .elements)) (omega (arith, p .scratch .shape-is .elements))));
   }
 
-  pub checked-room : 65536 ≤ length mid
+  pub checked-room : scratchSize ≤ length mid
   checked-room = omega (arith, scratch-long input bytes entry (p .refusal), checked-length (p .scratch))
 
   pub decide-place : DecideNeeds (morphismAt bytes (shape .elements) (shape .letters)) mid

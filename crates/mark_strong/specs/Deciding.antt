@@ -8,15 +8,16 @@ use Rattle.theory.specs.Rules.{Morphism, Lawful, Pairs, AllReached}
 use Rattle.theory.specs.Acceptance.{Strong}
 use Rattle.theory.specs.Pairs.{LinkedOnly}
 use Rattle.theory.proofs.Closure.{closure-test}
-use Rattle.scratch.specs.Map.{pairsFrom}
+use Rattle.scratch.specs.Map.{pairsFrom, searchEnd, secondBase}
 use Rattle.mark_search.specs.Search.{MarkingAt}
+use Rattle.formats.specs.RuleChecks.{scratchSize}
 
 -- the marks of a good rule, whatever stands behind them
 pub record DecideNeeds (m : Morphism) (scratch : List ℕ) : Type 0 where
   pub lawful : Lawful m
   pub reached : AllReached m
   pub linked : LinkedOnly m (pairsFrom scratch 0)
-  pub room : 65536 ≤ length scratch
+  pub room : scratchSize ≤ length scratch
 
 -- yes exactly if strong
 abbrev pub StrongIf : Morphism → Pairs → Bool → Type 0
@@ -27,6 +28,6 @@ StrongIf m P false = Strong m P → ⊥
 pub record Decided (m : Morphism) (entry exit : List ℕ) (answer : Bool) : Type 0 where
   pub same-length : length exit ≡ length entry
   pub decision : (P : Pairs) → LinkedOnly m P → MarkingAt (m .size) P entry 0 → StrongIf m P answer
-  pub closure : (P : Pairs) → LinkedOnly m P → MarkingAt (m .size) P entry 0 → MarkingAt (m .size) (closure-test m P) exit 4096
-  pub marks : (i : ℕ) → i < 4096 → getD exit i 0 ≡ getD entry i 0
-  pub behind : (i : ℕ) → 61440 ≤ i → getD exit i 0 ≡ getD entry i 0
+  pub closure : (P : Pairs) → LinkedOnly m P → MarkingAt (m .size) P entry 0 → MarkingAt (m .size) (closure-test m P) exit secondBase
+  pub marks : (i : ℕ) → i < secondBase → getD exit i 0 ≡ getD entry i 0
+  pub behind : (i : ℕ) → searchEnd ≤ i → getD exit i 0 ≡ getD entry i 0

@@ -7,6 +7,8 @@ use mark_search::first_escape;
 use promises::Strength;
 use rule_check::Checked;
 use rule_check::check;
+use scratch::SECOND_BASE;
+use scratch::TABLES_END;
 use sections::zero;
 use sections::zero_part;
 ghost use Rattle.rule_table.specs.Table.{Table};
@@ -20,12 +22,12 @@ pub fn decide(rule: &[u8], n: usize, k: usize, scratch: &mut [u8]) -> bool
     requires { ⌜ DecideNeeds (morphismAt (now rule) n k) (now scratch) ⌝ }
     ensures { λ r. ⌜ Decided (morphismAt (now (rule .entry)) n k) (now (scratch .entry)) (now (scratch .exit)) r ⌝ }
 {
-    zero_part(scratch, 4096, 8192);
+    zero_part(scratch, SECOND_BASE, TABLES_END);
     let closed = close(rule, n, k, scratch);
     if closed {
         return true;
     }
-    match first_escape(rule, n, k, scratch, 4096, 0) {
+    match first_escape(rule, n, k, scratch, SECOND_BASE, 0) {
         Escape::At { start: _, entry: _ } => false,
         Escape::Nothing => true,
     }

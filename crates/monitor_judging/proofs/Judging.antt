@@ -19,6 +19,7 @@ use Rattle.mark_strong.specs.Deciding.{DecideNeeds, StrongIf, Decided}
 use Rattle.promises.specs.declared.MonitorVerdict.the-variants.{Accepted, NotAccepted, Refused}
 use Rattle.promises.specs.Verdict.{LassoWith, LassosAccepted, LassosNotAccepted}
 use Rattle.monitor_judging.specs.Judges.{Judges}
+use Rattle.formats.specs.RuleChecks.{scratchSize}
 
 module _ {m : Morphism} (law : Lawful m) (reached : AllReached m) {before since : ℕ} (hb : before < m .size) (hs : since < m .size)
     {P : Pairs} (linked : LinkedOnly m P) (strong : Strong m P) where
@@ -46,7 +47,7 @@ module _ {m : Morphism} (law : Lawful m) (reached : AllReached m) {before since 
 module _ {m : Morphism} {entry : List ℕ} (place : DecideNeeds m entry) {before since : ℕ} (hb : before < m .size) (hs : since < m .size)
     {mid : List ℕ} {strong : Bool} (d : Decided m entry mid strong) where
   -- the room that the look asks for
-  pub look-room : 65536 ≤ length mid
+  pub look-room : scratchSize ≤ length mid
   look-room = omega (arith, place .room, d .same-length)
 
   -- where zeros are left over what the decision left

@@ -5,6 +5,7 @@ use promises::MonitorVerdict;
 use rule_table::Power;
 use rule_table::idempotent_power;
 use rule_table::product;
+use scratch::SECOND_BASE;
 use sections::zero;
 ghost use mathlib.Core.Path.{_≡_};
 ghost use Prim.Native.Nat.{_≤_, _<_};
@@ -13,9 +14,10 @@ ghost use Rattle.theory.specs.Rules.{Lawful};
 ghost use Rattle.theory.proofs.Strength.{settled-start, settled-cycle};
 ghost use Rattle.rule_table.specs.Table.{Table};
 ghost use Rattle.formats.specs.Table.{morphismAt};
-ghost use Rattle.scratch.specs.Map.{pairsFrom};
+ghost use Rattle.scratch.specs.Map.{pairsFrom, secondBase};
 ghost use Rattle.mark_strong.specs.Deciding.{DecideNeeds};
 ghost use Rattle.monitor_judging.specs.Judges.{Judges};
+ghost use Rattle.formats.specs.RuleChecks.{scratchSize};
 
 // Whether the table of marks from 4096 has the pair (before·f, f), f the idempotent power of since: the values of the same endless
 // words written with more turns in their start and their cycle.
@@ -30,8 +32,8 @@ pub fn accepted_values(
     requires { ⌜ Table (now rule) n k ⌝ }
     requires { ⌜ Lawful (morphismAt (now rule) n k) ⌝ }
     requires { ⌜ (before < n) × (since < n) ⌝ }
-    requires { ⌜ 65536 ≤ length (now scratch) ⌝ }
-    ensures { λ r. ⌜ r ≡ pairsFrom (now (scratch .entry)) 4096 (settled-start (morphismAt (now (rule .entry)) n k) before since) (settled-cycle (morphismAt (now (rule .entry)) n k) since) ⌝ }
+    requires { ⌜ scratchSize ≤ length (now scratch) ⌝ }
+    ensures { λ r. ⌜ r ≡ pairsFrom (now (scratch .entry)) secondBase (settled-start (morphismAt (now (rule .entry)) n k) before since) (settled-cycle (morphismAt (now (rule .entry)) n k) since) ⌝ }
 {
     let f = match idempotent_power(rule, n, k, since) {
         Power::Idempotent {
@@ -43,7 +45,7 @@ pub fn accepted_values(
         }
     };
     let s = product(rule, n, before, f);
-    0 < scratch[4096 + (s * 64 + f)]
+    0 < scratch[SECOND_BASE + (s * 64 + f)]
 }
 
 // Judges two elements by the marks in scratch: the marks must be strong, and then their closure decides. Scratch ends as zeros.

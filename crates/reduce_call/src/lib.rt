@@ -3,6 +3,7 @@
 // are accepted. All stands in one lent slice, as reduce_table/specs/Layout
 // says.
 use answer::Refusal;
+use formats::RULE_SIZE;
 use mark_strong::decide;
 use promises::Reduced;
 use reduce_numbering::number_blocks;
@@ -33,7 +34,7 @@ fn write_reduced(rule: &[u8], n: usize, k: usize, scratch: &mut [u8], out: &mut 
 pub fn reduce(rule: &[u8], out: &mut [u8], scratch: &mut [u8]) -> Reduced
     ensures { λ r. ⌜ ReducePromise (now (rule .entry)) (now (out .entry)) (now (out .exit)) (now (scratch .entry)) (now (scratch .exit)) r ⌝ }
 {
-    if out.len() < 12308 {
+    if out.len() < RULE_SIZE {
         return Reduced::Refused {
             refusal: Refusal::BufferTooShort,
             input: 1,

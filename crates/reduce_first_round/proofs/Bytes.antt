@@ -6,6 +6,7 @@ use native.Mathlib.Omega.{arith}
 use lib.ListN.{length, set, length-set}
 use lib.Seq.{getD-set-other}
 use Rattle.reduce_first_round.specs.Map.{KeptOutside}
+use Rattle.formats.specs.RuleChecks.{scratchSize}
 
 -- nothing changed
 pub kept-none : (from to : ℕ) (l : List ℕ) → KeptOutside from to l l
@@ -36,5 +37,5 @@ kept-set l at v g h = record {
 }
 
 -- room stays room
-pub kept-room : {from to : ℕ} {l now : List ℕ} → KeptOutside from to l now → 65536 ≤ length l → 65536 ≤ length now
+pub kept-room : {from to : ℕ} {l now : List ℕ} → KeptOutside from to l now → scratchSize ≤ length l → scratchSize ≤ length now
 kept-room k h = omega (arith, k .same-length)

@@ -27,6 +27,7 @@ use Rattle.scratch.specs.Map.{pairsFrom}
 use Rattle.reduce_first_round.specs.Map.{outcomeOf, outcomeAt, KeptOutside}
 use Rattle.reduce_first_round.specs.Steps.{ColumnWritten, OutcomesWritten}
 use Rattle.reduce_first_round.proofs.Bytes.{kept-none, kept-both, kept-set}
+use Rattle.formats.specs.RuleChecks.{scratchSize}
 
 -- what the search for the idempotent power answered, by its case
 module _ (bytes : List ℕ) (n k z : ℕ) (a : Power) (answer : PowerAnswer bytes n k z a) (law : Lawful (morphismAt bytes n k)) (hz : z < n) where
@@ -78,7 +79,7 @@ module _ {m : Morphism} (law : Lawful m) (small : m .size ≤ 64) where
   column-none z l = record { column = λ s h. absurd (omega arith); others = λ s y h f. refl; kept = kept-none 8192 12288 l }
 
   -- one outcome more of a column
-  pub column-more : {z s f found : ℕ} {entry now : List ℕ} → z < m .size → s < m .size → 65536 ≤ length entry → f ≡ settled-cycle m z
+  pub column-more : {z s f found : ℕ} {entry now : List ℕ} → z < m .size → s < m .size → scratchSize ≤ length entry → f ≡ settled-cycle m z
       → found ≡ bit (pairsFrom now 4096 (m .product s f) f) → ColumnWritten m z s entry now
       → ColumnWritten m z (s + 1) entry (set now (8192 + (s * 64 + z)) found)
   unfolding outcomeAt outcomeOf

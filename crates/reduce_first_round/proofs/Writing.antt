@@ -12,8 +12,9 @@ use Rattle.reduce_first_round.proofs.OutcomeBytes.{outcome-below}
 use Rattle.reduce_first_round.proofs.Comparing.{same-outcomes-carry}
 use Rattle.reduce_first_round.proofs.BlockBytes.{least-carry, written-more}
 use Rattle.reduce_first_round.proofs.Products.{still-carry}
+use Rattle.formats.specs.RuleChecks.{scratchSize}
 
-module _ {m : Morphism} (small : m .size ≤ 64) {entry now : List ℕ} (room : 65536 ≤ length entry) {s r : ℕ} (hs : s < m .size) where
+module _ {m : Morphism} (small : m .size ≤ 64) {entry now : List ℕ} (room : scratchSize ≤ length entry) {s r : ℕ} (hs : s < m .size) where
   -- of round 0
   pub first-more : BlocksWritten s (Together m (outcomeAt entry) 0) 12288 entry now → LeastRelated (SameOutcomes m (outcomeAt now)) s r
       → BlocksWritten (s + 1) (Together m (outcomeAt entry) 0) 12288 entry (set now (12288 + s) r)

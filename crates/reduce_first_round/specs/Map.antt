@@ -11,20 +11,20 @@ use lib.ListN.{length, getD}
 use Rattle.finite.proofs.Search.{bit}
 use Rattle.theory.specs.Rules.{Morphism}
 use Rattle.theory.proofs.Strength.{settled-start, settled-cycle}
-use Rattle.scratch.specs.Map.{pairsFrom}
+use Rattle.scratch.specs.Map.{pairsFrom, blocksBase, outcomesBase, secondBase}
 
 -- what lassos with the values (s, z) come to, by a table of marks from 4096 on: 1 if it has the pair (s·f, f), f the
 -- idempotent power of z, else 0
 unfoldable pub outcomeOf : Morphism → List ℕ → ℕ → ℕ → ℕ
-outcomeOf m scratch s z = bit (pairsFrom scratch 4096 (settled-start m s z) (settled-cycle m z))
+outcomeOf m scratch s z = bit (pairsFrom scratch secondBase (settled-start m s z) (settled-cycle m z))
 
 -- the byte of the outcome of (s, z)
 unfoldable pub outcomeAt : List ℕ → ℕ → ℕ → ℕ
-outcomeAt scratch s z = getD scratch (8192 + (s * 64 + z)) 0
+outcomeAt scratch s z = getD scratch (outcomesBase + (s * 64 + z)) 0
 
 -- s and t have the same byte from 12288 on
 unfoldable pub InOneBlock : List ℕ → ℕ → ℕ → Type 0
-InOneBlock scratch s t = getD scratch (12288 + s) 0 ≡ getD scratch (12288 + t) 0
+InOneBlock scratch s t = getD scratch (blocksBase + s) 0 ≡ getD scratch (blocksBase + t) 0
 
 -- the bytes from a base on have for each of n elements the least that is related to it
 pub record BlocksAt (n : ℕ) (R : ℕ → ℕ → Type 0) (scratch : List ℕ) (base : ℕ) : Type 0 where

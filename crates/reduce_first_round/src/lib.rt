@@ -3,6 +3,9 @@
 use rule_table::Power;
 use rule_table::idempotent_power;
 use rule_table::product;
+use scratch::BLOCKS_BASE;
+use scratch::OUTCOMES_BASE;
+use scratch::SECOND_BASE;
 ghost use mathlib.Core.Path.{_≡_};
 ghost use Prim.Native.Nat.{_≤_, _<_};
 ghost use lib.ListN.{length};
@@ -11,10 +14,11 @@ ghost use Rattle.theory.specs.Rules.{Lawful};
 ghost use Rattle.theory.proofs.Strength.{settled-cycle};
 ghost use Rattle.rule_table.specs.Table.{Table};
 ghost use Rattle.formats.specs.Table.{productAt, morphismAt};
-ghost use Rattle.scratch.specs.Map.{pairsFrom};
+ghost use Rattle.scratch.specs.Map.{pairsFrom, blocksBase, secondBase};
 ghost use Rattle.minimality.specs.Rounds.{SameOutcomes, Together};
 ghost use Rattle.reduce_first_round.specs.Map.{outcomeAt};
 ghost use Rattle.reduce_first_round.specs.Steps.{Tells, LeastRelated, ColumnWritten, OutcomesWritten, BlocksWritten};
+ghost use Rattle.formats.specs.RuleChecks.{scratchSize};
 
 // The idempotent power of an element of a lawful table.
 pub fn idempotent_power_of(rule: &[u8], n: usize, k: usize, z: usize) -> usize
@@ -40,11 +44,11 @@ pub fn idempotent_power_of(rule: &[u8], n: usize, k: usize, z: usize) -> usize
 pub fn outcome(rule: &[u8], n: usize, k: usize, scratch: &[u8], s: usize, f: usize) -> u8
     requires { ⌜ Table (now rule) n k ⌝ }
     requires { ⌜ (s < n) × (f < n) ⌝ }
-    requires { ⌜ 65536 ≤ length (now scratch) ⌝ }
-    ensures { λ r. ⌜ r ≡ bit (pairsFrom (now (scratch .entry)) 4096 (productAt (now (rule .entry)) n s f) f) ⌝ }
+    requires { ⌜ scratchSize ≤ length (now scratch) ⌝ }
+    ensures { λ r. ⌜ r ≡ bit (pairsFrom (now (scratch .entry)) secondBase (productAt (now (rule .entry)) n s f) f) ⌝ }
 {
     let t = product(rule, n, s, f);
-    if 0 < scratch[4096 + (t * 64 + f)] {
+    if 0 < scratch[SECOND_BASE + (t * 64 + f)] {
         return 1;
     }
     0
@@ -55,13 +59,13 @@ pub fn outcome_column(rule: &[u8], n: usize, k: usize, scratch: &mut [u8], z: us
     requires { ⌜ Table (now rule) n k ⌝ }
     requires { ⌜ Lawful (morphismAt (now rule) n k) ⌝ }
     requires { ⌜ z < n ⌝ }
-    requires { ⌜ 65536 ≤ length (now scratch) ⌝ }
+    requires { ⌜ scratchSize ≤ length (now scratch) ⌝ }
     ensures { λ r. ⌜ ColumnWritten (morphismAt (now (rule .entry)) n k) z n (now (scratch .entry)) (now (scratch .exit)) ⌝ }
 {
     let f = idempotent_power_of(rule, n, k, z);
     for s in 0..n {
         let found = outcome(rule, n, k, scratch, s, f);
-        scratch[8192 + (s * 64 + z)] = found;
+        scratch[OUTCOMES_BASE + (s * 64 + z)] = found;
     }
 }
 
@@ -69,7 +73,7 @@ pub fn outcome_column(rule: &[u8], n: usize, k: usize, scratch: &mut [u8], z: us
 pub fn outcomes(rule: &[u8], n: usize, k: usize, scratch: &mut [u8])
     requires { ⌜ Table (now rule) n k ⌝ }
     requires { ⌜ Lawful (morphismAt (now rule) n k) ⌝ }
-    requires { ⌜ 65536 ≤ length (now scratch) ⌝ }
+    requires { ⌜ scratchSize ≤ length (now scratch) ⌝ }
     ensures { λ r. ⌜ OutcomesWritten (morphismAt (now (rule .entry)) n k) n (now (scratch .entry)) (now (scratch .exit)) ⌝ }
 {
     for z in 0..n {
@@ -80,17 +84,17 @@ pub fn outcomes(rule: &[u8], n: usize, k: usize, scratch: &mut [u8])
 // The outcome of the values (s, z), read.
 pub fn outcome_at(scratch: &[u8], s: usize, z: usize) -> u8
     requires { ⌜ (s < 64) × (z < 64) ⌝ }
-    requires { ⌜ 65536 ≤ length (now scratch) ⌝ }
+    requires { ⌜ scratchSize ≤ length (now scratch) ⌝ }
     ensures { λ r. ⌜ r ≡ outcomeAt (now (scratch .entry)) s z ⌝ }
 {
-    scratch[8192 + (s * 64 + z)]
+    scratch[OUTCOMES_BASE + (s * 64 + z)]
 }
 
 // Whether two elements have the same outcomes, as start and as cycle.
 pub fn same_outcomes(rule: &[u8], n: usize, k: usize, scratch: &[u8], s: usize, t: usize) -> bool
     requires { ⌜ Table (now rule) n k ⌝ }
     requires { ⌜ (s < n) × (t < n) ⌝ }
-    requires { ⌜ 65536 ≤ length (now scratch) ⌝ }
+    requires { ⌜ scratchSize ≤ length (now scratch) ⌝ }
     ensures { λ r. ⌜ Tells (SameOutcomes (morphismAt (now (rule .entry)) n k) (outcomeAt (now (scratch .entry))) s t) r ⌝ }
 {
     for z in 0..n {
@@ -108,7 +112,7 @@ pub fn same_outcomes(rule: &[u8], n: usize, k: usize, scratch: &[u8], s: usize, 
 pub fn first_alike(rule: &[u8], n: usize, k: usize, scratch: &[u8], s: usize) -> usize
     requires { ⌜ Table (now rule) n k ⌝ }
     requires { ⌜ s < n ⌝ }
-    requires { ⌜ 65536 ≤ length (now scratch) ⌝ }
+    requires { ⌜ scratchSize ≤ length (now scratch) ⌝ }
     ensures { λ r. ⌜ LeastRelated (SameOutcomes (morphismAt (now (rule .entry)) n k) (outcomeAt (now (scratch .entry)))) s r ⌝ }
 {
     for t in 0..s {
@@ -122,11 +126,11 @@ pub fn first_alike(rule: &[u8], n: usize, k: usize, scratch: &[u8], s: usize) ->
 // The blocks of round 0.
 pub fn first_blocks(rule: &[u8], n: usize, k: usize, scratch: &mut [u8])
     requires { ⌜ Table (now rule) n k ⌝ }
-    requires { ⌜ 65536 ≤ length (now scratch) ⌝ }
-    ensures { λ r. ⌜ BlocksWritten n (Together (morphismAt (now (rule .entry)) n k) (outcomeAt (now (scratch .entry))) 0) 12288 (now (scratch .entry)) (now (scratch .exit)) ⌝ }
+    requires { ⌜ scratchSize ≤ length (now scratch) ⌝ }
+    ensures { λ r. ⌜ BlocksWritten n (Together (morphismAt (now (rule .entry)) n k) (outcomeAt (now (scratch .entry))) 0) blocksBase (now (scratch .entry)) (now (scratch .exit)) ⌝ }
 {
     for s in 0..n {
         let t = first_alike(rule, n, k, scratch, s);
-        scratch[12288 + s] = t as u8;
+        scratch[BLOCKS_BASE + s] = t as u8;
     }
 }

@@ -1,9 +1,14 @@
 // The rule of the blocks, its marks: every linked pair of blocks whose leaders' outcome is not 0. All stands in one lent slice, as
 // reduce_table/specs/Layout says.
 use rule_table::product;
+use scratch::LAID_MARKS_BASE;
+use scratch::LAID_PRODUCTS_BASE;
+use scratch::LEADERS_BASE;
+use scratch::OUTCOMES_BASE;
 ghost use mathlib.Core.Path.{_≡_};
 ghost use Prim.Native.Nat.{_+_, _*_, _<_};
 ghost use Rattle.reduce_table.specs.Layout.{BlocksNeeds, laidProduct, blockOutcome, blockMark, Filled, Grid};
+ghost use Rattle.scratch.specs.Map.{laidMarksBase};
 
 // The product of two blocks, read.
 pub fn laid_product(c: usize, scratch: &[u8], i: usize, j: usize) -> usize
@@ -11,7 +16,7 @@ pub fn laid_product(c: usize, scratch: &[u8], i: usize, j: usize) -> usize
     requires { ⌜ (i < c) × (j < c) ⌝ }
     ensures { λ r. ⌜ r ≡ laidProduct c (now (scratch .entry)) i j ⌝ }
 {
-    scratch[16384 + (i * c + j)] as usize
+    scratch[LAID_PRODUCTS_BASE + (i * c + j)] as usize
 }
 
 // The outcome of two blocks: that of their leaders.
@@ -20,9 +25,9 @@ pub fn block_outcome(c: usize, scratch: &[u8], i: usize, j: usize) -> u8
     requires { ⌜ (i < c) × (j < c) ⌝ }
     ensures { λ r. ⌜ r ≡ blockOutcome (now (scratch .entry)) i j ⌝ }
 {
-    let a = scratch[12480 + i] as usize;
-    let b = scratch[12480 + j] as usize;
-    scratch[8192 + (a * 64 + b)]
+    let a = scratch[LEADERS_BASE + i] as usize;
+    let b = scratch[LEADERS_BASE + j] as usize;
+    scratch[OUTCOMES_BASE + (a * 64 + b)]
 }
 
 // 1 where the pair of blocks is linked and its lassos are accepted, else 0.
@@ -50,18 +55,18 @@ pub fn mark_byte(c: usize, scratch: &[u8], i: usize, j: usize) -> u8
 pub fn marks_row(c: usize, scratch: &mut [u8], i: usize)
     requires { ⌜ BlocksNeeds 64 c (now scratch) ⌝ }
     requires { ⌜ i < c ⌝ }
-    ensures { λ r. ⌜ Filled (blockMark c (now (scratch .entry)) i) (24576 + i * 64) c (now (scratch .entry)) (now (scratch .exit)) ⌝ }
+    ensures { λ r. ⌜ Filled (blockMark c (now (scratch .entry)) i) (laidMarksBase + i * 64) c (now (scratch .entry)) (now (scratch .exit)) ⌝ }
 {
     for j in 0..c {
         let byte = mark_byte(c, scratch, i, j);
-        scratch[24576 + (i * 64 + j)] = byte;
+        scratch[LAID_MARKS_BASE + (i * 64 + j)] = byte;
     }
 }
 
 // The marks of all pairs of blocks.
 pub fn lay_marks(c: usize, scratch: &mut [u8])
     requires { ⌜ BlocksNeeds 64 c (now scratch) ⌝ }
-    ensures { λ r. ⌜ Grid (blockMark c (now (scratch .entry))) 24576 64 c c (now (scratch .entry)) (now (scratch .exit)) ⌝ }
+    ensures { λ r. ⌜ Grid (blockMark c (now (scratch .entry))) laidMarksBase 64 c c (now (scratch .entry)) (now (scratch .exit)) ⌝ }
 {
     for i in 0..c {
         marks_row(c, scratch, i);

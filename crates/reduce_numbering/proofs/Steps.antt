@@ -10,6 +10,7 @@ use lib.Seq.{getD-set-same, getD-set-other}
 use Rattle.rule_reach.specs.Reach.{placeAt}
 use Rattle.reduce_first_round.proofs.Bytes.{kept-none, kept-both, kept-set}
 use Rattle.reduce_numbering.specs.Steps.{blockAt, numberAt, leaderAt, Sought, Taken, taken-old, taken-new, Entries, Numbered}
+use Rattle.formats.specs.RuleChecks.{scratchSize}
 
 -- the search among the leaders: none of the first j is in one block with s
 pub record NoneSo (scratch : List ℕ) (s j : ℕ) : Type 0 where
@@ -56,7 +57,7 @@ numbered-none queue n l = record {
 
 -- one entry more
 module _ {queue : List ℕ} {n count i c : ℕ} {entry now : List ℕ} (e : Entries queue n count) (hi : i < count)
-    (room : 65536 ≤ length now) (w : Numbered queue n i c entry now) where
+    (room : scratchSize ≤ length now) (w : Numbered queue n i c entry now) where
   -- its element
   abbrev s : ℕ
   s = getD queue i 0

@@ -10,6 +10,7 @@ use Rattle.minimality.specs.Rounds.{Together, Stable}
 use Rattle.minimality.proofs.Quotient.{Numbering}
 use Rattle.reduce_first_round.specs.Map.{BlocksAt, KeptOutside}
 use Rattle.reduce_numbering.specs.Steps.{numberAt, leaderAt}
+use Rattle.scratch.specs.Map.{blocksBase, leadersEnd, numbersBase}
 
 -- a numbering of the blocks whose numbers and leaders are those in scratch
 pub record NumberedAs (m : Morphism) (acc : ℕ → ℕ → ℕ) (c : ℕ) (scratch : List ℕ) : Type 0 where
@@ -35,6 +36,6 @@ pub record WordsInOrder (m : Morphism) (c : ℕ) (scratch : List ℕ) : Type 0 w
 pub record BlocksNumbered (m : Morphism) (c : ℕ) (entry exit : List ℕ) : Type 0 where
   pub some : 1 ≤ c
   pub few : c ≤ m .size
-  pub numbered : (acc : ℕ → ℕ → ℕ) (i : ℕ) → BlocksAt (m .size) (Together m acc i) entry 12288 → Stable m acc i → NumberedAs m acc c exit
+  pub numbered : (acc : ℕ → ℕ → ℕ) (i : ℕ) → BlocksAt (m .size) (Together m acc i) entry blocksBase → Stable m acc i → NumberedAs m acc c exit
   pub in-order : WordsInOrder m c exit
-  pub kept : KeptOutside 12416 12544 entry exit
+  pub kept : KeptOutside numbersBase leadersEnd entry exit

@@ -10,18 +10,19 @@ use mathlib.Core.List.{List}
 use lib.ListN.{length, getD, set}
 use Rattle.rule_reach.specs.Reach.{placeAt, Places}
 use Rattle.reduce_first_round.specs.Map.{KeptOutside}
+use Rattle.scratch.specs.Map.{blocksBase, leadersBase, leadersEnd, numbersBase}
 
 -- the byte of the block of s
 abbrev pub blockAt : List ℕ → ℕ → ℕ
-blockAt scratch s = getD scratch (12288 + s) 0
+blockAt scratch s = getD scratch (blocksBase + s) 0
 
 -- the number of the block of s
 abbrev pub numberAt : List ℕ → ℕ → ℕ
-numberAt scratch s = getD scratch (12416 + s) 0
+numberAt scratch s = getD scratch (numbersBase + s) 0
 
 -- the leader of block j
 abbrev pub leaderAt : List ℕ → ℕ → ℕ
-leaderAt scratch j = getD scratch (12480 + j) 0
+leaderAt scratch j = getD scratch (leadersBase + j) 0
 
 -- r is the first of c blocks whose leader is in one block with s, or c where there is none
 pub record Sought (scratch : List ℕ) (c s r : ℕ) : Type 0 where
@@ -31,8 +32,8 @@ pub record Sought (scratch : List ℕ) (c s r : ℕ) : Type 0 where
 
 -- s has its number: that of a block that had one, or the next, and then s is the leader
 pub data Taken (entry exit : List ℕ) (c s : ℕ) : ℕ → Type 0 where
-  taken-old : (j : ℕ) → j < c → Sought entry c s j → exit ≡ set entry (12416 + s) j → Taken entry exit c s c
-  taken-new : Sought entry c s c → exit ≡ set (set entry (12416 + s) c) (12480 + c) s → Taken entry exit c s (c + 1)
+  taken-old : (j : ℕ) → j < c → Sought entry c s j → exit ≡ set entry (numbersBase + s) j → Taken entry exit c s c
+  taken-new : Sought entry c s c → exit ≡ set (set entry (numbersBase + s) c) (leadersBase + c) s → Taken entry exit c s (c + 1)
 
 -- the entries of a worklist: elements, each once
 pub record Entries (queue : List ℕ) (n count : ℕ) : Type 0 where
@@ -56,4 +57,4 @@ pub record Numbered (queue : List ℕ) (n i c : ℕ) (entry exit : List ℕ) : T
   pub number-below : (t : ℕ) → t < i → numberAt exit (getD queue t 0) < c
   pub number-block : (t : ℕ) → t < i → blockAt entry (leaderAt exit (numberAt exit (getD queue t 0))) ≡ blockAt entry (getD queue t 0)
   pub number-first : (t : ℕ) → t < i → placeAt queue (leaderAt exit (numberAt exit (getD queue t 0))) ≤ t + 1
-  pub kept : KeptOutside 12416 12544 entry exit
+  pub kept : KeptOutside numbersBase leadersEnd entry exit

@@ -1,6 +1,9 @@
 // Numbers the blocks of a rule's elements in the order of the first words of their elements: the elements are gone through in
 // the order in which the search of words finds them, and a block gets the next number when its first element is met.
 use rule_reach::reach;
+use scratch::BLOCKS_BASE;
+use scratch::LEADERS_BASE;
+use scratch::NUMBERS_BASE;
 ghost use Prim.Native.Nat.{_≤_, _<_};
 ghost use lib.ListN.{length};
 ghost use Rattle.theory.specs.Rules.{Lawful, AllReached};
@@ -8,17 +11,18 @@ ghost use Rattle.rule_table.specs.Table.{Table};
 ghost use Rattle.formats.specs.Table.{morphismAt};
 ghost use Rattle.reduce_numbering.specs.Steps.{Sought, Taken, Entries, Numbered};
 ghost use Rattle.reduce_numbering.specs.Numbering.{BlocksNumbered};
+ghost use Rattle.formats.specs.RuleChecks.{scratchSize};
 
 // The number of the block of s, or c where none of the c blocks that have a number is its.
 fn find(scratch: &[u8], c: usize, s: usize) -> usize
     requires { ⌜ (c ≤ 64) × (s < 64) ⌝ }
-    requires { ⌜ 65536 ≤ length (now scratch) ⌝ }
+    requires { ⌜ scratchSize ≤ length (now scratch) ⌝ }
     ensures { λ r. ⌜ Sought (now (scratch .entry)) c s r ⌝ }
 {
-    let block = scratch[12288 + s];
+    let block = scratch[BLOCKS_BASE + s];
     for j in 0..c {
-        let leader = scratch[12480 + j] as usize;
-        if scratch[12288 + leader] == block {
+        let leader = scratch[LEADERS_BASE + j] as usize;
+        if scratch[BLOCKS_BASE + leader] == block {
             return j;
         }
     }
@@ -28,22 +32,22 @@ fn find(scratch: &[u8], c: usize, s: usize) -> usize
 // Gives s the number of its block, and a block that has none the next one, with s for its leader. Answers how many have one.
 fn number_element(scratch: &mut [u8], c: usize, s: usize) -> usize
     requires { ⌜ (c < 64) × (s < 64) ⌝ }
-    requires { ⌜ 65536 ≤ length (now scratch) ⌝ }
+    requires { ⌜ scratchSize ≤ length (now scratch) ⌝ }
     ensures { λ r. ⌜ Taken (now (scratch .entry)) (now (scratch .exit)) c s r ⌝ }
 {
     let j = find(scratch, c, s);
-    scratch[12416 + s] = j as u8;
+    scratch[NUMBERS_BASE + s] = j as u8;
     if j < c {
         return c;
     }
-    scratch[12480 + c] = s as u8;
+    scratch[LEADERS_BASE + c] = s as u8;
     c + 1
 }
 
 // Goes through the entries of a worklist.
 fn number_elements(queue: &[u8], n: usize, count: usize, scratch: &mut [u8]) -> usize
     requires { ⌜ Entries (now queue) n count ⌝ }
-    requires { ⌜ 65536 ≤ length (now scratch) ⌝ }
+    requires { ⌜ scratchSize ≤ length (now scratch) ⌝ }
     ensures { λ r. ⌜ Numbered (now (queue .entry)) n count r (now (scratch .entry)) (now (scratch .exit)) ⌝ }
 {
     let mut c = 0;
@@ -60,7 +64,7 @@ pub fn number_blocks(rule: &[u8], n: usize, k: usize, scratch: &mut [u8]) -> usi
     requires { ⌜ Table (now rule) n k ⌝ }
     requires { ⌜ Lawful (morphismAt (now rule) n k) ⌝ }
     requires { ⌜ AllReached (morphismAt (now rule) n k) ⌝ }
-    requires { ⌜ 65536 ≤ length (now scratch) ⌝ }
+    requires { ⌜ scratchSize ≤ length (now scratch) ⌝ }
     ensures { λ r. ⌜ BlocksNumbered (morphismAt (now (rule .entry)) n k) r (now (scratch .entry)) (now (scratch .exit)) ⌝ }
 {
     let mut queue = [0u8; 256];

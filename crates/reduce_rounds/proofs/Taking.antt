@@ -10,9 +10,10 @@ use lib.ListN.{length, getD, set}
 use lib.Seq.{getD-set-same, getD-set-other}
 use Rattle.reduce_first_round.specs.Steps.{Differs, Moved, TakenOver}
 use Rattle.reduce_first_round.proofs.Bytes.{kept-none, kept-both, kept-set}
+use Rattle.formats.specs.RuleChecks.{scratchSize}
 
 -- one block taken over
-module _ {s : ℕ} {changed : Bool} {l : List ℕ} (hs : s < 64) (room : 65536 ≤ length l) where
+module _ {s : ℕ} {changed : Bool} {l : List ℕ} (hs : s < 64) (room : scratchSize ≤ length l) where
   -- the block is as it was
   pub moved-same : getD l (12288 + s) 0 ≡ getD l (12352 + s) 0 → Moved s changed l (set l (12288 + s) (getD l (12352 + s) 0)) changed
   moved-same e = record {

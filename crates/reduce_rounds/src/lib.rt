@@ -5,6 +5,8 @@ use reduce_first_round::first_blocks;
 use reduce_first_round::outcomes;
 use rule_table::image;
 use rule_table::product;
+use scratch::BLOCKS_BASE;
+use scratch::NEXT_BLOCKS_BASE;
 ghost use Prim.Native.Nat.{_≤_, _<_};
 ghost use lib.ListN.{length};
 ghost use Rattle.theory.specs.Rules.{Lawful};
@@ -14,6 +16,8 @@ ghost use Rattle.minimality.specs.Rounds.{StillTogether};
 ghost use Rattle.reduce_first_round.specs.Map.{InOneBlock};
 ghost use Rattle.reduce_first_round.specs.Steps.{Tells, LeastRelated, BlocksWritten, Moved, TakenOver, ProductsTogether};
 ghost use Rattle.reduce_rounds.specs.Rounds.{RoundDone, RoundsSettled};
+ghost use Rattle.scratch.specs.Map.{nextBlocksBase};
+ghost use Rattle.formats.specs.RuleChecks.{scratchSize};
 
 // Whether the products of two elements with a letter, on the right and on the left, are in one block.
 fn products_together(
@@ -27,18 +31,18 @@ fn products_together(
 ) -> bool
     requires { ⌜ Table (now rule) n k ⌝ }
     requires { ⌜ (s < n) × (t < n) × (a < k) ⌝ }
-    requires { ⌜ 65536 ≤ length (now scratch) ⌝ }
+    requires { ⌜ scratchSize ≤ length (now scratch) ⌝ }
     ensures { λ r. ⌜ Tells (ProductsTogether (morphismAt (now (rule .entry)) n k) (InOneBlock (now (scratch .entry))) s t a) r ⌝ }
 {
     let h = image(rule, n, a);
     let s_right = product(rule, n, s, h);
     let t_right = product(rule, n, t, h);
-    if scratch[12288 + s_right] != scratch[12288 + t_right] {
+    if scratch[BLOCKS_BASE + s_right] != scratch[BLOCKS_BASE + t_right] {
         return false;
     }
     let s_left = product(rule, n, h, s);
     let t_left = product(rule, n, h, t);
-    if scratch[12288 + s_left] != scratch[12288 + t_left] {
+    if scratch[BLOCKS_BASE + s_left] != scratch[BLOCKS_BASE + t_left] {
         return false;
     }
     true
@@ -48,10 +52,10 @@ fn products_together(
 fn still_together(rule: &[u8], n: usize, k: usize, scratch: &[u8], s: usize, t: usize) -> bool
     requires { ⌜ Table (now rule) n k ⌝ }
     requires { ⌜ (s < n) × (t < n) ⌝ }
-    requires { ⌜ 65536 ≤ length (now scratch) ⌝ }
+    requires { ⌜ scratchSize ≤ length (now scratch) ⌝ }
     ensures { λ r. ⌜ Tells (StillTogether (morphismAt (now (rule .entry)) n k) (InOneBlock (now (scratch .entry))) s t) r ⌝ }
 {
-    if scratch[12288 + s] != scratch[12288 + t] {
+    if scratch[BLOCKS_BASE + s] != scratch[BLOCKS_BASE + t] {
         return false;
     }
     for a in 0..k {
@@ -66,7 +70,7 @@ fn still_together(rule: &[u8], n: usize, k: usize, scratch: &[u8], s: usize, t: 
 fn first_kept(rule: &[u8], n: usize, k: usize, scratch: &[u8], s: usize) -> usize
     requires { ⌜ Table (now rule) n k ⌝ }
     requires { ⌜ s < n ⌝ }
-    requires { ⌜ 65536 ≤ length (now scratch) ⌝ }
+    requires { ⌜ scratchSize ≤ length (now scratch) ⌝ }
     ensures { λ r. ⌜ LeastRelated (StillTogether (morphismAt (now (rule .entry)) n k) (InOneBlock (now (scratch .entry)))) s r ⌝ }
 {
     for t in 0..s {
@@ -80,24 +84,24 @@ fn first_kept(rule: &[u8], n: usize, k: usize, scratch: &[u8], s: usize) -> usiz
 // The blocks after one round more, worked out beside those before it.
 fn next_blocks(rule: &[u8], n: usize, k: usize, scratch: &mut [u8])
     requires { ⌜ Table (now rule) n k ⌝ }
-    requires { ⌜ 65536 ≤ length (now scratch) ⌝ }
-    ensures { λ r. ⌜ BlocksWritten n (StillTogether (morphismAt (now (rule .entry)) n k) (InOneBlock (now (scratch .entry)))) 12352 (now (scratch .entry)) (now (scratch .exit)) ⌝ }
+    requires { ⌜ scratchSize ≤ length (now scratch) ⌝ }
+    ensures { λ r. ⌜ BlocksWritten n (StillTogether (morphismAt (now (rule .entry)) n k) (InOneBlock (now (scratch .entry)))) nextBlocksBase (now (scratch .entry)) (now (scratch .exit)) ⌝ }
 {
     for s in 0..n {
         let t = first_kept(rule, n, k, scratch, s);
-        scratch[12352 + s] = t as u8;
+        scratch[NEXT_BLOCKS_BASE + s] = t as u8;
     }
 }
 
 // Takes the new block of an element over; true if it differs, or something did before.
 fn take_block(scratch: &mut [u8], s: usize, changed: bool) -> bool
     requires { ⌜ s < 64 ⌝ }
-    requires { ⌜ 65536 ≤ length (now scratch) ⌝ }
+    requires { ⌜ scratchSize ≤ length (now scratch) ⌝ }
     ensures { λ r. ⌜ Moved s changed (now (scratch .entry)) (now (scratch .exit)) r ⌝ }
 {
-    let old = scratch[12288 + s];
-    let new = scratch[12352 + s];
-    scratch[12288 + s] = new;
+    let old = scratch[BLOCKS_BASE + s];
+    let new = scratch[NEXT_BLOCKS_BASE + s];
+    scratch[BLOCKS_BASE + s] = new;
     if old == new {
         return changed;
     }
@@ -107,7 +111,7 @@ fn take_block(scratch: &mut [u8], s: usize, changed: bool) -> bool
 // Takes all new blocks over, and tells whether any differs.
 fn take_blocks(n: usize, scratch: &mut [u8]) -> bool
     requires { ⌜ n ≤ 64 ⌝ }
-    requires { ⌜ 65536 ≤ length (now scratch) ⌝ }
+    requires { ⌜ scratchSize ≤ length (now scratch) ⌝ }
     ensures { λ r. ⌜ TakenOver n (now (scratch .entry)) (now (scratch .exit)) r ⌝ }
 {
     let mut changed = false;
@@ -120,7 +124,7 @@ fn take_blocks(n: usize, scratch: &mut [u8]) -> bool
 // One round: keeps elements together if they were and their products with every letter were. True if a block changed.
 pub fn round(rule: &[u8], n: usize, k: usize, scratch: &mut [u8]) -> bool
     requires { ⌜ Table (now rule) n k ⌝ }
-    requires { ⌜ 65536 ≤ length (now scratch) ⌝ }
+    requires { ⌜ scratchSize ≤ length (now scratch) ⌝ }
     ensures { λ r. ⌜ RoundDone (morphismAt (now (rule .entry)) n k) (now (scratch .entry)) (now (scratch .exit)) r ⌝ }
 {
     next_blocks(rule, n, k, scratch);
@@ -131,7 +135,7 @@ pub fn round(rule: &[u8], n: usize, k: usize, scratch: &mut [u8]) -> bool
 pub fn refine_until_stable(rule: &[u8], n: usize, k: usize, scratch: &mut [u8]) -> usize
     requires { ⌜ Table (now rule) n k ⌝ }
     requires { ⌜ Lawful (morphismAt (now rule) n k) ⌝ }
-    requires { ⌜ 65536 ≤ length (now scratch) ⌝ }
+    requires { ⌜ scratchSize ≤ length (now scratch) ⌝ }
     ensures { λ r. ⌜ RoundsSettled (morphismAt (now (rule .entry)) n k) (now (scratch .entry)) (now (scratch .exit)) r ⌝ }
 {
     outcomes(rule, n, k, scratch);

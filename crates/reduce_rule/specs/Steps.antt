@@ -12,6 +12,8 @@ use Rattle.reduce_first_round.specs.Map.{outcomeOf, outcomeAt}
 use Rattle.reduce_numbering.specs.Numbering.{NumberedAs}
 use Rattle.reduce_table.specs.Layout.{BlocksNeeds}
 use Rattle.reduce_rule.specs.Written.{FileWritten}
+use Rattle.scratch.specs.Map.{laidImagesBase, laidMarksBase, laidProductsBase}
+use Rattle.formats.specs.RuleChecks.{ruleSize, scratchSize}
 
 -- the tables of c blocks and k letters within the limits of the format, and room for the longest file
 pub record LaidNeeds (c k : ℕ) (scratch out : List ℕ) : Type 0 where
@@ -19,16 +21,16 @@ pub record LaidNeeds (c k : ℕ) (scratch out : List ℕ) : Type 0 where
   pub small : c ≤ 64
   pub letters-some : 1 ≤ k
   pub letters-small : k ≤ 16
-  pub room : 65536 ≤ length scratch
-  pub out-room : 12308 ≤ length out
+  pub room : scratchSize ≤ length scratch
+  pub out-room : ruleSize ≤ length out
 
 -- the tables in scratch are those of a rule
 pub record LaidAs (m : Morphism) (marks : Marking) (c k : ℕ) (scratch : List ℕ) : Type 0 where
   pub size-is : m .size ≡ c
   pub letters-are : m .letters ≡ k
-  pub products : (i j : ℕ) → i < c → j < c → getD scratch (16384 + (i * c + j)) 0 ≡ m .product i j
-  pub images : (a : ℕ) → a < k → getD scratch (20480 + a) 0 ≡ m .image a
-  pub marked : (i j : ℕ) → i < c → j < c → ltb 0 (getD scratch (24576 + (i * 64 + j)) 0) ≡ ltb 0 (marks i j)
+  pub products : (i j : ℕ) → i < c → j < c → getD scratch (laidProductsBase + (i * c + j)) 0 ≡ m .product i j
+  pub images : (a : ℕ) → a < k → getD scratch (laidImagesBase + a) 0 ≡ m .image a
+  pub marked : (i j : ℕ) → i < c → j < c → ltb 0 (getD scratch (laidMarksBase + (i * 64 + j)) 0) ≡ ltb 0 (marks i j)
 
 -- the rule of the tables was written
 pub record LaidWritten (c k : ℕ) (scratch before after : List ℕ) (end : ℕ) : Type 0 where
@@ -39,7 +41,7 @@ pub record QuotientNeeds (n k c : ℕ) (scratch out : List ℕ) : Type 0 where
   pub some : 1 ≤ c
   pub letters-some : 1 ≤ k
   pub blocks : BlocksNeeds n c scratch
-  pub out-room : 12308 ≤ length out
+  pub out-room : ruleSize ≤ length out
 
 -- the rule of the blocks was written, by whichever outcome they are numbered and the outcomes stand in scratch
 pub record QuotientWritten (m : Morphism) (c : ℕ) (entry exit before after : List ℕ) (end : ℕ) : Type 0 where
@@ -53,8 +55,8 @@ pub record ReduceNeeds (m : Morphism) (scratch out : List ℕ) : Type 0 where
   pub lawful : Lawful m
   pub reached : AllReached m
   pub letters-some : 1 ≤ m .letters
-  pub room : 65536 ≤ length scratch
-  pub out-room : 12308 ≤ length out
+  pub room : scratchSize ≤ length scratch
+  pub out-room : ruleSize ≤ length out
 
 -- the blocks were numbered and their rule was written, by the outcomes that the second table of marks gives
 pub record ReducedWritten (m : Morphism) (entry exit before after : List ℕ) (end : ℕ) : Type 0 where

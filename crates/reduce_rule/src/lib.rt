@@ -3,6 +3,9 @@ use reduce_marks::lay_marks;
 use reduce_table::lay_images;
 use reduce_table::lay_table;
 use rule_writer::write_rule;
+use scratch::LAID_IMAGES_BASE;
+use scratch::LAID_MARKS_BASE;
+use scratch::LAID_PRODUCTS_BASE;
 ghost use lib.ListN.{length};
 ghost use Rattle.rule_table.specs.Table.{Table};
 ghost use Rattle.formats.specs.Table.{morphismAt};
@@ -14,9 +17,9 @@ pub fn write_laid(scratch: &[u8], c: usize, k: usize, out: &mut [u8]) -> usize
     ensures { λ r. ⌜ LaidWritten c k (now (scratch .entry)) (now (out .entry)) (now (out .exit)) r ⌝ }
 {
     write_rule(
-        &scratch[16384..],
-        &scratch[20480..],
-        &scratch[24576..],
+        &scratch[LAID_PRODUCTS_BASE..],
+        &scratch[LAID_IMAGES_BASE..],
+        &scratch[LAID_MARKS_BASE..],
         c,
         k,
         out,

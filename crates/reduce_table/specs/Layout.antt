@@ -15,12 +15,14 @@ use Rattle.finite.proofs.Search.{bit}
 use Rattle.formats.specs.Table.{productAt, imageAt}
 use Rattle.reduce_first_round.specs.Map.{outcomeAt, KeptOutside}
 use Rattle.reduce_numbering.specs.Steps.{numberAt, leaderAt}
+use Rattle.scratch.specs.Map.{laidProductsBase}
+use Rattle.formats.specs.RuleChecks.{scratchSize}
 
 -- scratch has its size, and the leaders of c blocks are elements
 pub record BlocksNeeds (n c : ℕ) (scratch : List ℕ) : Type 0 where
   pub small : c ≤ 64
   pub leaders : (j : ℕ) → j < c → leaderAt scratch j < n
-  pub room : 65536 ≤ length scratch
+  pub room : scratchSize ≤ length scratch
 
 -- the product of two blocks is the block of their leaders' product
 unfoldable pub blockProduct : List ℕ → ℕ → List ℕ → ℕ → ℕ → ℕ
@@ -32,7 +34,7 @@ blockImage bytes n scratch a = numberAt scratch (imageAt bytes n a)
 
 -- the product of two blocks as it is laid out
 unfoldable pub laidProduct : ℕ → List ℕ → ℕ → ℕ → ℕ
-laidProduct c scratch i j = getD scratch (16384 + (i * c + j)) 0
+laidProduct c scratch i j = getD scratch (laidProductsBase + (i * c + j)) 0
 
 -- the outcome of two blocks is that of their leaders
 unfoldable pub blockOutcome : List ℕ → ℕ → ℕ → ℕ

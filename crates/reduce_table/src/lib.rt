@@ -2,11 +2,17 @@
 // one lent slice, as specs/Layout says.
 use rule_table::image;
 use rule_table::product;
+use scratch::LAID_IMAGES_BASE;
+use scratch::LAID_PRODUCTS_BASE;
+use scratch::LEADERS_BASE;
+use scratch::NUMBERS_BASE;
 ghost use mathlib.Core.Path.{_≡_};
 ghost use Prim.Native.Nat.{_+_, _*_, _≤_, _<_};
 ghost use lib.ListN.{length};
 ghost use Rattle.rule_table.specs.Table.{Table};
 ghost use Rattle.reduce_table.specs.Layout.{BlocksNeeds, blockProduct, blockImage, Filled, Grid};
+ghost use Rattle.scratch.specs.Map.{laidImagesBase, laidProductsBase};
+ghost use Rattle.formats.specs.RuleChecks.{scratchSize};
 
 // The number of the product of two blocks: that of the product of their leaders.
 pub fn block_product(
@@ -23,10 +29,10 @@ pub fn block_product(
     requires { ⌜ (i < c) × (j < c) ⌝ }
     ensures { λ r. ⌜ r ≡ blockProduct (now (rule .entry)) n (now (scratch .entry)) i j ⌝ }
 {
-    let a = scratch[12480 + i] as usize;
-    let b = scratch[12480 + j] as usize;
+    let a = scratch[LEADERS_BASE + i] as usize;
+    let b = scratch[LEADERS_BASE + j] as usize;
     let s = product(rule, n, a, b);
-    scratch[12416 + s]
+    scratch[NUMBERS_BASE + s]
 }
 
 // The products of block i.
@@ -34,11 +40,11 @@ pub fn table_row(rule: &[u8], n: usize, k: usize, c: usize, scratch: &mut [u8], 
     requires { ⌜ Table (now rule) n k ⌝ }
     requires { ⌜ BlocksNeeds n c (now scratch) ⌝ }
     requires { ⌜ i < c ⌝ }
-    ensures { λ r. ⌜ Filled (blockProduct (now (rule .entry)) n (now (scratch .entry)) i) (16384 + i * c) c (now (scratch .entry)) (now (scratch .exit)) ⌝ }
+    ensures { λ r. ⌜ Filled (blockProduct (now (rule .entry)) n (now (scratch .entry)) i) (laidProductsBase + i * c) c (now (scratch .entry)) (now (scratch .exit)) ⌝ }
 {
     for j in 0..c {
         let number = block_product(rule, n, k, c, scratch, i, j);
-        scratch[16384 + (i * c + j)] = number;
+        scratch[LAID_PRODUCTS_BASE + (i * c + j)] = number;
     }
 }
 
@@ -46,7 +52,7 @@ pub fn table_row(rule: &[u8], n: usize, k: usize, c: usize, scratch: &mut [u8], 
 pub fn lay_table(rule: &[u8], n: usize, k: usize, c: usize, scratch: &mut [u8])
     requires { ⌜ Table (now rule) n k ⌝ }
     requires { ⌜ BlocksNeeds n c (now scratch) ⌝ }
-    ensures { λ r. ⌜ Grid (blockProduct (now (rule .entry)) n (now (scratch .entry))) 16384 c c c (now (scratch .entry)) (now (scratch .exit)) ⌝ }
+    ensures { λ r. ⌜ Grid (blockProduct (now (rule .entry)) n (now (scratch .entry))) laidProductsBase c c c (now (scratch .entry)) (now (scratch .exit)) ⌝ }
 {
     for i in 0..c {
         table_row(rule, n, k, c, scratch, i);
@@ -56,12 +62,12 @@ pub fn lay_table(rule: &[u8], n: usize, k: usize, c: usize, scratch: &mut [u8])
 // The block of each letter.
 pub fn lay_images(rule: &[u8], n: usize, k: usize, scratch: &mut [u8])
     requires { ⌜ Table (now rule) n k ⌝ }
-    requires { ⌜ 65536 ≤ length (now scratch) ⌝ }
-    ensures { λ r. ⌜ Filled (blockImage (now (rule .entry)) n (now (scratch .entry))) 20480 k (now (scratch .entry)) (now (scratch .exit)) ⌝ }
+    requires { ⌜ scratchSize ≤ length (now scratch) ⌝ }
+    ensures { λ r. ⌜ Filled (blockImage (now (rule .entry)) n (now (scratch .entry))) laidImagesBase k (now (scratch .entry)) (now (scratch .exit)) ⌝ }
 {
     for a in 0..k {
         let s = image(rule, n, a);
-        let number = scratch[12416 + s];
-        scratch[20480 + a] = number;
+        let number = scratch[NUMBERS_BASE + s];
+        scratch[LAID_IMAGES_BASE + a] = number;
     }
 }

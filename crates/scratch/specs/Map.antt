@@ -1,15 +1,7 @@
--- The one map of scratch while two markings of a table are compared. Assumes nothing.
+-- The map of scratch: named bytes where things begin, for every call. Assumes nothing.
 --
---       0  the marks that the check of a rule leaves, a byte for each pair (s, e), at s·64 + e
---    4096  a second marking, laid out alike: a second input, the closure of the first, or the marks to be written
---    8192  the worklist's fronts, a byte for each entry, up to 4,225 of them
---   16384  their backs
---   24576  the letter that each was found by
---   32768  the entry that each was found from, its low byte
---   40960  and its high byte
---   49152  the start value for which a state was last found, and 1; a byte for each state
---   57344  for each letter, 65 bytes a letter: one more than the last value that the letter takes to an element, 0 for none
---   59392  for each letter likewise: one more than the value before this one that the letter takes to the same element
+-- The marks that the check of a rule leaves stand in front, a byte for each pair (s, e), at s·64 + e. What stands behind them depends on
+-- the call; the code has the same names as constants.
 use Prim.Native.Nat.{ℕ, _+_, _*_}
 use mathlib.Core.Bool.{Bool}
 use mathlib.Core.List.{List}
@@ -17,19 +9,97 @@ use lib.ListN.{getD}
 use lib.Dec.{ltb}
 use Rattle.theory.specs.Rules.{Pairs}
 
--- where the second marking begins, and where it ends
+-- two markings of a table compared: a second marking, laid out like the first: a second input, the closure, or marks to be written
 abbrev pub secondBase : ℕ
 secondBase = 4096
 
+-- where it ends
 abbrev pub tablesEnd : ℕ
 tablesEnd = 8192
 
--- from here on stand the bytes of the states, and the lists of preimages behind them, of which the second kind needs no blank bytes
+-- the worklist of the search: fronts, backs, the letter that each entry was found by and the entry that it was found from, in two bytes
+abbrev pub frontsBase : ℕ
+frontsBase = 8192
+
+abbrev pub backsBase : ℕ
+backsBase = 16384
+
+abbrev pub lettersBase : ℕ
+lettersBase = 24576
+
+abbrev pub parentsLowBase : ℕ
+parentsLowBase = 32768
+
+abbrev pub parentsHighBase : ℕ
+parentsHighBase = 40960
+
+-- the start value for which a state was last found, and 1; a byte for each state
 abbrev pub statesBase : ℕ
 statesBase = 49152
 
-abbrev pub listsEnd : ℕ
-listsEnd = 59392
+-- for each letter, 65 bytes a letter: one more than the last value that the letter takes to an element, 0 for none; and one more than the
+-- value before a value that the letter takes to the same element
+abbrev pub firstPreimagesBase : ℕ
+firstPreimagesBase = 57344
+
+abbrev pub nextPreimagesBase : ℕ
+nextPreimagesBase = 59392
+
+-- where the search ends: it keeps the bytes from here on
+abbrev pub searchEnd : ℕ
+searchEnd = 61440
+
+-- membership: the values of the beginnings of v, and of its ends
+abbrev pub beginningsBase : ℕ
+beginningsBase = 4096
+
+abbrev pub endsBase : ℕ
+endsBase = 8320
+
+abbrev pub wordsEnd : ℕ
+wordsEnd = 12544
+
+-- reduction: the outcomes of all pairs of values, the blocks of a round and of the next, the numbers of the blocks and their leaders
+abbrev pub outcomesBase : ℕ
+outcomesBase = 8192
+
+abbrev pub blocksBase : ℕ
+blocksBase = 12288
+
+abbrev pub nextBlocksBase : ℕ
+nextBlocksBase = 12352
+
+abbrev pub numbersBase : ℕ
+numbersBase = 12416
+
+abbrev pub leadersBase : ℕ
+leadersBase = 12480
+
+abbrev pub leadersEnd : ℕ
+leadersEnd = 12544
+
+-- an automaton: the list of its matrices; where each letter leads from each entry; from which entry and by which letter each was found
+abbrev pub matricesBase : ℕ
+matricesBase = 8192
+
+abbrev pub stepsBase : ℕ
+stepsBase = 12288
+
+abbrev pub stepParentsBase : ℕ
+stepParentsBase = 14336
+
+abbrev pub stepLettersBase : ℕ
+stepLettersBase = 15360
+
+-- a rule laid out before it is written: its products by rows, its letters' elements, its marks
+abbrev pub laidProductsBase : ℕ
+laidProductsBase = 16384
+
+abbrev pub laidImagesBase : ℕ
+laidImagesBase = 20480
+
+abbrev pub laidMarksBase : ℕ
+laidMarksBase = 24576
 
 -- the pairs that a table of marks has, which begins at a byte: those whose byte is not 0
 unfoldable pub pairsFrom : List ℕ → ℕ → Pairs

@@ -7,6 +7,7 @@ use mathlib.Core.List.{List}
 use lib.ListN.{length, getD}
 use lib.Dec.{ltb}
 use Rattle.theory.specs.Rules.{Morphism}
+use Rattle.scratch.specs.Map.{firstPreimagesBase, nextPreimagesBase, searchEnd}
 
 -- the element of the value with number c and then the letter a
 unfoldable pub afterLetter : Morphism → ℕ → ℕ → ℕ
@@ -20,11 +21,11 @@ pub record LastBelow (P : ℕ → Type 0) (c r : ℕ) : Type 0 where
 
 -- byte 57344 + (a·65 + x): one more than the last value that the letter a takes to x, where a list begins
 unfoldable pub firstAt : List ℕ → ℕ → ℕ → ℕ
-firstAt scratch a x = getD scratch (57344 + (a * 65 + x)) 0
+firstAt scratch a x = getD scratch (firstPreimagesBase + (a * 65 + x)) 0
 
 -- byte 59392 + (a·65 + c): one more than the last value below c that the letter a takes to where it takes c
 unfoldable pub nextAt : List ℕ → ℕ → ℕ → ℕ
-nextAt scratch a c = getD scratch (59392 + (a * 65 + c)) 0
+nextAt scratch a c = getD scratch (nextPreimagesBase + (a * 65 + c)) 0
 
 -- the lists of one letter, of the values below a number
 pub record Listed (m : Morphism) (a below : ℕ) (scratch : List ℕ) : Type 0 where
@@ -37,14 +38,14 @@ pub record Preimages (m : Morphism) (scratch : List ℕ) : Type 0 where
 
 -- room for the lists, and no value listed yet
 pub record PreimagesRoom (scratch : List ℕ) : Type 0 where
-  pub room : 61440 ≤ length scratch
-  pub blank : (i : ℕ) → 57344 ≤ i → i < 59392 → getD scratch i 0 ≡ 0
+  pub room : searchEnd ≤ length scratch
+  pub blank : (i : ℕ) → firstPreimagesBase ≤ i → i < nextPreimagesBase → getD scratch i 0 ≡ 0
 
 -- only the bytes of the lists may differ
 pub record KeptBut (entry exit : List ℕ) : Type 0 where
   pub same-length : length exit ≡ length entry
-  pub before : (i : ℕ) → i < 57344 → getD exit i 0 ≡ getD entry i 0
-  pub after : (i : ℕ) → 61440 ≤ i → getD exit i 0 ≡ getD entry i 0
+  pub before : (i : ℕ) → i < firstPreimagesBase → getD exit i 0 ≡ getD entry i 0
+  pub after : (i : ℕ) → searchEnd ≤ i → getD exit i 0 ≡ getD entry i 0
 
 -- the lists of every letter, and nothing else changed
 pub record PreimagesListed (m : Morphism) (entry exit : List ℕ) : Type 0 where

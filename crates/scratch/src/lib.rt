@@ -1,0 +1,65 @@
+// The map of scratch: where things begin in it, as specs/Map says.
+
+// Two markings of a table compared: a second marking, laid out like the first: a second input, the closure, or marks to be written.
+pub const SECOND_BASE: usize = 4096;
+
+pub const TABLES_END: usize = 8192;
+
+// The worklist of the search: fronts, backs, the letter that each entry was found by and the entry that it was found from, in two bytes.
+pub const FRONTS_BASE: usize = 8192;
+
+pub const BACKS_BASE: usize = 16384;
+
+pub const LETTERS_BASE: usize = 24576;
+
+pub const PARENTS_LOW_BASE: usize = 32768;
+
+pub const PARENTS_HIGH_BASE: usize = 40960;
+
+// The start value for which a state was last found, and 1; a byte for each state.
+pub const STATES_BASE: usize = 49152;
+
+// For each letter, 65 bytes a letter: one more than the last value that the letter takes to an element, 0 for none; and one more than the
+// value before a value that the letter takes to the same element.
+pub const FIRST_PREIMAGES_BASE: usize = 57344;
+
+pub const NEXT_PREIMAGES_BASE: usize = 59392;
+
+// Where the search ends: it keeps the bytes from here on.
+pub const SEARCH_END: usize = 61440;
+
+// Membership: the values of the beginnings of v, and of its ends.
+pub const BEGINNINGS_BASE: usize = 4096;
+
+pub const ENDS_BASE: usize = 8320;
+
+pub const WORDS_END: usize = 12544;
+
+// Reduction: the outcomes of all pairs of values, the blocks of a round and of the next, the numbers of the blocks and their leaders.
+pub const OUTCOMES_BASE: usize = 8192;
+
+pub const BLOCKS_BASE: usize = 12288;
+
+pub const NEXT_BLOCKS_BASE: usize = 12352;
+
+pub const NUMBERS_BASE: usize = 12416;
+
+pub const LEADERS_BASE: usize = 12480;
+
+pub const LEADERS_END: usize = 12544;
+
+// An automaton: the list of its matrices; where each letter leads from each entry; from which entry and by which letter each was found.
+pub const MATRICES_BASE: usize = 8192;
+
+pub const STEPS_BASE: usize = 12288;
+
+pub const STEP_PARENTS_BASE: usize = 14336;
+
+pub const STEP_LETTERS_BASE: usize = 15360;
+
+// A rule laid out before it is written: its products by rows, its letters' elements, its marks.
+pub const LAID_PRODUCTS_BASE: usize = 16384;
+
+pub const LAID_IMAGES_BASE: usize = 20480;
+
+pub const LAID_MARKS_BASE: usize = 24576;

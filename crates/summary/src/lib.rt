@@ -1,6 +1,7 @@
 // A rule summed up in numbers: how large it is, its linked pairs and classes, whether it is strong, and how large its reduction
 // is. Three calls in a row, on a rule that the first of them has checked; the lent work buffer holds what the others write.
 use answer::Refusal;
+use formats::RULE_SIZE;
 use mark_classes::list_classes;
 use promises::Inspected;
 use promises::Listed;
@@ -88,7 +89,7 @@ fn measure(
 pub fn summarize(rule: &[u8], work: &mut [u8], scratch: &mut [u8]) -> Summary
     ensures { λ r. ⌜ SummaryPromise (now (rule .entry)) (now (work .entry)) (now (work .exit)) (now (scratch .entry)) (now (scratch .exit)) r ⌝ }
 {
-    if work.len() < 12308 {
+    if work.len() < RULE_SIZE {
         return Summary::Refused {
             refusal: Refusal::BufferTooShort,
             input: 1,
