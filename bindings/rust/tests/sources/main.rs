@@ -1,0 +1,7 @@
+//! Tests over the sources of the repository: they read the files of `crates/` and call nothing.
+
+mod faces;
+mod floors;
+mod imports;
+mod reading;
+mod walk;
