@@ -17,8 +17,6 @@ use scratch::LAID_MARKS_BASE;
 use scratch::LAID_PRODUCTS_BASE;
 use scratch::STEPS_BASE;
 use sections::zero;
-ghost use Prim.Native.Nat.{_<_};
-ghost use lib.ListN.{length};
 ghost use Rattle.automaton_table.specs.Laying.{StepList, MarkNeeds, RuleLaid, WriteNeeds, LaidWritten};
 ghost use Rattle.automaton_call.specs.Promise.{ReadHere, MadePromise};
 ghost use Rattle.promises.specs.Automaton.{RulePromise};

@@ -9,7 +9,7 @@ use rule_marks::Fault;
 use sections::zero;
 use sections::zero_part;
 ghost use mathlib.Core.Path.{_≡_};
-ghost use Prim.Native.Nat.{_+_, _*_, _<_};
+ghost use Prim.Native.Nat.{_<_};
 ghost use Rattle.rule_marks.specs.Faults.{FaultAnswer};
 ghost use Rattle.formats.specs.AutomatonFile.{transitionsOf};
 ghost use Rattle.formats.specs.AutomatonChecks.{repeatedChecks, contentChecks};

@@ -12,7 +12,7 @@ use Rattle.theory.proofs.Values.{value-element}
 use Rattle.buchi.specs.Automata.{Automaton}
 use Rattle.buchi.specs.Matrices.{Matrix, SameEntries}
 use Rattle.buchi.specs.Rule.{MatrixWord, MatricesOf, MoreMatrices}
-use Rattle.buchi.proofs.Products.{product, product-same, same-sym, same-trans, equal-numbers}
+use Rattle.buchi.proofs.Products.{product-same, same-sym, same-trans, equal-numbers}
 use Rattle.buchi.proofs.WordMatrices.{matrix-unique}
 use Rattle.buchi.proofs.MatrixLists.{Among, number-of, number-below, number-same}
 use Rattle.buchi.proofs.AutomatonRule.{value-matrix, matrix-injective, element-product}

@@ -1,5 +1,5 @@
 -- Whether a number below a bound passes a test. Assumes nothing.
-use mathlib.Core.Bool.{Bool, true, false, _||_}
+use mathlib.Core.Bool.{Bool, false, _||_}
 use Prim.Native.Nat.{ℕ, zero, suc}
 
 -- some i below n passes p

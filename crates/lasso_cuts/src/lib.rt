@@ -7,7 +7,7 @@ use rule_table::product;
 use scratch::BEGINNINGS_BASE;
 use scratch::ENDS_BASE;
 ghost use mathlib.Core.Path.{_≡_};
-ghost use Prim.Native.Nat.{_+_, _≤_, _<_};
+ghost use Prim.Native.Nat.{_+_, _≤_};
 ghost use lib.ListN.{length};
 ghost use Rattle.theory.specs.Rules.{Lawful, element, value};
 ghost use Rattle.theory.proofs.Membership.{accepts-test};

@@ -1,8 +1,8 @@
 -- What each way through the call for membership promises. Assumes nothing.
-use Prim.Native.Nat.{ℕ, suc, _≤_, _<_}
+use Prim.Native.Nat.{ℕ, _≤_}
 use mathlib.Core.Path.{_≡_, refl, sym, ap, _∙_, subst}
 use mathlib.Core.Bool.{Bool, true, false}
-use mathlib.Core.List.{List, _++_}
+use mathlib.Core.List.{List}
 use native.Mathlib.Omega.{arith}
 use lib.ListN.{length, replicate}
 use lib.Dec.{leb}
@@ -16,7 +16,7 @@ use Rattle.theory.proofs.Words.{over-from}
 use Rattle.theory.proofs.Membership.{accepts-test}
 use Rattle.rule_table.specs.Table.{Table}
 use Rattle.formats.specs.Table.{morphismAt}
-use Rattle.formats.specs.RuleFile.{elementsOf, lettersOf, morphismOf, pairsOf, markingOf}
+use Rattle.formats.specs.RuleFile.{lettersOf, pairsOf}
 use Rattle.formats.specs.RuleChecks.{scratchSize}
 use Rattle.rule_layout.specs.declared.Shape.{Shape}
 use Rattle.rule_check.specs.declared.Checked.the-variants.{Rule, Refused as Checked-refused}

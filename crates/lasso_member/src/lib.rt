@@ -1,5 +1,4 @@
 // Whether a rule accepts a lasso: u, then v for ever. Any rule that passes its checks is asked, weak ones too.
-use answer::Refusal;
 use lasso_cuts::accepts;
 use lasso_words::LassoFault;
 use lasso_words::lasso_fault;

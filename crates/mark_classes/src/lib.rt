@@ -10,7 +10,7 @@ use rule_check::Checked;
 use rule_check::check;
 use rule_marks::linked;
 use sections::zero;
-ghost use Prim.Native.Nat.{_+_, _*_, _≤_, _<_};
+ghost use Prim.Native.Nat.{_*_, _≤_};
 ghost use lib.ListN.{length};
 ghost use Rattle.theory.specs.Rules.{Lawful};
 ghost use Rattle.rule_table.specs.Table.{Table};

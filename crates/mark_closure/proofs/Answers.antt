@@ -12,7 +12,7 @@ use lib.Dec.{T}
 use Rattle.theory.specs.Rules.{Morphism}
 use Rattle.scratch.specs.Map.{pairsFrom}
 use Rattle.mark_closure.specs.Closure.{ClosureRoom, ClosureLaid, ClosedMarks, UnclosedMarks, ClosureAnswer}
-use Rattle.mark_closure.specs.Closing.{place, SecondInFirst, SecondOnly, WithinAnswer}
+use Rattle.mark_closure.specs.Closing.{SecondInFirst, SecondOnly, WithinAnswer}
 use Rattle.mark_closure.proofs.Tables.{pair-in, pair-byte, first-in, first-byte}
 
 module _ {bytes : List ℕ} where

@@ -1,6 +1,5 @@
 // Two markings of a table that stand in scratch compared: whether each lasso that the first accepts is accepted under the second
 // too, and if not, a lasso that tells them apart.
-use answer::Refusal;
 use mark_cycles::write_cycle;
 use mark_search::Escape;
 use mark_search::first_escape;

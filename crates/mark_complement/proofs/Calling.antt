@@ -7,7 +7,6 @@ use native.Mathlib.Omega.{arith}
 use lib.ListN.{length, replicate}
 use Rattle.answer.specs.declared.Refusal.{Refusal}
 use Rattle.answer.specs.declared.Refusal.the-variants.{BufferTooShort, NotStrong}
-use Rattle.answer.specs.Checks.{refused}
 use Rattle.answer.proofs.Order.{first-passes, first-fails, none-left, refused-before, passed-before}
 use Rattle.theory.specs.Rules.{Morphism, marked, level}
 use Rattle.theory.specs.Acceptance.{Strong}

@@ -10,8 +10,6 @@ use rule_check::check;
 use rule_writer::write_rule;
 use scratch::SECOND_BASE;
 use sections::zero;
-ghost use Prim.Native.Nat.{_<_};
-ghost use lib.ListN.{length};
 ghost use Rattle.rule_table.specs.Table.{Table};
 ghost use Rattle.formats.specs.Table.{morphismAt};
 ghost use Rattle.mark_complement.specs.Promise.{WriteNeeds, TablesWritten};

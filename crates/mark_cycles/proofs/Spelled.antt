@@ -1,7 +1,7 @@
 -- The cycle of an entry in the theory's search: its letters reach the state of the entry, and those of an entry with nothing in
 -- front escape. Assumes nothing.
 use Prim.Native.Nat.{ℕ, _+_, _*_, _-_, _≤_, _<_}
-use mathlib.Core.Path.{_≡_, refl, sym, ap, _∙_, subst}
+use mathlib.Core.Path.{_≡_, sym, ap, _∙_}
 use mathlib.Core.List.{List, [], _∷_}
 use native.Mathlib.Omega.{arith}
 use native.Mathlib.Decide.{ℕ-discrete}
@@ -9,7 +9,7 @@ use lib.ListN.{length}
 use lib.Dec.{T}
 use Rattle.finite.proofs.Numbers.{strong}
 use Rattle.finite.proofs.Worklist.{Reached, begin, onward}
-use Rattle.theory.specs.Rules.{Morphism, Lawful, Pairs, none, element}
+use Rattle.theory.specs.Rules.{Morphism, Lawful, Pairs, element}
 use Rattle.theory.proofs.Codes.{value-at-inside}
 use Rattle.theory.proofs.Escapes.{Escapes, Begins, Moves, ends-escapes}
 use Rattle.theory.proofs.Comparison.{ShortEscape}

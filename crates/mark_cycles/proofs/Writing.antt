@@ -5,7 +5,6 @@ use mathlib.Core.List.{List, [], _∷_, _++_, append-assoc, append-nil}
 use native.Mathlib.Omega.{arith}
 use lib.ListN.{length, getD, drop, set, length-set, length-append}
 use lib.Seq.{drop-cons, set-at}
-use Rattle.promises.specs.Inclusion.{WordWritten}
 use Rattle.mark_search_list.specs.Queue.{backAt, letterAt, parentAt}
 use Rattle.mark_cycles.specs.Cycles.{Spells, spells-none, spells-more, CycleNeeds, CycleWritten}
 

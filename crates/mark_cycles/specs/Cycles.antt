@@ -1,6 +1,6 @@
 -- The cycle that an entry of the search spells: its letter, then those of the entry that it was found from, back to a start,
 -- which has nothing behind. Assumes nothing.
-use Prim.Native.Nat.{ℕ, _+_, _≤_, _<_}
+use Prim.Native.Nat.{ℕ, _≤_, _<_}
 use mathlib.Core.Path.{_≡_}
 use mathlib.Core.List.{List, [], _∷_}
 use lib.ListN.{length}

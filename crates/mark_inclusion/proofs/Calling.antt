@@ -8,7 +8,7 @@ use lib.Dec.{leb}
 use borrow.Author.Tests.{lt-ltb, le-ltb}
 use Rattle.answer.specs.declared.Refusal.{Refusal}
 use Rattle.answer.specs.declared.Refusal.the-variants.{BufferTooShort}
-use Rattle.answer.specs.Checks.{Verdict, passed, refused, FirstFailure}
+use Rattle.answer.specs.Checks.{Verdict, passed, FirstFailure}
 use Rattle.answer.proofs.Order.{refused-before, passed-before, passed-last, passes-tail}
 use Rattle.theory.specs.Rules.{Morphism, marked, level}
 use Rattle.theory.specs.Pairs.{LinkedOnly}

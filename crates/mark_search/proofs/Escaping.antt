@@ -1,17 +1,17 @@
 -- The search at one start value after the other. Assumes nothing.
 use Prim.Native.Nat.{ℕ, _+_, _*_, _≤_, _<_}
-use mathlib.Core.Path.{_≡_, refl, sym, ap, _∙_, subst}
+use mathlib.Core.Path.{_≡_, sym, ap, _∙_, subst}
 use mathlib.Core.Logic.{_⊎_, inl, inr}
 use mathlib.Core.List.{List}
 use native.Mathlib.Omega.{arith}
-use lib.ListN.{length, getD}
+use lib.ListN.{getD}
 use lib.Dec.{ltb}
 use Rattle.finite.proofs.Numbers.{below-cases}
-use Rattle.theory.specs.Rules.{Morphism, Lawful, Pairs}
+use Rattle.theory.specs.Rules.{Morphism, Pairs}
 use Rattle.theory.proofs.Escapes.{Escapes}
 use Rattle.sections.specs.Answers.{PartZeroed}
 use Rattle.scratch.specs.Map.{pairsFrom, statesBase, nextPreimagesBase}
-use Rattle.scratch.specs.Preimages.{Preimages, PreimagesRoom, KeptBut, PreimagesListed}
+use Rattle.scratch.specs.Preimages.{PreimagesRoom, PreimagesListed}
 use Rattle.mark_search_list.specs.Queue.{seenAt, Kept}
 use Rattle.mark_search.specs.Search.{MarkingAt, SearchNeeds, Searched, AllNeeds, EscapeNeeds, Escaped}
 use Rattle.mark_search.specs.declared.Ended.{Ended}

@@ -1,27 +1,26 @@
 -- Where the worklist in scratch and the search of the theory meet: the entries are states that the theory's search reaches, and
 -- once every entry was tried they are all of them. Assumes nothing.
-use Prim.Native.Nat.{ℕ, _+_, _*_, _≤_, _<_}
+use Prim.Native.Nat.{ℕ, _≤_, _<_}
 use mathlib.Core.Path.{_≡_, refl, sym, ap, _∙_, subst}
 use mathlib.Core.Bool.{Bool, true, false, cond}
-use mathlib.Core.Logic.{⊎-elim, _⊎_, inl, inr}
-use mathlib.Core.List.{List, [], _∷_}
+use mathlib.Core.Logic.{⊎-elim}
+use mathlib.Core.List.{List}
 use native.Mathlib.Omega.{arith}
 use native.Mathlib.Nat.{le-refl}
-use lib.ListN.{length, getD}
 use lib.Dec.{T, ltb}
 use borrow.Author.Tests.{lt-ltb, le-ltb}
 use Rattle.finite.proofs.Numbers.{le-or-lt}
-use Rattle.finite.proofs.Worklist.{Reached, begin, onward, Entry, Closed, reached-entry}
-use Rattle.theory.specs.Rules.{Morphism, Lawful, Pairs, Value, none, element, join, value}
-use Rattle.theory.proofs.Values.{Inside, inside-none, inside-element, element-apart, element-same}
-use Rattle.theory.proofs.Codes.{value-at, value-code, value-code-below, value-at-code, value-at-inside}
+use Rattle.finite.proofs.Worklist.{Entry, Closed, reached-entry}
+use Rattle.theory.specs.Rules.{Morphism, Lawful, Pairs, Value, none, element, join}
+use Rattle.theory.proofs.Values.{element-apart, element-same}
+use Rattle.theory.proofs.Codes.{value-at, value-code, value-code-below, value-at-code}
 use Rattle.theory.proofs.Turns.{turned}
 use Rattle.theory.proofs.Splits.{turn-square}
 use Rattle.theory.proofs.Escapes.{Escapes, State, Begins, Moves, split-state, escapes-reached}
 use Rattle.scratch.specs.Map.{pairsFrom}
 use Rattle.scratch.specs.Preimages.{afterLetter}
-use Rattle.mark_search_list.specs.Queue.{frontAt, backAt, letterAt, parentAt, Queue, HasState}
-use Rattle.mark_search_list.specs.Steps.{beforeLetter, Takes, splitMarked}
+use Rattle.mark_search_list.specs.Queue.{frontAt, backAt, HasState}
+use Rattle.mark_search_list.specs.Steps.{beforeLetter, splitMarked}
 use Rattle.mark_search.specs.Search.{MarkingAt, Source, a-start, a-step, Entries, Tried}
 use Rattle.mark_search_list.proofs.Values.{before-element, before-none, turned-element, turned-none}
 

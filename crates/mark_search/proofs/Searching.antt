@@ -1,21 +1,18 @@
 -- The search at one start value, entry by entry: what is known when the entries before the one at hand were tried.
 -- Assumes nothing.
-use Prim.Native.Nat.{ℕ, _+_, _*_, _≤_, _<_}
-use mathlib.Core.Path.{_≡_, refl, sym, ap, _∙_, subst}
-use mathlib.Core.Bool.{Bool}
-use mathlib.Core.Logic.{⊎-elim, _⊎_, inl, inr}
+use Prim.Native.Nat.{ℕ, _+_, _≤_, _<_}
+use mathlib.Core.Path.{_≡_, sym, ap, _∙_, subst}
+use mathlib.Core.Logic.{_⊎_, inl, inr}
 use mathlib.Core.List.{List}
 use native.Mathlib.Omega.{arith}
 use lib.ListN.{length, getD}
 use lib.Dec.{T}
 use Rattle.finite.proofs.Numbers.{below-cases, le-or-lt}
-use Rattle.theory.specs.Rules.{Morphism, Lawful, Pairs}
-use Rattle.theory.proofs.Escapes.{Escapes}
+use Rattle.theory.specs.Rules.{Morphism, Pairs}
 use Rattle.scratch.specs.Map.{pairsFrom}
-use Rattle.scratch.specs.Preimages.{afterLetter, Preimages}
-use Rattle.mark_search_list.specs.Queue.{frontAt, backAt, letterAt, parentAt, seenAt, Queue, HasState, Kept, SameEntry, Grown}
-use Rattle.mark_search_list.specs.Steps.{BeginNeeds, Begun, ExpandNeeds, beforeLetter, FoundFrom, Takes, splitMarked, Visited}
-use Rattle.mark_search.specs.Search.{MarkingAt, Source, a-start, a-step, Entries, EndedAt, Tried, Searching, SearchNeeds, RunNeeds, Searched}
+use Rattle.mark_search_list.specs.Queue.{frontAt, backAt, letterAt, parentAt, Queue, SameEntry, Grown}
+use Rattle.mark_search_list.specs.Steps.{BeginNeeds, Begun, ExpandNeeds, beforeLetter, Takes, splitMarked, Visited}
+use Rattle.mark_search.specs.Search.{MarkingAt, Source, a-start, a-step, Tried, Searching, SearchNeeds, RunNeeds, Searched}
 use Rattle.mark_search.specs.declared.Ended.{Ended}
 use Rattle.mark_search.specs.declared.Ended.the-variants.{At, Nothing}
 use Rattle.mark_search_list.proofs.Growth.{kept-refl, kept-trans, grown-trans, state-grown, queue-few}

@@ -1,10 +1,10 @@
 -- An entry with an element in front, tried: a marked split stops there, any other hands every letter over. Assumes nothing.
-use Prim.Native.Nat.{ℕ, _+_, _≤_, _<_}
+use Prim.Native.Nat.{ℕ, _+_}
 use mathlib.Core.Path.{_≡_, sym, subst}
 use mathlib.Core.Bool.{Bool, true, false}
 use mathlib.Core.List.{List}
 use native.Mathlib.Omega.{arith}
-use lib.ListN.{length, getD}
+use lib.ListN.{getD}
 use lib.Dec.{T}
 use Rattle.theory.specs.Rules.{Morphism, Pairs}
 use Rattle.mark_search_list.specs.Queue.{frontAt, backAt}

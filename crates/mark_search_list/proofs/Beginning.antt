@@ -1,19 +1,16 @@
 -- The states that a search begins with: one for each marked pair (s, e). Assumes nothing.
 use Prim.Native.Nat.{ℕ, _+_, _*_, _≤_, _<_}
-use mathlib.Core.Path.{_≡_, refl, sym, ap, _∙_, subst}
-use mathlib.Core.Bool.{Bool}
+use mathlib.Core.Path.{_≡_, sym, ap, _∙_, subst}
 use mathlib.Core.Logic.{⊎-elim, _⊎_, inl, inr}
 use mathlib.Core.List.{List}
 use native.Mathlib.Omega.{arith}
-use native.Mathlib.Nat.{le-refl}
 use lib.ListN.{length, getD}
 use lib.Dec.{T, ltb}
 use mir.Facts.{ltb-yes, yes-ltb}
 use Rattle.finite.proofs.Numbers.{below-cases, le-or-lt}
-use Rattle.theory.specs.Rules.{Pairs}
 use Rattle.scratch.specs.Map.{pairsFrom}
-use Rattle.mark_search_list.specs.Queue.{frontAt, backAt, seenAt, Queue, HasState, Kept, Grown}
-use Rattle.mark_search_list.specs.Steps.{AddNeeds, Added, BeginNeeds, BegunWith, Begun}
+use Rattle.mark_search_list.specs.Queue.{frontAt, backAt, seenAt, Queue, HasState, Kept}
+use Rattle.mark_search_list.specs.Steps.{Added, BeginNeeds, BegunWith, Begun}
 use Rattle.mark_search_list.proofs.Growth.{grown-refl, grown-trans, state-grown}
 use Rattle.formats.specs.RuleChecks.{scratchSize}
 

@@ -1,6 +1,6 @@
 -- The worklist while states are added to it. Assumes nothing.
 use Prim.Native.Nat.{ℕ, _+_, _*_, _/_, _%_, _≤_, _<_}
-use mathlib.Core.Path.{_≡_, refl, sym, ap, _∙_, subst}
+use mathlib.Core.Path.{_≡_, refl, sym, ap, _∙_}
 use mathlib.Core.Logic.{_⊎_, inl, inr, _≢_, ⊎-elim}
 use mathlib.Core.List.{List}
 use native.Mathlib.Omega.{arith}
@@ -8,13 +8,13 @@ use native.Mathlib.Nat.{le-refl, le-trans}
 use native.Mathlib.Decide.{ℕ-discrete}
 use borrow.Author.Count.{below-more}
 use lib.Arith.{digits-lt, digits-div, digits-mod}
-use lib.ListN.{length, getD, set, length-set}
+use lib.ListN.{getD, set, length-set}
 use lib.Seq.{getD-set-same, getD-set-other}
 use Rattle.finite.proofs.Pigeonhole.{injection-le, update, update-cases, update-apart}
 use Rattle.finite.proofs.Numbers.{below-cases, Compared, lesser, level, greater, compared}
 use Rattle.finite.proofs.Worklist.{Entry}
 use Rattle.mark_search_list.specs.Queue.{frontAt, backAt, letterAt, parentAt, stateCode, codeAt, seenAt, Queue, HasState, Kept, SameEntry, Grown}
-use Rattle.mark_search_list.specs.Steps.{StoreNeeds, Stored, AddNeeds, Added, OnlyState}
+use Rattle.mark_search_list.specs.Steps.{StoreNeeds, Stored, AddNeeds, Added}
 
 -- nothing changed
 pub kept-refl : (scratch : List ℕ) → Kept scratch scratch

@@ -1,22 +1,17 @@
 -- A letter handed over, value by value: the values that the letter takes to the front of an entry are gone through from the last
 -- back to the first. Assumes nothing.
 use Prim.Native.Nat.{ℕ, _+_, _*_, _≤_, _<_}
-use mathlib.Core.Path.{_≡_, refl, sym, ap, _∙_, subst, subst₂}
+use mathlib.Core.Path.{_≡_, sym, ap, _∙_, subst, subst₂}
 use mathlib.Core.Logic.{⊎-elim, _⊎_, inl, inr}
 use mathlib.Core.List.{List}
 use native.Mathlib.Omega.{arith}
-use native.Mathlib.Nat.{le-refl}
-use native.Mathlib.Decide.{ℕ-discrete}
-use lib.ListN.{length, getD}
+use lib.ListN.{getD}
 use Rattle.finite.proofs.Numbers.{below-cases, le-or-lt}
-use Rattle.theory.specs.Rules.{Morphism, Lawful}
-use Rattle.rule_table.specs.Table.{Table}
-use Rattle.formats.specs.Table.{morphismAt}
-use Rattle.scratch.specs.Preimages.{afterLetter, LastBelow, firstAt, nextAt, Listed, Preimages}
-use Rattle.mark_search_list.specs.Queue.{frontAt, backAt, letterAt, parentAt, Queue, HasState, Kept, SameEntry, Grown}
+use Rattle.theory.specs.Rules.{Morphism}
+use Rattle.scratch.specs.Preimages.{afterLetter, LastBelow, firstAt, nextAt, Preimages}
+use Rattle.mark_search_list.specs.Queue.{frontAt, backAt, letterAt, HasState, Kept, SameEntry}
 use Rattle.mark_search_list.specs.Steps.{AddNeeds, Added, ExpandNeeds, beforeLetter, FoundFrom, Takes, Taken, Expanded}
 use Rattle.mark_search_list.proofs.Growth.{grown-refl, grown-trans, state-grown, queue-few}
-use Rattle.mark_search_list.proofs.Values.{before-inside}
 
 -- the lists of preimages stay
 pub preimages-kept : {m : Morphism} {entry exit : List ℕ} → Kept entry exit → Preimages m entry → Preimages m exit

@@ -1,16 +1,15 @@
 -- The values that the search works out: a letter before a value, a value before an element, and the pair of a split.
 -- Assumes nothing.
 use Prim.Native.Nat.{ℕ, _+_, _*_, _≤_, _<_}
-use mathlib.Core.Path.{_≡_, refl, sym, ap, _∙_}
-use mathlib.Core.Bool.{Bool}
+use mathlib.Core.Path.{_≡_, sym, ap, _∙_}
 use mathlib.Core.Logic.{_⊎_, inl, inr}
 use mathlib.Core.List.{List}
 use native.Mathlib.Omega.{arith}
-use lib.ListN.{length, getD}
+use lib.ListN.{getD}
 use lib.Dec.{ltb}
 use borrow.Author.Tests.{lt-ltb, le-ltb}
 use Rattle.finite.proofs.Numbers.{le-or-lt}
-use Rattle.theory.specs.Rules.{Morphism, Lawful}
+use Rattle.theory.specs.Rules.{Morphism}
 use Rattle.theory.proofs.Codes.{value-at}
 use Rattle.theory.proofs.Turns.{turned}
 use Rattle.theory.proofs.Splits.{turn-square}

@@ -1,5 +1,5 @@
 -- What each step of the search does to the worklist. Assumes nothing.
-use Prim.Native.Nat.{ℕ, _+_, _*_, _≤_, _<_}
+use Prim.Native.Nat.{ℕ, _+_, _≤_, _<_}
 use mathlib.Core.Path.{_≡_}
 use mathlib.Core.Bool.{Bool, cond}
 use mathlib.Core.List.{List}
@@ -9,7 +9,7 @@ use Rattle.theory.specs.Rules.{Morphism, Pairs}
 use Rattle.theory.proofs.Codes.{value-at}
 use Rattle.theory.proofs.Splits.{turn-square}
 use Rattle.scratch.specs.Preimages.{afterLetter, Preimages}
-use Rattle.mark_search_list.specs.Queue.{frontAt, backAt, letterAt, parentAt, seenAt, stateCode, Queue, HasState, Kept, SameEntry, Grown}
+use Rattle.mark_search_list.specs.Queue.{frontAt, backAt, letterAt, parentAt, Queue, HasState, SameEntry, Grown}
 use Rattle.scratch.specs.Map.{backsBase, frontsBase, lettersBase, parentsHighBase, parentsLowBase, secondBase}
 use Rattle.formats.specs.RuleChecks.{scratchSize}
 

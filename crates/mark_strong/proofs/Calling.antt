@@ -1,19 +1,17 @@
 -- A checked rule whose strength is to be decided: what scratch holds, and what the verdict says of the file. Assumes nothing.
-use Prim.Native.Nat.{ℕ, _+_, _*_, _≤_, _<_}
+use Prim.Native.Nat.{ℕ, _+_, _*_, _≤_}
 use mathlib.Core.Path.{_≡_, refl, sym, ap, _∙_, subst}
 use mathlib.Core.Bool.{Bool, true, false}
 use mathlib.Core.List.{List}
 use native.Mathlib.Omega.{arith}
 use lib.ListN.{length, getD, replicate}
-use lib.Dec.{leb, ltb}
+use lib.Dec.{leb}
 use Rattle.answer.specs.declared.Refusal.{Refusal}
-use Rattle.answer.specs.Checks.{passed, refused, FirstFailure}
-use Rattle.theory.specs.Rules.{Morphism, Lawful, Pairs, AllReached, marked, level}
-use Rattle.theory.specs.Acceptance.{Strong}
+use Rattle.theory.specs.Rules.{Morphism, Lawful, AllReached, marked, level}
 use Rattle.theory.specs.Pairs.{LinkedOnly}
 use Rattle.rule_table.specs.Table.{Table}
 use Rattle.formats.specs.Table.{morphismAt}
-use Rattle.formats.specs.RuleFile.{elementsOf, lettersOf, morphismOf, pairsOf, markingOf}
+use Rattle.formats.specs.RuleFile.{morphismOf, pairsOf}
 use Rattle.rule_layout.specs.declared.Shape.{Shape}
 use Rattle.rule_check.specs.declared.Checked.the-variants.{Rule, Refused as Checked-refused}
 use Rattle.rule_check.specs.Answers.{CheckPromise}

@@ -1,20 +1,18 @@
 -- What the closure and the search say of strength. Assumes nothing.
-use Prim.Native.Nat.{ℕ, _+_, _*_, _≤_, _<_}
+use Prim.Native.Nat.{ℕ, _+_, _*_, _≤_}
 use mathlib.Core.Path.{_≡_, refl, sym, ap, _∙_, subst}
 use mathlib.Core.Bool.{Bool, true, false}
 use mathlib.Core.List.{List}
 use native.Mathlib.Omega.{arith}
-use lib.ListN.{length, getD}
 use lib.Dec.{ltb}
-use Rattle.theory.specs.Rules.{Morphism, Lawful, Pairs}
-use Rattle.theory.specs.Acceptance.{Strong}
+use Rattle.theory.specs.Rules.{Morphism, Pairs}
 use Rattle.theory.specs.Pairs.{LinkedOnly}
 use Rattle.theory.proofs.Closure.{closure-test, closure-linked}
 use Rattle.theory.proofs.ShortWords.{short-word}
 use Rattle.theory.proofs.Included.{none-included, included-strong, strong-included, escape-witness}
 use Rattle.sections.specs.Answers.{PartZeroed}
 use Rattle.scratch.specs.Map.{pairsFrom, secondBase, tablesEnd}
-use Rattle.mark_closure.specs.Closure.{ClosureRoom, ClosureLaid, ClosureAnswer, ClosedAnswer}
+use Rattle.mark_closure.specs.Closure.{ClosureRoom, ClosureAnswer, ClosedAnswer}
 use Rattle.mark_closure.proofs.Agreement.{same-back, linked-agrees, strong-agrees, laid-closure, closed-strong}
 use Rattle.mark_search.specs.Search.{MarkingAt, EscapeNeeds, EscapeAnswer, Escaped}
 use Rattle.mark_search.specs.declared.Escape.{Escape}

@@ -1,6 +1,5 @@
 // Whether a rule is strong: the closure of its marks is worked out, and where the marks have all of it they are strong without a
 // search; otherwise they are strong exactly if no lasso of the closure escapes them.
-use answer::Refusal;
 use mark_closure::close;
 use mark_search::Escape;
 use mark_search::first_escape;

@@ -1,5 +1,4 @@
 // An event on a monitor that is lent: the new since is stored in it.
-use answer::Refusal;
 use monitor_moves::event;
 use promises::InPlaceAnswer;
 use promises::Monitor;

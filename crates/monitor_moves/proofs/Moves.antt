@@ -1,24 +1,23 @@
 -- What an event and a mark promise on each way. Assumes nothing.
 use Prim.Native.Nat.{ℕ, _≤_, _<_}
 use mathlib.Core.Path.{_≡_, refl, sym, ap, _∙_, subst}
-use mathlib.Core.Logic.{_⊎_, inl, inr}
-use mathlib.Core.List.{List, [], _∷_, _++_}
+use mathlib.Core.Logic.{inl}
+use mathlib.Core.List.{List}
 use native.Mathlib.Omega.{arith}
 use Rattle.answer.specs.declared.Refusal.{Refusal}
 use Rattle.answer.specs.declared.Refusal.the-variants.{UnknownLetter}
-use Rattle.answer.specs.Checks.{Check, passed, refused, FirstFailure}
+use Rattle.answer.specs.Checks.{Check}
 use Rattle.answer.proofs.Order.{first-passes, first-fails, none-left, refused-before, passed-before}
 use Rattle.theory.specs.Rules.{Morphism, Value, element, join}
-use Rattle.rule_table.specs.Table.{Table}
 use Rattle.formats.specs.Table.{morphismAt, imageAt}
-use Rattle.formats.specs.RuleFile.{elementsOf, lettersOf, morphismOf}
+use Rattle.formats.specs.RuleFile.{lettersOf, morphismOf}
 use Rattle.rule_layout.specs.declared.Shape.{Shape}
 use Rattle.rule_check.proofs.Calls.{shape-morphism}
 use Rattle.promises.specs.declared.Monitor.{Monitor}
 use Rattle.monitor_state.specs.declared.Ready.the-variants.{Rule, Refused as Not-ready}
 use Rattle.promises.specs.declared.Moved.the-variants.{To, Refused}
 use Rattle.promises.specs.Moves.{LoneUnknownLetterAt, afterEvent, afterMark, EventPromise, MarkPromise}
-use Rattle.promises.specs.Monitor.{noValue, valueOf, numberFor, monitorChecks}
+use Rattle.promises.specs.Monitor.{noValue, valueOf, numberFor}
 use Rattle.monitor_state.specs.Ready.{GoodNumber, joinAt, ReadyPromise}
 use Rattle.monitor_state.proofs.Numbers.{value-element}
 use Rattle.monitor_state.proofs.Prepared.{ready-table}

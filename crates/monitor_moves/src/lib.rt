@@ -7,7 +7,6 @@ use monitor_state::prepare;
 use promises::Monitor;
 use promises::Moved;
 use rule_table::image;
-ghost use Prim.Native.Nat.{_<_};
 ghost use Rattle.promises.specs.Moves.{EventPromise, MarkPromise};
 
 // An event: since times the letter's element.

@@ -1,16 +1,14 @@
 -- The numbers of a monitor: an element, or 64 for none. Assumes nothing.
 use Prim.Native.Nat.{ℕ, _≤_, _<_}
-use mathlib.Core.Path.{_≡_, refl, sym, ap, _∙_, subst}
-use mathlib.Core.Bool.{Bool, true, false, cond}
-use mathlib.Core.Logic.{_⊎_, inl, inr, ⊎-elim}
+use mathlib.Core.Path.{_≡_, sym, ap, _∙_}
+use mathlib.Core.Logic.{inl, inr, ⊎-elim}
 use mathlib.Core.List.{List}
 use native.Mathlib.Omega.{arith}
 use native.Mathlib.Decide.{ℕ-discrete}
 use borrow.Author.Tests.{eq-eqb, ne-eqb}
-use lib.Dec.{eqb}
 use Rattle.finite.proofs.Numbers.{le-or-lt}
-use Rattle.theory.specs.Rules.{Morphism, Value, none, element, join}
-use Rattle.theory.proofs.Values.{Inside, inside-none, inside-element, join-none}
+use Rattle.theory.specs.Rules.{Value, none, element, join}
+use Rattle.theory.proofs.Values.{join-none}
 use Rattle.formats.specs.Table.{morphismAt, productAt}
 use Rattle.promises.specs.Monitor.{noValue, valueOf, numberFor, ValueOutOfRange}
 use Rattle.monitor_state.specs.Ready.{GoodNumber, joinAt}

@@ -1,17 +1,16 @@
 -- What each way through the preparation of a call shows: the rule's checks, then the monitor's values. Assumes nothing.
-use Prim.Native.Nat.{ℕ, _≤_, _<_}
-use mathlib.Core.Path.{_≡_, refl, sym, ap, _∙_, subst}
+use Prim.Native.Nat.{ℕ}
+use mathlib.Core.Path.{_≡_, refl, sym, subst}
 use mathlib.Core.Bool.{Bool, true, false}
-use mathlib.Core.Logic.{_⊎_, inl, inr, ⊎-elim}
-use mathlib.Core.List.{List, [], _∷_, _++_}
-use native.Mathlib.Omega.{arith}
-use lib.ListN.{length, replicate, length-replicate}
+use mathlib.Core.Logic.{_⊎_, inl, inr}
+use mathlib.Core.List.{List}
+use lib.ListN.{length, replicate}
 use Rattle.answer.specs.declared.Refusal.{Refusal}
-use Rattle.answer.specs.declared.Refusal.the-variants.{EntryOutOfRange, UnknownLetter}
-use Rattle.answer.specs.Checks.{Check, passed, refused, FirstFailure}
-use Rattle.answer.proofs.Order.{first-passes, first-fails, none-left, refused-before, passed-before, passed-first, passed-last, passes-head, passes-tail}
+use Rattle.answer.specs.declared.Refusal.the-variants.{EntryOutOfRange}
+use Rattle.answer.specs.Checks.{passed, FirstFailure}
+use Rattle.answer.proofs.Order.{first-passes, first-fails, none-left, refused-before, passed-before, passed-first, passed-last, passes-head}
 use Rattle.rule_table.specs.Table.{Table}
-use Rattle.formats.specs.RuleFile.{elementsOf, lettersOf}
+use Rattle.formats.specs.RuleFile.{elementsOf}
 use Rattle.rule_layout.specs.declared.Shape.{Shape}
 use Rattle.rule_check.specs.declared.Checked.the-variants.{Rule, Refused}
 use Rattle.rule_check.specs.Answers.{CheckPromise}
@@ -20,7 +19,7 @@ use Rattle.rule_check.proofs.Calls.{zeros-left, checked-length, called-good, sh
 use Rattle.promises.specs.declared.Monitor.{Monitor}
 use Rattle.monitor_state.specs.declared.Ready.{Ready}
 use Rattle.monitor_state.specs.declared.Ready.the-variants.{Rule as Ready-rule, Refused as Not-ready}
-use Rattle.promises.specs.Monitor.{ValueOutOfRange, monitorValueCheck, monitorChecks}
+use Rattle.promises.specs.Monitor.{ValueOutOfRange, monitorValueCheck}
 use Rattle.monitor_state.specs.Ready.{GoodNumber, OutOfRangeAnswer, ReadyPromise}
 use Rattle.monitor_state.proofs.Numbers.{not-stray, good-not-stray}
 

@@ -4,7 +4,7 @@ use mathlib.Core.Path.{_≡_, refl, subst}
 use mathlib.Core.Logic.{_⊎_, ⊎-elim}
 use Rattle.answer.specs.declared.Refusal.{Refusal}
 use Rattle.answer.specs.declared.Refusal.the-variants.{EntryOutOfRange, WordLength}
-use Rattle.answer.specs.Checks.{Check, refused, FirstFailure}
+use Rattle.answer.specs.Checks.{refused, FirstFailure}
 use Rattle.answer.proofs.Order.{first-passes, first-fails}
 use Rattle.rule_marks.specs.declared.Fault.{Fault}
 use Rattle.rule_marks.specs.declared.Fault.the-variants.{Nothing, Refused}

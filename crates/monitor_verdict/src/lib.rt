@@ -8,7 +8,6 @@ use rule_check::Checked;
 use rule_check::check;
 use rule_marks::Fault;
 use sections::zero;
-ghost use Prim.Native.Nat.{_<_};
 ghost use Rattle.monitor_verdict.specs.Judging.{ValuesAnswer};
 ghost use Rattle.promises.specs.Verdict.{VerdictPromise};
 

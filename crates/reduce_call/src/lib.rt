@@ -12,8 +12,6 @@ use reduce_rule::write_quotient;
 use rule_check::Checked;
 use rule_check::check;
 use sections::zero;
-ghost use Prim.Native.Nat.{_<_};
-ghost use lib.ListN.{length};
 ghost use Rattle.rule_table.specs.Table.{Table};
 ghost use Rattle.formats.specs.Table.{morphismAt};
 ghost use Rattle.reduce_rule.specs.Steps.{ReduceNeeds, ReducedWritten};

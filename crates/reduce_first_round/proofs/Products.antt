@@ -10,8 +10,7 @@ use native.Mathlib.Decide.{ℕ-discrete}
 use lib.ListN.{getD}
 use Rattle.theory.specs.Rules.{Morphism}
 use Rattle.rule_table.specs.Table.{Table}
-use Rattle.formats.specs.Table.{productAt, imageAt}
-use Rattle.rule_table.proofs.Facts.{product-below}
+use Rattle.formats.specs.Table.{imageAt}
 use Rattle.minimality.specs.Rounds.{StillTogether}
 use Rattle.reduce_first_round.specs.Map.{InOneBlock}
 use Rattle.reduce_first_round.specs.Steps.{Tells, ProductsTogether}

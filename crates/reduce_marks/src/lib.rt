@@ -1,6 +1,5 @@
 // The rule of the blocks, its marks: every linked pair of blocks whose leaders' outcome is not 0. All stands in one lent slice, as
 // reduce_table/specs/Layout says.
-use rule_table::product;
 use scratch::LAID_MARKS_BASE;
 use scratch::LAID_PRODUCTS_BASE;
 use scratch::LEADERS_BASE;

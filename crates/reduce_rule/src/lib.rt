@@ -6,7 +6,6 @@ use rule_writer::write_rule;
 use scratch::LAID_IMAGES_BASE;
 use scratch::LAID_MARKS_BASE;
 use scratch::LAID_PRODUCTS_BASE;
-ghost use lib.ListN.{length};
 ghost use Rattle.rule_table.specs.Table.{Table};
 ghost use Rattle.formats.specs.Table.{morphismAt};
 ghost use Rattle.reduce_rule.specs.Steps.{LaidNeeds, LaidWritten, QuotientNeeds, QuotientWritten};

@@ -1,7 +1,7 @@
 -- The tests with letters, from the bytes of the worklist to the theory: the elements are made letter by letter along the entries, and
 -- each letter's element is an entry that was found from entry 0. Assumes nothing.
 use Prim.Native.Nat.{ℕ, zero, suc, _+_, _-_, _≤_, _<_}
-use mathlib.Core.Path.{_≡_, refl, sym, ap, _∙_, subst}
+use mathlib.Core.Path.{_≡_, sym, ap, _∙_, subst}
 use mathlib.Core.Logic.{⊎-elim}
 use mathlib.Core.Bool.{Bool, true, false, not}
 use mathlib.Core.List.{List}
@@ -11,12 +11,11 @@ use native.Mathlib.Nat.{eq-or-lt-of-le, add-sub-cancel}
 use lib.ListN.{getD}
 use Rattle.finite.proofs.Numbers.{strong, le-or-lt}
 use Rattle.finite.proofs.FirstWords.{Sooner, sooner-parent, sooner-letter}
-use Rattle.theory.specs.Rules.{Morphism, none, element, join}
+use Rattle.theory.specs.Rules.{element, join}
 use Rattle.theory.proofs.Values.{element-apart, element-same}
 use Rattle.theory.proofs.Associating.{ByLetters, one, more, LettersAssociate, letters-associate}
 use Rattle.rule_table.specs.Table.{Table}
 use Rattle.formats.specs.Table.{productAt, imageAt, morphismAt}
-use Rattle.formats.proofs.Tables.{AllAssociate}
 use Rattle.rule_reach.specs.Reach.{entryAt, parentAt, letterAt, placeAt, wordStep}
 use Rattle.rule_associating.specs.Tests.{AllFound, LetterEntries, Column, LetterColumns, WordsAlong, LettersBetween, WordsAnswer, LettersAnswer, AssociatesAnswer}
 use Rattle.rule_associating.proofs.Passed.{true-apart}

@@ -9,7 +9,6 @@ use Rattle.answer.specs.Checks.{passed, FirstFailure}
 use Rattle.answer.proofs.Order.{passes-head, passes-tail}
 use Rattle.rule_table.specs.Table.{Table}
 use Rattle.formats.specs.Table.{morphismAt}
-use Rattle.theory.specs.Rules.{Morphism}
 use Rattle.formats.specs.RuleFile.{elementsOf, lettersOf, morphismOf}
 use Rattle.formats.specs.RuleChecks.{scratchSize}
 use Rattle.rule_layout.specs.declared.Shape.{Shape}

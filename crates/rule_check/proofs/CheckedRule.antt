@@ -1,17 +1,14 @@
 -- What a rule file is once every check passes, for the calls that get one: a lawful table whose elements are all reached, and
 -- marks that are linked and differ. Assumes nothing.
-use Prim.Native.Nat.{ℕ, _≤_, _<_}
-use mathlib.Core.Path.{_≡_, refl}
+use Prim.Native.Nat.{ℕ, _<_}
+use mathlib.Core.Path.{refl}
 use mathlib.Core.List.{List}
 use native.Mathlib.Omega.{arith}
 use lib.ListN.{length}
 use Rattle.answer.specs.Checks.{passed, FirstFailure}
 use Rattle.answer.proofs.Order.{passed-first, passed-last, passes-head, passes-tail}
-use Rattle.theory.specs.Rules.{Lawful, AllReached}
-use Rattle.theory.specs.Pairs.{Linked, LinkedOnly}
-use Rattle.rule_table.specs.Table.{Table}
 use Rattle.rule_table.proofs.Facts.{table-lawful}
-use Rattle.formats.specs.RuleFile.{elementsOf, lettersOf, marksAt, marksOf, ruleEnd, morphismOf, markStart, markCycle, pairsOf}
+use Rattle.formats.specs.RuleFile.{marksAt, marksOf, ruleEnd, morphismOf}
 use Rattle.formats.specs.RuleChecks.{layoutChecks, tableChecks, contentChecks, ruleChecks}
 use Rattle.rule_check.specs.GoodRule.{GoodRule}
 use Rattle.rule_check.proofs.Passed.{layout-as, letters-some, marks-small, end-inside, table-of}

@@ -1,4 +1,3 @@
-pub mod Settling
 pub mod Passed
 pub mod TablePassed
 pub mod Faults

@@ -1,5 +1,4 @@
 // The check of a rule with nothing after it: the counts of a rule that passes, or the refusal.
-use answer::Refusal;
 use promises::Inspected;
 use rule_check::Checked;
 use rule_check::check;

@@ -1,22 +1,22 @@
 -- The three sections of a rule file in a row. Assumes nothing.
-use Prim.Native.Nat.{ℕ, _+_, _*_, _-_, _≤_, _<_}
-use mathlib.Core.Path.{_≡_, refl, sym, ap, _∙_, subst}
-use mathlib.Core.List.{List, _++_}
+use Prim.Native.Nat.{ℕ, _+_, _*_, _-_, _≤_}
+use mathlib.Core.Path.{_≡_, sym, ap, _∙_, subst}
+use mathlib.Core.List.{List}
 use native.Mathlib.Omega.{arith}
 use native.Mathlib.Nat.{mul-le-mul, add-zero}
 use lib.ListN.{length, getD, take, drop, length-drop}
 use lib.Seq.{take-all, drop-drop, getD-drop}
 use Rattle.answer.specs.declared.Refusal.{Refusal}
-use Rattle.answer.specs.Checks.{passed, refused, FirstFailure}
+use Rattle.answer.specs.Checks.{refused, FirstFailure}
 use Rattle.answer.proofs.Order.{refused-before, passed-before}
-use Rattle.formats.specs.Sections.{Section, twoBytes, sectionChecks, countAt}
+use Rattle.formats.specs.Sections.{Section, twoBytes}
 use Rattle.sections.specs.declared.Counted.{Counted}
 use Rattle.sections.specs.declared.Counted.the-variants.{Read, Refused}
 use Rattle.formats.proofs.Sections.{SectionGood, passed-good}
 use Rattle.formats.specs.RuleFile.{elementsOf, lettersAt, lettersOf, marksAt, marksOf, elementsSection, lettersSection, marksSection}
 use Rattle.formats.specs.RuleChecks.{layoutChecks}
 use Rattle.rule_layout.specs.declared.Shape.{Shape}
-use Rattle.rule_layout.specs.Answers.{SectionAnswer, SectionPassed, IsShape, LayoutPassed}
+use Rattle.rule_layout.specs.Answers.{SectionAnswer, SectionPassed, LayoutPassed}
 
 -- what is left of a list, as the code takes it
 pub rest-of : (w : List ℕ) (at : ℕ) → take (length w - at) (drop at w) ≡ drop at w

@@ -1,14 +1,14 @@
 -- A section read by its count and then its entries. Assumes nothing.
-use Prim.Native.Nat.{ℕ, _+_, _≤_, _<_}
-use mathlib.Core.Path.{_≡_, refl, sym, ap, _∙_, subst}
+use Prim.Native.Nat.{ℕ}
+use mathlib.Core.Path.{_≡_, sym, _∙_, subst}
 use mathlib.Core.List.{List}
 use Rattle.answer.specs.declared.Refusal.{Refusal}
-use Rattle.answer.specs.Checks.{passed, numbered, refused, FirstFailure}
+use Rattle.answer.specs.Checks.{numbered, refused, FirstFailure}
 use Rattle.sections.specs.declared.Counted.{Counted}
 use Rattle.sections.specs.declared.Counted.the-variants.{Read, Refused}
-use Rattle.formats.specs.Sections.{CountWidth, Section, countAt, countBytes, countChecks, entryChecks, sectionChecks}
-use Rattle.formats.proofs.Sections.{CountGood, EntriesGood, section-count-refused, section-entries-refused, section-passes}
-use Rattle.sections.specs.Answers.{CountAnswer, EntriesAnswer, EntriesRead}
+use Rattle.formats.specs.Sections.{CountWidth, Section, countBytes, countChecks, entryChecks, sectionChecks}
+use Rattle.formats.proofs.Sections.{CountGood, section-count-refused, section-entries-refused, section-passes}
+use Rattle.sections.specs.Answers.{CountAnswer, EntriesAnswer}
 use Rattle.rule_layout.specs.Answers.{SectionAnswer}
 
 module _ (width : CountWidth) (low high at : ℕ) (rest : List ℕ) (answer : Counted) (known : CountAnswer width low high at rest answer) where

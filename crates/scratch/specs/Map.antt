@@ -3,7 +3,6 @@
 -- The marks that the check of a rule leaves stand in front, a byte for each pair (s, e), at s·64 + e. What stands behind them depends on
 -- the call; the code has the same names as constants.
 use Prim.Native.Nat.{ℕ, _+_, _*_}
-use mathlib.Core.Bool.{Bool}
 use mathlib.Core.List.{List}
 use lib.ListN.{getD}
 use lib.Dec.{ltb}

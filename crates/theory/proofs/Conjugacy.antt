@@ -1,10 +1,9 @@
 -- Linked pairs and conjugacy: an equivalence, and what a turn of a cycle does to a linked pair. Assumes nothing.
-use Prim.Native.Nat.{ℕ, zero, suc, _<_}
-use mathlib.Core.Path.{_≡_, refl, sym, ap, _∙_}
-use Rattle.theory.specs.Rules.{Morphism, Lawful, Value, none, element, join}
+use Prim.Native.Nat.{ℕ, _<_}
+use mathlib.Core.Path.{_≡_, sym, ap, _∙_}
+use Rattle.theory.specs.Rules.{Morphism, Lawful}
 use Rattle.theory.specs.Pairs.{Idempotent, Linked, Conjugate}
-use Rattle.theory.proofs.Values.{Inside, inside-none, inside-element, element-same}
-use Rattle.theory.proofs.Powers.{Semigroup, times, times-stays, idempotent-of, idempotent-is}
+use Rattle.theory.proofs.Powers.{Semigroup}
 
 -- the table's semigroup
 pub semigroup : {m : Morphism} → Lawful m → Semigroup (m .size) (m .product)

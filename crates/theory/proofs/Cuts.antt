@@ -1,19 +1,19 @@
 -- Acceptance by cuts of the endless word. A lasso is accepted exactly if, at some position past its start, the value of
 -- what stands before and the idempotent power of the value of one turn are a marked pair. Assumes nothing.
-use Prim.Native.Nat.{ℕ, zero, suc, pred, _+_, _*_, _≤_, _<_}
-use mathlib.Core.Path.{_≡_, refl, sym, ap, _∙_, subst}
-use mathlib.Core.List.{List, [], _∷_, _++_}
+use Prim.Native.Nat.{ℕ, zero, suc, pred, _+_, _*_, _<_}
+use mathlib.Core.Path.{_≡_, sym, ap, _∙_, subst}
+use mathlib.Core.List.{List, _++_}
 use native.Mathlib.Omega.{arith}
 use native.Mathlib.Nat.{le-mul-of-pos-right, zero-add}
 use lib.ListN.{length}
 use lib.Dec.{T}
 use Rattle.theory.specs.Words.{Over, over-nil, endless}
-use Rattle.theory.specs.Rules.{Morphism, Lawful, Pairs, Value, none, element, join, value}
+use Rattle.theory.specs.Rules.{Morphism, Lawful, Pairs, Value, element, join, value}
 use Rattle.theory.specs.Acceptance.{Accepts}
 use Rattle.theory.specs.Pairs.{LinkedOnly, Linked}
 use Rattle.theory.proofs.Words.{over-append, seg, seg-length, seg-append, seg-same-all, seg-over, repeat, repeat-over}
 use Rattle.theory.proofs.Periods.{Periodic, periodic-later, periodic-times, periodic-same, seg-periodic-shift, seg-repeat, common-period, endless-periodic, endless-start, endless-cycle, periodic-lasso}
-use Rattle.theory.proofs.Values.{element-same, element-apart, join-none, join-elements, value-append, value-inside, value-element, value-some, Element, inside-of}
+use Rattle.theory.proofs.Values.{element-same, join-none, join-elements, value-append, value-element, value-some, Element, inside-of}
 use Rattle.theory.proofs.Powers.{times, times-power, times-stays, idempotent-of, idempotent-is, settling}
 use Rattle.theory.proofs.Conjugacy.{semigroup}
 

@@ -1,7 +1,7 @@
 -- Two markings compared at one start value s: a cycle escapes if its value e makes (s, e) a pair of the first marking while
 -- no split of it is a pair of the second. A search over the values of the two parts of a split, from the end of the cycle
 -- to its beginning, finds one exactly if there is one. Assumes nothing.
-use Prim.Native.Nat.{ℕ, zero, suc, _+_, _≤_, _<_}
+use Prim.Native.Nat.{ℕ, _<_}
 use mathlib.Core.Path.{_≡_, refl, sym, ap, _∙_, subst}
 use mathlib.Core.List.{List, [], _∷_, _++_, append-assoc, append-nil}
 use native.Mathlib.Omega.{arith}
@@ -12,7 +12,7 @@ use Rattle.finite.proofs.Worklist.{Reached, begin, onward}
 use Rattle.theory.specs.Words.{Over, over-nil, over-cons}
 use Rattle.theory.specs.Rules.{Morphism, Lawful, Pairs, Value, none, element, join, value, Value-discrete}
 use Rattle.theory.proofs.Words.{over-append, over-left, over-right, over-head}
-use Rattle.theory.proofs.Values.{Inside, inside-none, inside-element, element-apart, element-same, join-none, join-inside, join-assoc, value-append, value-inside, value-element, value-some, inside-of, element-inside, Element}
+use Rattle.theory.proofs.Values.{Inside, inside-element, element-same, join-none, join-assoc, value-append, value-inside, value-element, value-some, inside-of, Element}
 use Rattle.theory.proofs.Splits.{MarkedSplit, turn-square}
 
 -- the cycle's value is paired with s by the first marking, and no split of the cycle is a pair of the second

@@ -1,9 +1,9 @@
 -- Lasso membership as a test that computes: the finitely many cuts of one turn of the cycle, and at each the powers of the
 -- turn's value. For marks on linked pairs it passes exactly if the lasso is accepted. Assumes nothing.
-use Prim.Native.Nat.{ℕ, zero, suc, _+_, _*_, _-_, _/_, _%_, _≤_, _<_}
-use mathlib.Core.Path.{_≡_, refl, sym, ap, _∙_, subst}
+use Prim.Native.Nat.{ℕ, zero, suc, _+_, _*_, _-_, _/_, _%_, _<_}
+use mathlib.Core.Path.{_≡_, sym, ap, _∙_, subst}
 use mathlib.Core.Bool.{Bool, false}
-use mathlib.Core.Logic.{_↔_, ⊎-elim}
+use mathlib.Core.Logic.{⊎-elim}
 use mathlib.Core.List.{List, _++_}
 use native.Mathlib.Omega.{arith}
 use native.Mathlib.Nat.{div-add-mod', mod-lt, zero-add}
@@ -11,17 +11,17 @@ use lib.ListN.{length, take, drop}
 use lib.Dec.{T}
 use Rattle.finite.proofs.Tests.{T-dec}
 use Rattle.finite.specs.Search.{anyBelow}
-use Rattle.finite.proofs.Search.{any-intro, any-elim, Found}
+use Rattle.finite.proofs.Search.{any-intro, any-elim}
 use Rattle.theory.specs.Words.{Over, endless}
 use Rattle.theory.specs.Rules.{Morphism, Lawful, Pairs, Value, none, element, value}
 use Rattle.theory.specs.Acceptance.{Accepts}
-use Rattle.theory.specs.Pairs.{LinkedOnly, Linked}
+use Rattle.theory.specs.Pairs.{LinkedOnly}
 use Rattle.theory.proofs.Words.{seg, seg-length, seg-append, seg-over}
 use Rattle.theory.proofs.Periods.{Periodic, periodic-later, seg-periodic-shift, seg-repeat, endless-periodic, endless-below, cut-start, cut-cycle}
 use Rattle.theory.proofs.Values.{element-same, value-element, inside-of, Element}
 use Rattle.theory.proofs.Powers.{times, times-add, times-power, times-inside, idempotent-of, idempotent-square, idempotent-inside, settling, settling-below}
 use Rattle.theory.proofs.Conjugacy.{semigroup}
-use Rattle.theory.proofs.Cuts.{CutAccepts, TurnAccepts, accepts-cut, cut-accepts, cut-turn, turn-cut, value-then-repeat}
+use Rattle.theory.proofs.Cuts.{TurnAccepts, accepts-cut, cut-accepts, cut-turn, turn-cut, value-then-repeat}
 
 -- the pair (p·e·r^j, e) is in P
 unfoldable pub turn-look : Morphism → Pairs → ℕ → ℕ → ℕ → ℕ → Bool

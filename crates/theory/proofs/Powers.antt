@@ -3,11 +3,11 @@
 use Prim.Native.Nat.{ℕ, zero, suc, _+_, _*_, _-_, _/_, _%_, _≤_, _<_}
 use mathlib.Core.Path.{_≡_, refl, sym, ap, _∙_}
 use native.Mathlib.Omega.{arith}
-use native.Mathlib.Nat.{add-zero, add-suc, mul-comm, div-add-mod, mod-lt}
+use native.Mathlib.Nat.{add-zero, add-suc, div-add-mod, mod-lt}
 use mathlib.Core.Bool.{Bool}
 use mathlib.Core.Logic.{⊎-elim}
 use Rattle.finite.proofs.Numbers.{le-or-lt}
-use lib.Dec.{T, eqb}
+use lib.Dec.{eqb}
 use mir.Facts.{eqb-yes, yes-eqb}
 use Rattle.finite.proofs.Search.{leastBelow, least-bound, least-holds, least-first}
 use Rattle.finite.proofs.Pigeonhole.{Collision, pigeonhole}

@@ -1,7 +1,7 @@
 -- Membership of a lasso whose values are a linked pair (s, e): it is accepted exactly if its cycle splits, after a beginning
 -- that is not empty, at a marked pair (s·x, (y·x)²), x and y the values of the two parts. Assumes nothing.
-use Prim.Native.Nat.{ℕ, zero, suc, pred, _+_, _≤_, _<_}
-use mathlib.Core.Path.{_≡_, refl, sym, ap, _∙_, subst}
+use Prim.Native.Nat.{ℕ, suc, pred, _<_}
+use mathlib.Core.Path.{_≡_, sym, ap, _∙_, subst}
 use mathlib.Core.List.{List, _++_}
 use native.Mathlib.Omega.{arith}
 use lib.ListN.{length, take, drop, take-append-drop, length-append}
@@ -9,11 +9,11 @@ use lib.Seq.{take-append-seam, drop-append-seam, length-take-le}
 use lib.Dec.{T}
 use Rattle.finite.proofs.Search.{any-intro, any-elim}
 use Rattle.theory.specs.Words.{Over}
-use Rattle.theory.specs.Rules.{Morphism, Lawful, Pairs, Value, none, element, join, value}
+use Rattle.theory.specs.Rules.{Morphism, Lawful, Pairs, Value, element, join, value}
 use Rattle.theory.specs.Acceptance.{Accepts}
 use Rattle.theory.specs.Pairs.{LinkedOnly, Linked, Conjugate}
 use Rattle.theory.proofs.Words.{over-left, over-right, over-take, over-drop}
-use Rattle.theory.proofs.Values.{Inside, element-same, join-elements, value-append, value-inside, value-element, value-some, inside-of, Element}
+use Rattle.theory.proofs.Values.{Inside, join-elements, value-append, value-inside, value-element, value-some, inside-of, Element}
 use Rattle.theory.proofs.Powers.{times, times-stays, idempotent-of}
 use Rattle.theory.proofs.Conjugacy.{semigroup}
 use Rattle.theory.proofs.Turns.{turned, turned-join, Turn, turn-of}

@@ -1,28 +1,21 @@
 -- The closure of a marking under conjugacy, and strength. Where every element is some word's value: a lasso with the
 -- linked values (s, e) is accepted for some words exactly if the closure has (s, e); the marking is strong exactly if then
 -- all such lassos are accepted; and acceptance under a strong marking is one look in the closure. Assumes nothing.
-use Prim.Native.Nat.{ℕ, zero, suc, _+_, _<_}
-use mathlib.Core.Path.{_≡_, refl, sym, ap, _∙_, subst}
-use mathlib.Core.Bool.{Bool, _&&_}
-use mathlib.Core.Logic.{_↔_}
+use Prim.Native.Nat.{ℕ, suc, _<_}
+use mathlib.Core.Path.{_≡_, sym, ap, _∙_}
 use mathlib.Core.List.{List, _++_}
 use native.Mathlib.Omega.{arith}
-use lib.ListN.{length, length-append}
-use lib.Dec.{T, eqb, ltb}
-use mir.Facts.{eqb-yes, yes-eqb, ltb-yes, yes-ltb}
-use Rattle.finite.proofs.Tests.{T-and, T-and-left, T-and-right}
-use Rattle.finite.specs.Search.{anyBelow}
-use Rattle.finite.proofs.Search.{any-intro, any-elim}
+use lib.ListN.{length}
+use lib.Dec.{T}
 use Rattle.theory.specs.Words.{Over, Lasso, endless}
-use Rattle.theory.specs.Rules.{Morphism, Lawful, Pairs, Value, none, element, join, value, WordOf, AllReached}
+use Rattle.theory.specs.Rules.{Morphism, Lawful, Pairs, Value, element, join, value, WordOf, AllReached}
 use Rattle.theory.specs.Acceptance.{Accepts, Strong}
-use Rattle.theory.specs.Pairs.{Idempotent, LinkedOnly, Linked, Conjugate}
-use Rattle.theory.proofs.Words.{over-append, repeat, repeat-over, repeat-some}
+use Rattle.theory.specs.Pairs.{LinkedOnly, Linked, Conjugate}
+use Rattle.theory.proofs.Words.{over-append, repeat, repeat-over}
 use Rattle.theory.proofs.Periods.{same-turned, same-unrolled-repeated}
-use Rattle.theory.proofs.Values.{element-same, join-elements, value-append, value-element, value-some, inside-of, value-inside, Element}
-use Rattle.theory.proofs.Powers.{times, times-power, idempotent-of, idempotent-square, idempotent-inside, settling}
-use Rattle.theory.proofs.Conjugacy.{semigroup, conjugate-sym}
-use Rattle.theory.proofs.Turns.{turn-of}
+use Rattle.theory.proofs.Values.{join-elements, value-append, value-element, value-some, inside-of}
+use Rattle.theory.proofs.Powers.{times-power, idempotent-of, idempotent-square, idempotent-inside, settling}
+use Rattle.theory.proofs.Conjugacy.{semigroup}
 use Rattle.theory.proofs.Cuts.{value-repeat, value-then-repeat}
 use Rattle.theory.proofs.Splits.{turn-square, accepted-splits, split-conjugate}
 

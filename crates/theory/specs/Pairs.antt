@@ -1,5 +1,5 @@
 -- Linked pairs, conjugacy and its classes. Document 01, "What a rule means" and "Classes". Assumes nothing.
-use Prim.Native.Nat.{ℕ, zero, suc, _+_, _*_, _-_, _/_, _%_, _≤_, _<_}
+use Prim.Native.Nat.{ℕ, zero, suc, _+_, _*_, _/_, _%_, _≤_, _<_}
 use mathlib.Core.Path.{_≡_}
 use lib.Dec.{T}
 use Rattle.theory.specs.Rules.{Morphism, Pairs}

@@ -1,5 +1,4 @@
 -- `lasso_member::member` meets its contract: the rule's checks decide, then the words', and else the cuts of one turn. Assumes nothing.
-use mathlib.Core.Path.{_≡_}
 use Rattle.rule_check.proofs.Calls.{checked-rule, checked-refused}
 use Rattle.lasso_member.proofs.Ways.{words-good, words-refused, rule-refused, table, lawful, long, word-refused, start-word, cycle-word, says-yes, says-no}
 use borrow.Author.Needs.{needs}

@@ -2,8 +2,8 @@
 use native.Mathlib.Omega.{arith}
 use native.Mathlib.Nat.{mod-lt}
 use lib.ListN.{length}
-use Prim.Native.Nat.{_≤_, _<_, _-_, _%_}
-use Rattle.lasso_stretch.proofs.Parts.{Unfit, empty, long, Fit, start-unfit, cycle-unfit, in-start, in-cycle, start-unfit-place, cycle-unfit-place, in-start-place, in-cycle-place}
+use Prim.Native.Nat.{_-_}
+use Rattle.lasso_stretch.proofs.Parts.{empty, long, Fit, start-unfit, cycle-unfit, in-start, in-cycle, start-unfit-place, cycle-unfit-place, in-start-place, in-cycle-place}
 use borrow.Author.Needs.{needs}
 use Rattle.lasso_stretch.proofs.stretch.Statement.{statement}
 use Rattle.lasso_stretch.proofs.stretch.Tie as tie

@@ -2,7 +2,6 @@
 -- nothing.
 use Prim.Native.Nat.{_-_}
 use native.Mathlib.Omega.{arith}
-use borrow.Author.Needs.{needs}
 use borrow.Author.Tests.{lt-ltb, le-ltb}
 use Rattle.rule_table.proofs.Facts.{table-place}
 use Rattle.lasso_turns.specs.Cuts.{markedIn}

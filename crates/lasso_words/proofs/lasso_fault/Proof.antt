@@ -1,7 +1,7 @@
 -- `lasso_words::lasso_fault` meets its contract: each way through the tests is the first check that fails, or none. Assumes nothing.
 use mathlib.Core.Logic.{inl, inr}
 use native.Mathlib.Omega.{arith}
-use Rattle.lasso_words.proofs.Lassos.{GoodLength, foreign-at, letters-below, start-out, cycle-out, start-foreign, cycle-foreign, good-lasso}
+use Rattle.lasso_words.proofs.Lassos.{foreign-at, letters-below, start-out, cycle-out, start-foreign, cycle-foreign, good-lasso}
 use borrow.Author.Needs.{needs}
 use Rattle.lasso_words.proofs.lasso_fault.Statement.{statement}
 use Rattle.lasso_words.proofs.lasso_fault.Tie as tie

@@ -1,4 +1,3 @@
-use native.Mathlib.Omega.{arith}
 use borrow.Author.Needs.{needs}
 use Rattle.rule_check.proofs.Faults.{blank-queue}
 use Rattle.mark_comparison.proofs.Comparing.{start-place, start-written}

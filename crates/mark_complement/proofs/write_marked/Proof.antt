@@ -1,5 +1,4 @@
 -- The rule's own tables are read where they stand, the marks in the second table. Assumes nothing.
-use native.Mathlib.Omega.{arith}
 use borrow.Author.Needs.{needs}
 use Rattle.mark_complement.proofs.Writing.{rule-place, tables-written}
 use Rattle.mark_complement.proofs.write_marked.Statement.{statement}

@@ -6,9 +6,6 @@ use Rattle.mark_search_list.specs.Steps.{Added}
 use Rattle.mark_search_list.proofs.Growth.{add-there, add-room, new-place, add-done}
 use Rattle.mark_search_list.proofs.add.Statement.{statement}
 use Rattle.mark_search_list.proofs.add.Tie as tie
-use Rattle.mark_search_list.proofs.add.Reads as reads
-use Rattle.mark_search_list.proofs.add.Lts as lts
-use Rattle.mark_search_list.proofs.store.Reads as store-reads
 
 mul-place : tie.Need-mul-place
 mul-place c = search needs

@@ -1,4 +1,3 @@
-use native.Mathlib.Omega.{arith}
 use borrow.Author.Needs.{needs}
 use Rattle.mark_search_list.proofs.Values.{image-inside, product-place, back-element, back-none}
 use Rattle.mark_search_list.proofs.back_with.Statement.{statement}

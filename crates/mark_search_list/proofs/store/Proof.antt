@@ -3,8 +3,6 @@ use lib.ListN.{length-set}
 use Rattle.mark_search_list.proofs.Storing.{stored}
 use Rattle.mark_search_list.proofs.store.Statement.{statement}
 use Rattle.mark_search_list.proofs.store.Tie as tie
-use Rattle.mark_search_list.proofs.store.Reads as reads
-use Rattle.mark_search_list.proofs.store.Lts as lts
 
 -- src/lib.rt:21:29
 cast-scratch : tie.Need-cast-scratch

@@ -1,5 +1,3 @@
-use Prim.Native.Nat.{ℕ, _+_, _*_, _≤_, _<_}
-use mathlib.Core.Path.{_≡_}
 use native.Mathlib.Omega.{arith}
 use mir.Facts.{fits-8-64}
 use Rattle.formats.specs.Table.{morphismAt}

@@ -1,5 +1,4 @@
 -- `monitor_moves::event` meets its contract: a foreign letter is refused, and any other multiplies since. Assumes nothing.
-use native.Mathlib.Omega.{arith}
 use Rattle.rule_table.proofs.Facts.{image-place}
 use Rattle.monitor_state.proofs.Prepared.{ready-said, not-ready, ready-table, ready-since}
 use Rattle.monitor_moves.proofs.Moves.{event-refused, event-foreign, event-moved, image-good}

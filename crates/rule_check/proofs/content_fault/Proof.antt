@@ -1,7 +1,7 @@
 -- `rule_check::content_fault` meets its contract: the first of its checks that fails decides, and after good marks the table of
 -- scratch holds them. Assumes nothing.
 use Prim.Native.Nat.{ℕ, _+_, _*_, _≤_, _<_}
-use mathlib.Core.Path.{_≡_, refl, subst}
+use mathlib.Core.Path.{refl, subst}
 use mathlib.Core.List.{List}
 use native.Mathlib.Omega.{arith}
 use lib.ListN.{length, drop}

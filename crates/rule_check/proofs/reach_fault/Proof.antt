@@ -1,6 +1,5 @@
 -- `rule_check::reach_fault` meets its contract: the worklist holds the values of all words, so an element with no entry is no
 -- word's value. Assumes nothing.
-use native.Mathlib.Omega.{arith}
 use Rattle.rule_check.proofs.Faults.{blank-queue, unreached, all-reached}
 use borrow.Author.Needs.{needs}
 use Rattle.rule_check.proofs.reach_fault.Statement.{statement}

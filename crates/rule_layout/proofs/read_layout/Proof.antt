@@ -7,7 +7,7 @@ use native.Mathlib.Omega.{arith}
 use lib.ListN.{length, take, drop, length-drop}
 use Rattle.formats.specs.RuleFile.{elementsOf, lettersAt, marksAt, elementsSection, lettersSection}
 use Rattle.rule_layout.specs.Answers.{SectionPassed}
-use Rattle.rule_layout.proofs.Rows.{rest-of, elements-read, elements-refused, elements-small, elements-long, square-small, letters-rest, letters-read, letters-refused, letters-small, letters-long, marks-at, marks-rest, marks-refused, layout-read}
+use Rattle.rule_layout.proofs.Rows.{rest-of, elements-read, elements-refused, elements-long, square-small, letters-rest, letters-read, letters-refused, letters-small, letters-long, marks-at, marks-rest, marks-refused, layout-read}
 use borrow.Author.Needs.{needs}
 use Rattle.rule_layout.proofs.read_layout.Statement.{statement}
 use Rattle.rule_layout.proofs.read_layout.Tie as tie

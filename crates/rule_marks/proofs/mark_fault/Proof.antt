@@ -1,16 +1,15 @@
 -- `rule_marks::mark_fault` meets its contract: the marks passed so far are good and laid out in the table. Assumes nothing.
 use Prim.Native.Nat.{ℕ, _+_, _*_, _-_, _≤_, _<_}
-use mathlib.Core.Path.{_≡_, refl, sym, subst}
+use mathlib.Core.Path.{_≡_, subst}
 use mathlib.Core.List.{List}
 use native.Mathlib.Omega.{arith}
 use mir.Facts.{fits-8-64}
-use borrow.Author.Needs.{needs}
 use lib.ListN.{length}
 use Rattle.rule_table.specs.Table.{Table}
 use Rattle.formats.specs.Table.{morphismAt}
 use Rattle.formats.specs.RuleFile.{markStart, markCycle}
 use Rattle.rule_marks.specs.Faults.{MarksRoom, MarksLaid, marksAmong}
-use Rattle.rule_marks.proofs.MarkOrder.{GoodMark, GoodMarks, no-marks, good-more, marks-pass, mark-unlinked, mark-repeated, said-unlinked, said-linked}
+use Rattle.rule_marks.proofs.MarkOrder.{GoodMarks, no-marks, good-more, marks-pass, mark-unlinked, mark-repeated, said-unlinked, said-linked}
 use Rattle.rule_marks.proofs.Laid.{pair-below, laid-start, laid-next, mark-seen, mark-new}
 use Rattle.rule_marks.proofs.mark_fault.Statement.{statement}
 use Rattle.rule_marks.proofs.mark_fault.Tie as tie

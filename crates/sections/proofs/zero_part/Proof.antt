@@ -1,6 +1,5 @@
 -- `sections::zero_part` meets its contract: each turn makes one more byte 0 and keeps the others. Assumes nothing.
 use Prim.Native.Nat.{_≤_, _-_}
-use mathlib.Core.Path.{subst}
 use native.Mathlib.Omega.{arith}
 use lib.ListN.{length}
 use Rattle.sections.specs.Answers.{PartZeroed}
