@@ -140,18 +140,20 @@ module _ {a : Automaton} {m : Morphism} {matrix : ℕ → Matrix} (law : Lawful 
         let k = marking .marks s e hs he .0 t in
         record {
           linked = k .0;
-          start = elements-reached .word-of s hs;
-          cycle = elements-reached .word-of e he;
-          accepted = λ u v l eu ev. run-accepts l (linked-recurrence (k .0) (l .start-over) (l .cycle-over) eu ev .1 (k .1));
+          lassos = record {
+            start = elements-reached .word-of s hs;
+            cycle = elements-reached .word-of e he;
+            accepted = λ u v l eu ev. run-accepts l (linked-recurrence (k .0) (l .start-over) (l .cycle-over) eu ev .1 (k .1));
+          };
         }
 
     accepted-marked : (s e : ℕ) → s < m .size → e < m .size → LinkedAccepted m P s e → T (P s e)
     accepted-marked s e hs he k =
-        let x = k .start in
-        let y = k .cycle in
+        let x = k .lassos .start in
+        let y = k .lassos .cycle in
         let l : Lasso (m .letters) (x .word) (y .word) = lasso-of m (x .over) (y .over) (x .its-value) (y .its-value) in
         marking .marks s e hs he .1
-        (k .linked, linked-recurrence (k .linked) (x .over) (y .over) (x .its-value) (y .its-value) .0 (accepts-run (k .accepted (x .word) (y .word) l (x .its-value) (y .its-value))))
+        (k .linked, linked-recurrence (k .linked) (x .over) (y .over) (x .its-value) (y .its-value) .0 (accepts-run (k .lassos .accepted (x .word) (y .word) l (x .its-value) (y .its-value))))
 
     -- it marks every linked pair whose lassos are accepted
     pub rule-marks-accepted : MarksAccepted m P

@@ -68,10 +68,12 @@ module _ (r : Rule) (some : 0 < r .morphism .letters) (every : AcceptsEvery (r .
       idempotent = record { inside = omega (arith, one-size); square = omega (arith, product-zero e e he he) };
       stays = omega (arith, product-zero s e hs he);
     };
-    start = word-zero s hs;
-    cycle = word-zero e he;
-    accepted = λ u v l eu ev.
-        let l′ = subst (λ k. Lasso k u v) (sym (red .same .same-letters)) l in red .same .both-or-neither u v l′ .0 (every .accepted u v l′);
+    lassos = record {
+      start = word-zero s hs;
+      cycle = word-zero e he;
+      accepted = λ u v l eu ev.
+          let l′ = subst (λ k. Lasso k u v) (sym (red .same .same-letters)) l in red .same .both-or-neither u v l′ .0 (every .accepted u v l′);
+    };
   }
 
   same-marks : SameMarks 1 all-marked (reduced .marks)

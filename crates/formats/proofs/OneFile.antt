@@ -30,11 +30,13 @@ module _ {m m′ : Morphism} {P P′ : Pairs} (g : Agree m m′) (law : Lawful m
   accepted-agree : {s e : ℕ} → LinkedAccepted m P s e → LinkedAccepted m′ P′ s e
   accepted-agree k = record {
     linked = agree-linked g (k .linked);
-    start = agree-word g law (k .start);
-    cycle = agree-word g law (k .cycle);
-    accepted = λ u v l eu ev.
-        let h = subst (λ n. Lasso n u v) (g .same-letters) l in
-        lassos u v h (k .accepted u v h (sym (agree-value g law (h .start-over)) ∙ eu) (sym (agree-value g law (h .cycle-over)) ∙ ev));
+    lassos = record {
+      start = agree-word g law (k .lassos .start);
+      cycle = agree-word g law (k .lassos .cycle);
+      accepted = λ u v l eu ev.
+          let h = subst (λ n. Lasso n u v) (g .same-letters) l in
+          lassos u v h (k .lassos .accepted u v h (sym (agree-value g law (h .start-over)) ∙ eu) (sym (agree-value g law (h .cycle-over)) ∙ ev));
+    };
   }
 
 module _ (x y : Rule) (f : Renumbered (x .morphism) (y .morphism)) (size : x .morphism .size ≡ y .morphism .size)

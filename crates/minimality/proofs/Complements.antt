@@ -10,7 +10,7 @@ use Rattle.theory.specs.Words.{Lasso}
 use Rattle.theory.specs.Rules.{Morphism, Lawful, Pairs, Marking, marked, AllReached}
 use Rattle.theory.specs.Acceptance.{Accepts, Strong}
 use Rattle.theory.specs.Pairs.{LinkedOnly}
-use Rattle.theory.specs.Smallest.{LinkedAccepted, LinkedRefused, Complement}
+use Rattle.theory.specs.Smallest.{LinkedAccepted, LinkedNotAccepted, Complement}
 use Rattle.theory.proofs.Strength.{accepts-same}
 use Rattle.theory.proofs.Closure.{acceptance, acceptance-le, strong-acceptance}
 use Rattle.minimality.proofs.Contexts.{LassoValues, lasso-values}
@@ -94,20 +94,24 @@ module _ {m : Morphism} {P : Pairs} (law : Lawful m) (reached : AllReached m) (l
   pub complement-strong : Strong m (marked (complement-marks m P))
   complement-strong = complement-saturates .strong
 
-  accepted-refused : (s e : ℕ) → LinkedAccepted m (marked (complement-marks m P)) s e → LinkedRefused m P s e
+  accepted-refused : (s e : ℕ) → LinkedAccepted m (marked (complement-marks m P)) s e → LinkedNotAccepted m P s e
   accepted-refused s e k = record {
     linked = k .linked;
-    start = k .start;
-    cycle = k .cycle;
-    refused = λ u v l eu ev. complement-accepts l .0 (k .accepted u v l eu ev);
+    lassos = record {
+      start = k .lassos .start;
+      cycle = k .lassos .cycle;
+      not-accepted = λ u v l eu ev. complement-accepts l .0 (k .lassos .accepted u v l eu ev);
+    };
   }
 
-  refused-accepted : (s e : ℕ) → LinkedRefused m P s e → LinkedAccepted m (marked (complement-marks m P)) s e
+  refused-accepted : (s e : ℕ) → LinkedNotAccepted m P s e → LinkedAccepted m (marked (complement-marks m P)) s e
   refused-accepted s e k = record {
     linked = k .linked;
-    start = k .start;
-    cycle = k .cycle;
-    accepted = λ u v l eu ev. complement-accepts l .1 (k .refused u v l eu ev);
+    lassos = record {
+      start = k .lassos .start;
+      cycle = k .lassos .cycle;
+      accepted = λ u v l eu ev. complement-accepts l .1 (k .lassos .not-accepted u v l eu ev);
+    };
   }
 
   -- it marks exactly the linked pairs whose lassos are not accepted

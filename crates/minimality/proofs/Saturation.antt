@@ -107,18 +107,22 @@ module _ {m : Morphism} (acc : ℕ → ℕ → ℕ) {g : ℕ} (some : 1 ≤ g) w
           let p = saturated-elim s e h in
           record {
             linked = p .0;
-            start = reached .word-of s (p .0 .inside);
-            cycle = reached .word-of e (p .0 .idempotent .inside);
-            accepted = λ u v l eu ev.
-                outcome-accepted l (rw (outcome-at acc (record { over = l .start-over; is = eu }) (record { over = l .cycle-over; is = ev })) (p .1));
+            lassos = record {
+              start = reached .word-of s (p .0 .inside);
+              cycle = reached .word-of e (p .0 .idempotent .inside);
+              accepted = λ u v l eu ev.
+                  outcome-accepted l (rw (outcome-at acc (record { over = l .start-over; is = eu }) (record { over = l .cycle-over; is = ev })) (p .1));
+            };
           }
 
       accepted-marked : (s e : ℕ) → LinkedAccepted m (level g (saturated m acc)) s e → T (level g (saturated m acc) s e)
       accepted-marked s e k =
-          let p : HasValue m (k .start .word) (element s) = record { over = k .start .over; is = k .start .its-value } in
-          let w : HasValue m (k .cycle .word) (element e) = record { over = k .cycle .over; is = k .cycle .its-value } in
-          let l : Lasso (m .letters) (k .start .word) (k .cycle .word) = elements-lasso p w in
-          saturated-intro (k .linked) (rw (outcome-at acc p w) at (accepted-outcome l (k .accepted _ _ l (p .is) (w .is))))
+          let x = k .lassos .start in
+          let y = k .lassos .cycle in
+          let p : HasValue m (x .word) (element s) = record { over = x .over; is = x .its-value } in
+          let w : HasValue m (y .word) (element e) = record { over = y .over; is = y .its-value } in
+          let l : Lasso (m .letters) (x .word) (y .word) = elements-lasso p w in
+          saturated-intro (k .linked) (rw (outcome-at acc p w) at (accepted-outcome l (k .lassos .accepted _ _ l (p .is) (w .is))))
 
       -- it marks exactly the linked pairs whose lassos are accepted
       pub saturated-marks : MarksAccepted m (level g (saturated m acc))

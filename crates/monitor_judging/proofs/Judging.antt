@@ -8,7 +8,7 @@ use native.Mathlib.Omega.{arith}
 use lib.ListN.{length, replicate}
 use lib.Dec.{T}
 use Rattle.answer.specs.declared.Refusal.the-variants.{NotStrong}
-use Rattle.theory.specs.Rules.{Morphism, Lawful, Pairs, AllReached}
+use Rattle.theory.specs.Rules.{Morphism, Lawful, Pairs, element, value, AllReached}
 use Rattle.theory.specs.Acceptance.{Accepts, Strong}
 use Rattle.theory.specs.Pairs.{LinkedOnly}
 use Rattle.theory.proofs.Strength.{settled-start, settled-cycle, settled-linked}
@@ -17,16 +17,17 @@ use Rattle.scratch.specs.Map.{pairsFrom}
 use Rattle.mark_search.specs.Search.{MarkingAt}
 use Rattle.mark_strong.specs.Deciding.{DecideNeeds, StrongIf, Decided}
 use Rattle.promises.specs.declared.MonitorVerdict.the-variants.{Accepted, NotAccepted, Refused}
-use Rattle.promises.specs.Verdict.{LassoWith, LassosAccepted, LassosNotAccepted}
+use Rattle.theory.specs.Words.{Lasso}
+use Rattle.theory.specs.Smallest.{LassosAccepted, LassosNotAccepted}
 use Rattle.monitor_judging.specs.Judges.{Judges}
 use Rattle.formats.specs.RuleChecks.{scratchSize}
 
 module _ {m : Morphism} (law : Lawful m) (reached : AllReached m) {before since : ℕ} (hb : before < m .size) (hs : since < m .size)
     {P : Pairs} (linked : LinkedOnly m P) (strong : Strong m P) where
   -- a lasso with the values is accepted exactly if the closure has their settled pair
-  closure-decides : {u v : List ℕ} → LassoWith m before since u v → Accepts m P u v ↔ T (closure-test m P (settled-start m before since) (settled-cycle m since))
-  closure-decides l =
-      let a = strong-acceptance law reached linked strong (l .start-over) (l .cycle-over) (l .start-value) (l .cycle-value) in
+  closure-decides : {u v : List ℕ} → Lasso (m .letters) u v → value m u ≡ element before → value m v ≡ element since → Accepts m P u v ↔ T (closure-test m P (settled-start m before since) (settled-cycle m since))
+  closure-decides l eu ev =
+      let a = strong-acceptance law reached linked strong (l .start-over) (l .cycle-over) eu ev in
       let t = acceptance-passes m P before since in
       (λ h. t .1 (a .0 h), λ h. a .1 (t .0 h))
 
@@ -34,14 +35,14 @@ module _ {m : Morphism} (law : Lawful m) (reached : AllReached m) {before since 
   closure-accepts t = record {
     start = reached .word-of before hb;
     cycle = reached .word-of since hs;
-    accepted = λ u v l. closure-decides l .1 t;
+    accepted = λ u v l eu ev. closure-decides l eu ev .1 t;
   }
 
   pub closure-rejects : (T (closure-test m P (settled-start m before since) (settled-cycle m since)) → ⊥) → LassosNotAccepted m P before since
   closure-rejects f = record {
     start = reached .word-of before hb;
     cycle = reached .word-of since hs;
-    not-accepted = λ u v l a. f (closure-decides l .0 a);
+    not-accepted = λ u v l eu ev a. f (closure-decides l eu ev .0 a);
   }
 
 module _ {m : Morphism} {entry : List ℕ} (place : DecideNeeds m entry) {before since : ℕ} (hb : before < m .size) (hs : since < m .size)

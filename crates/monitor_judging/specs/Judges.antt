@@ -11,7 +11,7 @@ use Rattle.theory.specs.Pairs.{LinkedOnly}
 use Rattle.mark_search.specs.Search.{MarkingAt}
 use Rattle.promises.specs.declared.MonitorVerdict.{MonitorVerdict}
 use Rattle.promises.specs.declared.MonitorVerdict.the-variants.{Accepted, NotAccepted, Refused}
-use Rattle.promises.specs.Verdict.{LassosAccepted, LassosNotAccepted}
+use Rattle.theory.specs.Smallest.{LassosAccepted, LassosNotAccepted}
 
 -- a strong marking with the answer for the values (before, since), or one that is not strong and 12
 abbrev pub JudgedBy : Morphism → Pairs → ℕ → ℕ → MonitorVerdict → Type 0

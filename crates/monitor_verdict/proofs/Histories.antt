@@ -6,34 +6,41 @@ use mathlib.Core.Logic.{_⊎_, inl, inr}
 use mathlib.Core.List.{List}
 use Rattle.answer.specs.Checks.{passed, FirstFailure}
 use Rattle.answer.proofs.Order.{passed-last, passes-head}
+use Rattle.theory.specs.Words.{Lasso}
+use Rattle.theory.specs.Rules.{element, value}
 use Rattle.theory.specs.Acceptance.{Accepts}
-use Rattle.formats.specs.RuleFile.{morphismOf, pairsOf}
+use Rattle.theory.proofs.Strength.{lasso-of}
+use Rattle.formats.specs.RuleFile.{lettersOf, morphismOf, pairsOf}
 use Rattle.promises.specs.declared.Monitor.{Monitor}
 use Rattle.promises.specs.Monitor.{noValue, monitorChecks}
 use Rattle.promises.specs.Histories.{Action, sinceWord, beforeWord, Run}
 use Rattle.monitor_state.proofs.Numbers.{value-element}
 use Rattle.monitor_histories.proofs.Histories.{run-follows}
 use Rattle.promises.specs.declared.MonitorVerdict.the-variants.{Accepted, NotAccepted}
-use Rattle.promises.specs.Verdict.{LassoWith, verdictChecks, VerdictPromise}
+use Rattle.promises.specs.Verdict.{verdictChecks, VerdictPromise}
 
 module _ {bytes : List ℕ} {f : Monitor} {history : List Action} (run : Run bytes f history) where
   -- neither value is none, and they are those of the history's words
-  history-lasso : {entry : List ℕ} → FirstFailure (verdictChecks bytes f entry) passed → LassoWith (morphismOf bytes) (f .before) (f .since) (beforeWord history) (sinceWord history)
-  history-lasso {entry} all =
+  history-values : {entry : List ℕ} → FirstFailure (verdictChecks bytes f entry) passed
+      → (value (morphismOf bytes) (beforeWord history) ≡ element (f .before)) × (value (morphismOf bytes) (sinceWord history) ≡ element (f .since))
+  history-values {entry} all =
       let w = run-follows bytes run in
-      record {
-        start-over = w .before-over;
-        cycle-over = w .since-over;
-        start-value = sym (w .before-value) ∙ value-element (λ e. some (inl e));
-        cycle-value = sym (w .since-value) ∙ value-element (λ e. some (inr e));
-      }
+      (sym (w .before-value) ∙ value-element (λ e. some (inl e)), sym (w .since-value) ∙ value-element (λ e. some (inr e)))
     where
       some : (f .before ≡ noValue) ⊎ (f .since ≡ noValue) → ⊥
       some e = passes-head (passed-last (monitorChecks bytes f entry) _ all) .nowhere 0 (record { none = e; is-place = refl })
 
+  history-lasso : value (morphismOf bytes) (beforeWord history) ≡ element (f .before) → value (morphismOf bytes) (sinceWord history) ≡ element (f .since)
+      → Lasso (lettersOf bytes) (beforeWord history) (sinceWord history)
+  history-lasso = lasso-of (morphismOf bytes) (run-follows bytes run .before-over) (run-follows bytes run .since-over)
+
   module _ {entry exit : List ℕ} where
     pub history-accepted : VerdictPromise bytes f entry exit Accepted → Accepts (morphismOf bytes) (pairsOf bytes) (beforeWord history) (sinceWord history)
-    history-accepted p = p .answered .accepted (beforeWord history) (sinceWord history) (history-lasso (p .refusal))
+    history-accepted p =
+        let e = history-values (p .refusal) in
+        p .answered .accepted (beforeWord history) (sinceWord history) (history-lasso (e .0) (e .1)) (e .0) (e .1)
 
     pub history-not-accepted : VerdictPromise bytes f entry exit NotAccepted → Accepts (morphismOf bytes) (pairsOf bytes) (beforeWord history) (sinceWord history) → ⊥
-    history-not-accepted p = p .answered .not-accepted (beforeWord history) (sinceWord history) (history-lasso (p .refusal))
+    history-not-accepted p =
+        let e = history-values (p .refusal) in
+        p .answered .not-accepted (beforeWord history) (sinceWord history) (history-lasso (e .0) (e .1)) (e .0) (e .1)

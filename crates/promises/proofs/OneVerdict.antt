@@ -5,11 +5,13 @@ use mathlib.Core.List.{List}
 use Rattle.answer.proofs.Order.{AllSingle, single-nil, single-at, single-cons, single-append, one-verdict}
 use Rattle.answer.proofs.Verdicts.{same-refusal, not-passed}
 use Rattle.theory.specs.Rules.{Morphism, Pairs}
+use Rattle.theory.specs.Smallest.{LassosAccepted, LassosNotAccepted}
+use Rattle.theory.proofs.Strength.{lasso-of}
 use Rattle.promises.specs.declared.Monitor.{Monitor}
 use Rattle.promises.proofs.OneMove.{monitor-single}
 use Rattle.promises.specs.declared.MonitorVerdict.{MonitorVerdict}
 use Rattle.promises.specs.declared.MonitorVerdict.the-variants.{Accepted, NotAccepted, Refused}
-use Rattle.promises.specs.Verdict.{LassoWith, LassosAccepted, LassosNotAccepted, NoneAt, verdictChecks, monitorVerdictRefusal, VerdictAnswer, VerdictPromise}
+use Rattle.promises.specs.Verdict.{NoneAt, verdictChecks, monitorVerdictRefusal, VerdictAnswer, VerdictPromise}
 use Rattle.promises.specs.Weak.{WeakAt}
 
 -- each check of a verdict fails at one place at most
@@ -20,14 +22,11 @@ verdict-single bytes f entry =
 
 -- a lasso with the values is there, so that not both can be said of all
 pub accepted-or-not : {m : Morphism} {P : Pairs} {before since : ℕ} → LassosAccepted m P before since → LassosNotAccepted m P before since → ⊥
-accepted-or-not {m} {before = before} {since = since} a b =
-    let lasso : LassoWith m before since (a .start .word) (a .cycle .word) = record {
-      start-over = a .start .over;
-      cycle-over = a .cycle .over;
-      start-value = a .start .its-value;
-      cycle-value = a .cycle .its-value;
-    } in
-    b .not-accepted (a .start .word) (a .cycle .word) lasso (a .accepted (a .start .word) (a .cycle .word) lasso)
+accepted-or-not {m} a b =
+    let x = a .start in
+    let y = a .cycle in
+    let lasso = lasso-of m (x .over) (y .over) (x .its-value) (y .its-value) in
+    b .not-accepted (x .word) (y .word) lasso (x .its-value) (y .its-value) (a .accepted (x .word) (y .word) lasso (x .its-value) (y .its-value))
 
 module _ {bytes : List ℕ} {f : Monitor} {entry exit exit′ : List ℕ} where
   pub one-answer : (answer answer′ : MonitorVerdict) → VerdictPromise bytes f entry exit answer → VerdictPromise bytes f entry exit′ answer′ → answer ≡ answer′

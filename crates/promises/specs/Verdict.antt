@@ -3,9 +3,7 @@ use Prim.Native.Nat.{ℕ}
 use mathlib.Core.Path.{_≡_}
 use mathlib.Core.List.{List, [], _∷_, _++_}
 use mathlib.Core.Logic.{_⊎_}
-use Rattle.theory.specs.Words.{Over}
-use Rattle.theory.specs.Rules.{Morphism, Pairs, element, value, WordOf}
-use Rattle.theory.specs.Acceptance.{Accepts}
+use Rattle.theory.specs.Smallest.{LassosAccepted, LassosNotAccepted}
 use Rattle.answer.specs.declared.Refusal.the-variants.{WordLength}
 use Rattle.answer.specs.Checks.{Check, Verdict, passed, refused, FirstFailure}
 use Rattle.formats.specs.RuleFile.{morphismOf, pairsOf}
@@ -15,25 +13,6 @@ use Rattle.promises.specs.Monitor.{noValue, monitorChecks}
 use Rattle.promises.specs.Weak.{weakCheck}
 use Rattle.promises.specs.declared.MonitorVerdict.{MonitorVerdict}
 use Rattle.promises.specs.declared.MonitorVerdict.the-variants.{Accepted, NotAccepted, Refused}
-
--- a "lasso whose start has value before and whose cycle has value since": a word whose value is an element is not empty
-pub record LassoWith (m : Morphism) (before since : ℕ) (u v : List ℕ) : Type 0 where
-  pub start-over : Over (m .letters) u
-  pub cycle-over : Over (m .letters) v
-  pub start-value : value m u ≡ element before
-  pub cycle-value : value m v ≡ element since
-
--- there is such a lasso, and each is accepted
-pub record LassosAccepted (m : Morphism) (P : Pairs) (before since : ℕ) : Type 0 where
-  pub start : WordOf m before
-  pub cycle : WordOf m since
-  pub accepted : (u v : List ℕ) → LassoWith m before since u v → Accepts m P u v
-
--- there is such a lasso, and none is accepted
-pub record LassosNotAccepted (m : Morphism) (P : Pairs) (before since : ℕ) : Type 0 where
-  pub start : WordOf m before
-  pub cycle : WordOf m since
-  pub not-accepted : (u v : List ℕ) → LassoWith m before since u v → Accepts m P u v → ⊥
 
 -- 11 "a verdict is wanted with before or since none"; place 0
 pub record NoneAt (f : Monitor) (place : ℕ) : Type 0 where

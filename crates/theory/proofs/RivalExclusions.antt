@@ -6,7 +6,7 @@ use mathlib.Core.List.{[], _∷_}
 use native.Mathlib.Omega.{arith}
 use Rattle.theory.specs.Words.{Lasso}
 use Rattle.theory.specs.Rules.{Rule, marked}
-use Rattle.theory.specs.Smallest.{SameLassos, LinkedAccepted, LinkedRefused, Renumbered, Smallest, MarksAccepted, Reduction, Complement}
+use Rattle.theory.specs.Smallest.{SameLassos, LinkedAccepted, LinkedNotAccepted, Renumbered, Smallest, MarksAccepted, Reduction, Complement}
 use Rattle.theory.proofs.Closure.{linked-elim, acceptance, strong-acceptance}
 use Rattle.theory.proofs.Computing.{computing, lasso-elim, accepts-by}
 use Rattle.theory.proofs.SmallRules.{table, marks, meet-rows, parity-rows, W, Z, Z₀, no-marks, first-mark, three-marks, W-sound, Z₀-sound, W-rule, W-all, Z-rule, stray-rule}
@@ -82,9 +82,11 @@ Z₀-accepted : LinkedAccepted Z₀ (marks first-mark) 1 0
 unfolding computing
 Z₀-accepted = record {
   linked = linked-elim Z₀ 1 0 tt;
-  start = Z₀-sound .reached .word-of 1 (omega arith);
-  cycle = Z₀-sound .reached .word-of 0 (omega arith);
-  accepted = λ u v l eu ev. Z₀-every .accepted u v l;
+  lassos = record {
+    start = Z₀-sound .reached .word-of 1 (omega arith);
+    cycle = Z₀-sound .reached .word-of 0 (omega arith);
+    accepted = λ u v l eu ev. Z₀-every .accepted u v l;
+  };
 }
 
 pub mark-left-out : ¬ MarksAccepted Z₀ (marks first-mark)
@@ -103,19 +105,21 @@ pub complement-too-much : ¬ Complement W (marks first-mark) (marks three-marks)
 unfolding computing
 complement-too-much c =
     let l : Lasso 2 (0 ∷ []) (0 ∷ []) = lasso-elim 2 (0 ∷ []) (0 ∷ []) tt in
-    c .marks 0 0 (omega arith) (omega arith) .0 tt .refused (0 ∷ []) (0 ∷ []) l refl refl
+    c .marks 0 0 (omega arith) (omega arith) .0 tt .lassos .not-accepted (0 ∷ []) (0 ∷ []) l refl refl
     (accepts-by (W-sound .lawful) (W-sound .linked) (0 ∷ []) (0 ∷ []) tt tt)
 
 -- and does mark (0, 1), whose lassos W does not accept
-W-refused : LinkedRefused W (marks first-mark) 0 1
+W-refused : LinkedNotAccepted W (marks first-mark) 0 1
 unfolding computing
 W-refused = record {
   linked = linked-elim W 0 1 tt;
-  start = W-sound .reached .word-of 0 (omega arith);
-  cycle = W-sound .reached .word-of 1 (omega arith);
-  refused = λ u v l eu ev a.
-      (let h : 1 ≤ acceptance W (marks first-mark) 0 1 = strong-acceptance (W-sound .lawful) (W-sound .reached) (W-sound .linked) W-strong (l .start-over) (l .cycle-over) eu ev .0 a in
-      omega arith);
+  lassos = record {
+    start = W-sound .reached .word-of 0 (omega arith);
+    cycle = W-sound .reached .word-of 1 (omega arith);
+    not-accepted = λ u v l eu ev a.
+        (let h : 1 ≤ acceptance W (marks first-mark) 0 1 = strong-acceptance (W-sound .lawful) (W-sound .reached) (W-sound .linked) W-strong (l .start-over) (l .cycle-over) eu ev .0 a in
+        omega arith);
+  };
 }
 
 pub complement-too-little : ¬ Complement W (marks first-mark) (marks no-marks)

@@ -41,9 +41,11 @@ module _ (k : ℕ) (some : 0 < k) where
     marks = λ s e hs he. (
       λ t. record {
         linked = record { inside = hs; idempotent = record { inside = he; square = omega arith }; stays = omega arith };
-        start = word-zero s hs;
-        cycle = word-zero e he;
-        accepted = λ u v l eu ev. one-every k .accepted u v l;
+        lassos = record {
+          start = word-zero s hs;
+          cycle = word-zero e he;
+          accepted = λ u v l eu ev. one-every k .accepted u v l;
+        };
       },
       λ a. tt,
     );

@@ -15,19 +15,27 @@ pub record SameLassos (r r′ : Rule) : Type 0 where
   pub same-letters : r .morphism .letters ≡ r′ .morphism .letters
   pub both-or-neither : (u v : List ℕ) → Lasso (r .morphism .letters) u v → RuleAccepts r u v ↔ RuleAccepts r′ u v
 
--- a linked pair whose lassos, those with its values, are accepted; there is one
-pub record LinkedAccepted (m : Morphism) (P : Pairs) (s e : ℕ) : Type 0 where
-  pub linked : Linked m s e
+-- the lassos whose start has the value s and whose cycle has the value e are accepted; there is one
+pub record LassosAccepted (m : Morphism) (P : Pairs) (s e : ℕ) : Type 0 where
   pub start : WordOf m s
   pub cycle : WordOf m e
   pub accepted : (u v : List ℕ) → Lasso (m .letters) u v → value m u ≡ element s → value m v ≡ element e → Accepts m P u v
 
--- a linked pair whose lassos are not accepted; there is one
-pub record LinkedRefused (m : Morphism) (P : Pairs) (s e : ℕ) : Type 0 where
-  pub linked : Linked m s e
+-- none of them is accepted; there is one
+pub record LassosNotAccepted (m : Morphism) (P : Pairs) (s e : ℕ) : Type 0 where
   pub start : WordOf m s
   pub cycle : WordOf m e
-  pub refused : (u v : List ℕ) → Lasso (m .letters) u v → value m u ≡ element s → value m v ≡ element e → Accepts m P u v → ⊥
+  pub not-accepted : (u v : List ℕ) → Lasso (m .letters) u v → value m u ≡ element s → value m v ≡ element e → Accepts m P u v → ⊥
+
+-- a linked pair whose lassos, those with its values, are accepted
+pub record LinkedAccepted (m : Morphism) (P : Pairs) (s e : ℕ) : Type 0 where
+  pub linked : Linked m s e
+  pub lassos : LassosAccepted m P s e
+
+-- a linked pair whose lassos are not accepted
+pub record LinkedNotAccepted (m : Morphism) (P : Pairs) (s e : ℕ) : Type 0 where
+  pub linked : Linked m s e
+  pub lassos : LassosNotAccepted m P s e
 
 -- "one map from the rival's elements, one-to-one and onto ours, takes the product of any two to the product of their
 -- images, and each letter's element to our element of that letter"
@@ -63,4 +71,4 @@ pub record Reduction (r reduced : Rule) : Type 0 where
 -- "Complement of a strong rule: same elements and numbering; it marks every linked pair whose lassos are not accepted", and
 -- no other pair of elements
 pub record Complement (m : Morphism) (P P′ : Pairs) : Type 0 where
-  pub marks : (s e : ℕ) → s < m .size → e < m .size → T (P′ s e) ↔ LinkedRefused m P s e
+  pub marks : (s e : ℕ) → s < m .size → e < m .size → T (P′ s e) ↔ LinkedNotAccepted m P s e
