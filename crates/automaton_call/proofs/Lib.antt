@@ -1,4 +1,3 @@
-pub mod Writing
 pub mod Laid
 pub mod Reading
 pub mod Order

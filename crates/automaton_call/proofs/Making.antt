@@ -3,16 +3,18 @@ use Prim.Native.Nat.{ℕ, _-_}
 use mathlib.Core.Path.{_≡_, refl, ap, _∙_, subst}
 use mathlib.Core.List.{List}
 use native.Mathlib.Omega.{arith}
-use lib.ListN.{length, take, drop, replicate}
+use lib.ListN.{length, getD, take, drop, replicate}
 use Rattle.answer.specs.declared.Refusal.the-variants.{TooManyMatrices}
 use Rattle.answer.proofs.Order.{first-passes, first-fails, none-left}
 use Rattle.buchi.proofs.AutomatonRule.{elements-reached, marked-linked, rule-accepts-runs, rule-strong, rule-marks-accepted}
-use Rattle.automaton_matrix_search.specs.Lists.{matrixAt, AllListed, TooRich, ListAnswer, MatricesAnswer}
+use Rattle.automaton_matrix_search.specs.Lists.{matrixAt, stepPlace, AllListed, TooRich, ListAnswer, MatricesAnswer}
 use Rattle.automaton_matrix_search.specs.declared.MatrixCount.{MatrixCount}
 use Rattle.automaton_matrix_search.specs.declared.MatrixCount.the-variants.{Listed, TooMany}
 use Rattle.formats.proofs.ReadBack.{written-rule}
 use Rattle.promises.specs.Automaton.{automatonOf, matricesCheck}
-use Rattle.automaton_table.specs.Laying.{laidRule, laidMarks, StepList, MarkNeeds, RuleLaid, WriteNeeds, LaidWritten}
+use Rattle.automaton_table.specs.Laying.{laidRule, laidMarks, StepList, MarkNeeds, RuleLaid}
+use Rattle.rule_laid.specs.Laid.{LaidNeeds, LaidAs, LaidWritten}
+use Rattle.scratch.specs.Map.{stepsBase}
 use Rattle.automaton_call.specs.Promise.{ReadHere, MadePromise}
 use Rattle.promises.specs.declared.Translated.the-variants.{Rule, Refused}
 use Rattle.automaton_call.proofs.Reading.{read-stands, read-place, read-letters}
@@ -47,20 +49,32 @@ module _ {bytes : List ℕ} {n k : ℕ} {out scratch listed : List ℕ} (r : Rea
       same-length : length laid ≡ length scratch
       same-length = l .kept .same-length ∙ a .kept .same-length
 
-      pub write-place : WriteNeeds count k laid out
+      pub write-place : LaidNeeds stepsBase count k laid out
       write-place = record {
         some = all .some;
-        few = all .list .few;
+        small = all .list .few;
         letters-some = read-letters r;
-        letters-few = read-place r .few-letters;
-        laid-long = omega (arith, same-length, r .room);
-        room = r .out-room;
+        letters-small = read-place r .few-letters;
+        images-inside = omega arith;
+        room = omega (arith, same-length, r .room);
+        out-room = r .out-room;
+      }
+
+      -- what stands there is the rule that is meant: the letters' elements are where the letters lead from the empty word
+      laid-as : LaidAs (laidRule laid count k) (laidMarks laid) stepsBase count k laid
+      laid-as = record {
+        size-is = refl;
+        letters-are = refl;
+        products = λ i j hi hj. refl;
+        elements = λ x h. ap (λ (i : ℕ). getD laid i 0) (let e : stepsBase + x ≡ stepPlace 0 x = omega arith in e);
+        marked = λ i j hi hj. refl;
       }
 
       -- and written
-      pub rule-made : {exit end : List ℕ} {size : ℕ} → LaidWritten laid count k out exit size → end ≡ replicate (length laid) 0
+      pub rule-made : {exit end : List ℕ} {size : ℕ} → LaidWritten stepsBase count k laid out exit size → end ≡ replicate (length laid) 0
           → MadePromise bytes out exit scratch end (Rule size)
       rule-made w z =
+          let file = w .written _ _ laid-as in
           let law = laid-lawful (read-stands r) (read-place r) (a .kept) all l in
           let elements = laid-matrices (read-stands r) (read-place r) (a .kept) all l in
           let marking = laid-marking (read-stands r) (read-place r) (a .kept) all l in
@@ -80,7 +94,7 @@ module _ {bytes : List ℕ} {n k : ℕ} {out scratch listed : List ℕ} (r : Rea
               written =
                   written-rule (laidRule laid count k) (laidMarks laid)
                   (record { some = all .some; small = all .list .few; letters-some = read-letters r; letters-small = read-place r .few-letters })
-                  law (marked-linked law elements marking) (elements-reached law elements) (w .counts) (w .holds);
+                  law (marked-linked law elements marking) (elements-reached law elements) (file .ends) (file .holds);
             };
             scratch = z ∙ ap (λ (c : ℕ). replicate c 0) same-length;
           }

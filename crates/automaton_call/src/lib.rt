@@ -12,12 +12,10 @@ use automaton_matrix_search::MatrixCount;
 use automaton_table::lay_products;
 use formats::RULE_SIZE;
 use promises::Translated;
-use rule_writer::write_rule;
-use scratch::LAID_MARKS_BASE;
-use scratch::LAID_PRODUCTS_BASE;
+use rule_laid::write_laid;
 use scratch::STEPS_BASE;
 use sections::zero;
-ghost use Rattle.automaton_table.specs.Laying.{StepList, MarkNeeds, RuleLaid, WriteNeeds, LaidWritten};
+ghost use Rattle.automaton_table.specs.Laying.{StepList, MarkNeeds, RuleLaid};
 ghost use Rattle.automaton_call.specs.Promise.{ReadHere, MadePromise};
 ghost use Rattle.promises.specs.Automaton.{RulePromise};
 
@@ -29,17 +27,6 @@ fn lay_rule(kinds: &[u8], n: usize, scratch: &mut [u8], count: usize)
 {
     lay_products(scratch, count);
     lay_marks(kinds, n, scratch, count);
-}
-
-// Writes the rule that was laid out, and answers how many bytes its file has.
-fn write_laid(scratch: &[u8], count: usize, k: usize, out: &mut [u8]) -> usize
-    requires { ⌜ WriteNeeds count k (now scratch) (now out) ⌝ }
-    ensures { λ r. ⌜ LaidWritten (now (scratch .entry)) count k (now (out .entry)) (now (out .exit)) r ⌝ }
-{
-    let table = &scratch[LAID_PRODUCTS_BASE..];
-    let images = &scratch[STEPS_BASE..];
-    let marks = &scratch[LAID_MARKS_BASE..];
-    write_rule(table, images, marks, count, k, out)
 }
 
 // The rule of an automaton whose transitions stand in scratch, unless it has too many matrices.
@@ -60,7 +47,7 @@ fn make_rule(automaton: &[u8], n: usize, k: usize, out: &mut [u8], scratch: &mut
         }
     };
     lay_rule(kinds, n, scratch, count);
-    let length = write_laid(scratch, count, k, out);
+    let length = write_laid(scratch, STEPS_BASE, count, k, out);
     zero(scratch);
     Translated::Rule(length)
 }

@@ -107,19 +107,3 @@ pub record RuleLaid (kinds : List ℕ) (n count : ℕ) (entry exit : List ℕ) :
   pub kept : KeptBelow laidProductsBase entry exit
   pub products : (i j : ℕ) → i < count → j < count → ProductNumber n count exit i j (laidRule exit count 0 .product i j)
   pub marks : (s e : ℕ) → s < count → e < count → MarkByte kinds n count exit s e (laidMarks exit s e)
-
--- ---- writing it
-
--- a rule within the limits of the format, and room for the longest file
-pub record WriteNeeds (count k : ℕ) (scratch out : List ℕ) : Type 0 where
-  pub some : 1 ≤ count
-  pub few : count ≤ 64
-  pub letters-some : 1 ≤ k
-  pub letters-few : k ≤ 16
-  pub laid-long : scratchSize ≤ length scratch
-  pub room : ruleSize ≤ length out
-
--- the rule that is laid out was written to the front of the buffer, r bytes long
-pub record LaidWritten (scratch : List ℕ) (count k : ℕ) (entry exit : List ℕ) (r : ℕ) : Type 0 where
-  pub holds : exit ≡ fileOf (laidRule scratch count k) (laidMarks scratch) ++ drop (length (fileOf (laidRule scratch count k) (laidMarks scratch))) entry
-  pub counts : r ≡ length (fileOf (laidRule scratch count k) (laidMarks scratch))

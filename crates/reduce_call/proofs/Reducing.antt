@@ -28,10 +28,10 @@ use Rattle.formats.proofs.Agree.{Agree}
 use Rattle.formats.proofs.Same.{SameMarks, file-same}
 use Rattle.formats.proofs.ReadBack.{written-rule}
 use Rattle.formats.specs.ReadBack.{WrittenRule}
-use Rattle.reduce_rule.specs.Written.{FileWritten}
+use Rattle.rule_laid.specs.Laid.{FileWritten}
 use Rattle.reduce_rule.specs.Steps.{QuotientNeeds, QuotientWritten, ReduceNeeds, ReducedWritten}
 use Rattle.reduce_call.proofs.Order.{quotient-by-first-words}
-use Rattle.reduce_rule.proofs.Laid.{written-same}
+use Rattle.rule_laid.proofs.Laid.{written-same}
 
 -- from the blocks of the last round to the file
 module _ {m : Morphism} {entry settled numbered out : List ℕ} {i c : ℕ} (small : m .size ≤ 64)

@@ -1,5 +1,4 @@
--- The tables of the blocks, once laid out, are those of the quotient by the blocks with its saturated marks; and the rule of
--- tables that stand in parts of scratch is written as the rule that they agree with. Assumes nothing.
+-- The tables of the blocks, once laid out, are those of the quotient by the blocks with its saturated marks. Assumes nothing.
 use Prim.Native.Nat.{ℕ, _+_, _*_, _-_, _<_}
 use mathlib.Core.Path.{_≡_, refl, sym, ap, ap₂, subst, _∙_}
 use mathlib.Core.Bool.{Bool, true, false, cond, _&&_}
@@ -26,67 +25,11 @@ use Rattle.formats.proofs.Same.{SameMarks, file-same}
 use Rattle.reduce_numbering.specs.Steps.{numberAt, leaderAt}
 use Rattle.reduce_numbering.specs.Numbering.{NumberedAs}
 use Rattle.reduce_table.specs.Layout.{BlocksNeeds, blockProduct, blockImage, laidProduct, blockOutcome, blockMark, Filled, Grid}
-use Rattle.reduce_rule.specs.Written.{FileWritten}
-use Rattle.reduce_rule.specs.Steps.{LaidNeeds, LaidAs, LaidWritten, QuotientNeeds, QuotientWritten}
+use Rattle.scratch.specs.Map.{laidImagesBase}
+use Rattle.rule_laid.specs.Laid.{LaidNeeds, LaidAs, LaidWritten}
+use Rattle.reduce_rule.specs.Steps.{QuotientNeeds, QuotientWritten}
 use Rattle.reduce_table.proofs.Cells.{pair-small}
 use Rattle.reduce_table.proofs.Blocks.{image-kept}
-
--- rules that are written alike
-pub written-same : {m m′ : Morphism} {marks marks′ : Marking} {before after : List ℕ} {end : ℕ} → fileOf m′ marks′ ≡ fileOf m marks
-    → FileWritten m′ marks′ before after end → FileWritten m marks before after end
-written-same {before = before} e w = record {
-  ends = w .ends ∙ ap length e;
-  holds = w .holds ∙ ap (λ (l : List ℕ). l ++ drop (length l) before) e;
-}
-
--- a byte of a part of scratch
-part-byte : (scratch : List ℕ) (at i : ℕ) → getD (take (length scratch - at) (drop at scratch)) i 0 ≡ getD scratch (at + i) 0
-part-byte scratch at i = rw (rest-of scratch at) (getD-drop at scratch i 0)
-
-part-length : (scratch : List ℕ) (at : ℕ) → length (take (length scratch - at) (drop at scratch)) ≡ length scratch - at
-part-length scratch at = rw (rest-of scratch at) (length-drop at scratch)
-
--- a part of scratch, as the code takes it
-abbrev pub part : List ℕ → ℕ → List ℕ
-part scratch at = take (length scratch - at) (drop at scratch)
-
-module _ {c k : ℕ} {scratch out : List ℕ} (p : LaidNeeds c k scratch out) where
-  -- the parts are long enough for the tables
-  pub laid-place : RuleNeeds (part scratch 16384) (part scratch 20480) (part scratch 24576) c k out
-  laid-place = record {
-    some = p .some;
-    small = p .small;
-    letters-some = p .letters-some;
-    letters-small = p .letters-small;
-    table-long = omega (arith, part-length scratch 16384, p .room, mul-le-mul (p .small) (p .small));
-    images-long = omega (arith, part-length scratch 20480, p .room, p .letters-small);
-    marks-long = omega (arith, part-length scratch 24576, p .room);
-    room = p .out-room;
-  }
-
--- what was written is the file of every rule that the tables agree with
-pub laid-written : {c k : ℕ} {scratch before after : List ℕ} {end : ℕ}
-    → RuleWritten (part scratch 16384) (part scratch 20480) (part scratch 24576) c k before after end → LaidWritten c k scratch before after end
-unfolding tableMarks
-laid-written {c} {k} {scratch} {before} {after} {end} w = record {
-  written = λ m marks l. written-same (file-same (agree m marks l) (marked m marks l)) (record { ends = w .ends; holds = w .holds });
-}
-  where
-    agree : (m : Morphism) (marks : Marking) → LaidAs m marks c k scratch → Agree m (tableMorphism (part scratch 16384) (part scratch 20480) c k)
-    agree m marks l = record {
-      same-size = sym (l .size-is);
-      same-letters = sym (l .letters-are);
-      same-product = λ a b ha hb.
-          part-byte scratch 16384 (a * c + b) ∙ l .products a b (subst (λ (x : ℕ). a < x) (l .size-is) ha) (subst (λ (x : ℕ). b < x) (l .size-is) hb);
-      same-image = λ a ha. part-byte scratch 20480 a ∙ l .images a (subst (λ (x : ℕ). a < x) (l .letters-are) ha);
-    }
-
-    marked : (m : Morphism) (marks : Marking) → LaidAs m marks c k scratch → SameMarks (m .size) marks (tableMarks (part scratch 24576))
-    marked m marks l = record {
-      same = λ s e hs he.
-          ap (ltb 0) (part-byte scratch 24576 (s * 64 + e))
-          ∙ l .marked s e (subst (λ (x : ℕ). s < x) (l .size-is) hs) (subst (λ (x : ℕ). e < x) (l .size-is) he);
-    }
 
 -- a number that says whether a test is passed
 bit-above : (b : Bool) → ltb 0 (bit b) ≡ b
@@ -137,12 +80,13 @@ module _ {bytes : List ℕ} {n k c : ℕ} (t : Table bytes n k) {entry table ima
 
   -- the marks too
   module _ {marks : List ℕ} (h : Grid (blockMark c images) 24576 64 c c images marks) where
-    pub marks-place : LaidNeeds c k marks out
+    pub marks-place : LaidNeeds laidImagesBase c k marks out
     marks-place = record {
       some = p .some;
       small = p .blocks .small;
       letters-some = p .letters-some;
       letters-small = t .letters-small;
+      images-inside = omega arith;
       room = omega (arith, p .blocks .room, f .kept .same-length, g .kept .same-length, h .kept .same-length);
       out-room = p .out-room;
     }
@@ -179,19 +123,19 @@ module _ {bytes : List ℕ} {n k c : ℕ} (t : Table bytes n k) {entry table ima
           (ap₂ (λ (x y : ℕ). eqb x i && ltb 0 y) (laid-product i j hi hj ∙ product-is i j) (outcome-is i j hi hj))
           ∙ sym (saturated-above (quotient (b .numbering)) (quotient-acc (b .numbering)) i j hi hj)
 
-      pub laid-as : LaidAs (quotient (b .numbering)) (saturated (quotient (b .numbering)) (quotient-acc (b .numbering))) c k marks
+      pub laid-as : LaidAs (quotient (b .numbering)) (saturated (quotient (b .numbering)) (quotient-acc (b .numbering))) laidImagesBase c k marks
       unfolding quotient
       laid-as = record {
         size-is = refl;
         letters-are = refl;
         products = λ i j hi hj.
             h .kept .before (16384 + (i * c + j)) (omega (arith, pair-small c i j (p .blocks .small) hi hj)) ∙ laid-product i j hi hj ∙ product-is i j;
-        images = λ a ha.
+        elements = λ a ha.
             h .kept .before (20480 + a) (omega (arith, t .letters-small)) ∙ f .cells a ha ∙ image-kept (g .kept) (omega arith) t a ha ∙ image-is a;
         marked = λ i j hi hj. ap (ltb 0) (h .cells i j hi hj) ∙ mark-is i j hi hj;
       }
 
-    pub quotient-written : {after : List ℕ} {end : ℕ} → LaidWritten c k marks out after end → QuotientWritten m c entry marks out after end
+    pub quotient-written : {after : List ℕ} {end : ℕ} → LaidWritten laidImagesBase c k marks out after end → QuotientWritten m c entry marks out after end
     quotient-written w = record {
       same-length = h .kept .same-length ∙ f .kept .same-length ∙ g .kept .same-length;
       written = λ acc b same. w .written _ _ (laid-as acc b same);

@@ -11,30 +11,8 @@ use Rattle.minimality.proofs.Saturation.{saturated}
 use Rattle.reduce_first_round.specs.Map.{outcomeOf, outcomeAt}
 use Rattle.reduce_numbering.specs.Numbering.{NumberedAs}
 use Rattle.reduce_table.specs.Layout.{BlocksNeeds}
-use Rattle.reduce_rule.specs.Written.{FileWritten}
-use Rattle.scratch.specs.Map.{laidImagesBase, laidMarksBase, laidProductsBase}
+use Rattle.rule_laid.specs.Laid.{FileWritten}
 use Rattle.formats.specs.RuleChecks.{ruleSize, scratchSize}
-
--- the tables of c blocks and k letters within the limits of the format, and room for the longest file
-pub record LaidNeeds (c k : ℕ) (scratch out : List ℕ) : Type 0 where
-  pub some : 1 ≤ c
-  pub small : c ≤ 64
-  pub letters-some : 1 ≤ k
-  pub letters-small : k ≤ 16
-  pub room : scratchSize ≤ length scratch
-  pub out-room : ruleSize ≤ length out
-
--- the tables in scratch are those of a rule
-pub record LaidAs (m : Morphism) (marks : Marking) (c k : ℕ) (scratch : List ℕ) : Type 0 where
-  pub size-is : m .size ≡ c
-  pub letters-are : m .letters ≡ k
-  pub products : (i j : ℕ) → i < c → j < c → getD scratch (laidProductsBase + (i * c + j)) 0 ≡ m .product i j
-  pub images : (a : ℕ) → a < k → getD scratch (laidImagesBase + a) 0 ≡ m .image a
-  pub marked : (i j : ℕ) → i < c → j < c → ltb 0 (getD scratch (laidMarksBase + (i * 64 + j)) 0) ≡ ltb 0 (marks i j)
-
--- the rule of the tables was written
-pub record LaidWritten (c k : ℕ) (scratch before after : List ℕ) (end : ℕ) : Type 0 where
-  pub written : (m : Morphism) (marks : Marking) → LaidAs m marks c k scratch → FileWritten m marks before after end
 
 -- c blocks whose leaders are elements, and room
 pub record QuotientNeeds (n k c : ℕ) (scratch out : List ℕ) : Type 0 where

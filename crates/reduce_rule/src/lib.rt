@@ -2,28 +2,11 @@
 use reduce_marks::lay_marks;
 use reduce_table::lay_images;
 use reduce_table::lay_table;
-use rule_writer::write_rule;
+use rule_laid::write_laid;
 use scratch::LAID_IMAGES_BASE;
-use scratch::LAID_MARKS_BASE;
-use scratch::LAID_PRODUCTS_BASE;
 ghost use Rattle.rule_table.specs.Table.{Table};
 ghost use Rattle.formats.specs.Table.{morphismAt};
-ghost use Rattle.reduce_rule.specs.Steps.{LaidNeeds, LaidWritten, QuotientNeeds, QuotientWritten};
-
-// Writes the rule whose tables stand in scratch.
-pub fn write_laid(scratch: &[u8], c: usize, k: usize, out: &mut [u8]) -> usize
-    requires { ⌜ LaidNeeds c k (now scratch) (now out) ⌝ }
-    ensures { λ r. ⌜ LaidWritten c k (now (scratch .entry)) (now (out .entry)) (now (out .exit)) r ⌝ }
-{
-    write_rule(
-        &scratch[LAID_PRODUCTS_BASE..],
-        &scratch[LAID_IMAGES_BASE..],
-        &scratch[LAID_MARKS_BASE..],
-        c,
-        k,
-        out,
-    )
-}
+ghost use Rattle.reduce_rule.specs.Steps.{QuotientNeeds, QuotientWritten};
 
 // Writes the rule whose elements are the c blocks, and answers its length.
 pub fn write_quotient(
@@ -41,5 +24,5 @@ pub fn write_quotient(
     lay_table(rule, n, k, c, scratch);
     lay_images(rule, n, k, scratch);
     lay_marks(c, scratch);
-    write_laid(scratch, c, k, out)
+    write_laid(scratch, LAID_IMAGES_BASE, c, k, out)
 }
