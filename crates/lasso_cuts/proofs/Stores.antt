@@ -8,6 +8,7 @@ use native.Mathlib.Nat.{eq-or-lt-of-le}
 use lib.ListN.{length, getD, set, length-set}
 use lib.Seq.{getD-set-same, getD-set-other}
 use Rattle.lasso_turns.specs.Cuts.{KeptAround}
+use Rattle.scratch.specs.Bytes.{UnchangedOutside}
 
 -- the bytes base + i with low ≤ i < high are right for their place; all others are as they were
 pub record Stored (Right : ℕ → ℕ → Type 0) (entry now : List ℕ) (base low high : ℕ) : Type 0 where
@@ -72,8 +73,8 @@ pub stored-here : {Right : ℕ → ℕ → Type 0} {entry now : List ℕ} {base 
 stored-here s = record { same-length = refl; right = s .right; before = λ i h. refl; after = λ i h. refl }
 
 -- a store among the bytes that may differ comes first
-pub kept-store : {entry now : List ℕ} {base count : ℕ} (place x : ℕ) → base ≤ place → place < base + count
-    → KeptAround (set entry place x) now base count → KeptAround entry now base count
+pub kept-store : {entry now : List ℕ} {from to : ℕ} (place x : ℕ) → from ≤ place → place < to → UnchangedOutside from to (set entry place x) now
+    → UnchangedOutside from to entry now
 kept-store {entry} place x low high k = record {
   same-length = k .same-length ∙ length-set entry place x;
   before = λ i h. k .before i h ∙ getD-set-other entry place i x 0 (λ z. omega arith);

@@ -10,6 +10,7 @@ use Rattle.finite.specs.Search.{anyBelow}
 use Rattle.theory.specs.Rules.{Morphism, Pairs, element, value}
 use Rattle.theory.proofs.Membership.{turn-test}
 use Rattle.scratch.specs.Map.{beginningsBase, endsBase, wordsEnd}
+use Rattle.scratch.specs.Bytes.{UnchangedOutside}
 
 -- the pairs that a table of bytes marks: (s, e) has a byte at s·64 + e
 unfoldable pub markedIn : List ℕ → Pairs
@@ -24,10 +25,8 @@ pub record Ends (m : Morphism) (w bytes : List ℕ) (base : ℕ) : Type 0 where
   pub end : (j : ℕ) → j < length w → value m (drop j w) ≡ element (getD bytes (base + j) 0)
 
 -- only the count bytes from base on may differ
-pub record KeptAround (entry exit : List ℕ) (base count : ℕ) : Type 0 where
-  pub same-length : length exit ≡ length entry
-  pub before : (i : ℕ) → i < base → getD exit i 0 ≡ getD entry i 0
-  pub after : (i : ℕ) → base + count ≤ i → getD exit i 0 ≡ getD entry i 0
+abbrev pub KeptAround : List ℕ → List ℕ → ℕ → ℕ → Type 0
+KeptAround entry exit base count = UnchangedOutside base (base + count) entry exit
 
 -- the values of the beginnings from byte 4096 on and of the ends from byte 8320 on, of a word with len letters, are elements
 pub record CutValues (bytes : List ℕ) (n len : ℕ) : Type 0 where

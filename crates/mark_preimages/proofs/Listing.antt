@@ -9,9 +9,11 @@ use native.Mathlib.Decide.{ℕ-discrete}
 use lib.ListN.{length, getD, set, length-set}
 use lib.Seq.{getD-set-same, getD-set-other}
 use Rattle.theory.specs.Rules.{Morphism}
-use Rattle.scratch.specs.Preimages.{afterLetter, LastBelow, firstAt, nextAt, Listed, PreimagesRoom, KeptBut, PreimagesListed}
+use Rattle.scratch.specs.Preimages.{afterLetter, LastBelow, firstAt, nextAt, Listed, PreimagesRoom, PreimagesListed}
 use Rattle.mark_preimages.specs.Listing.{ValueNeeds, ValueListed, LetterRoom, OthersKept, LetterListed, LettersListed}
 use Rattle.mark_preimages.proofs.LastBelow.{last-none, last-found, last-kept}
+use Rattle.scratch.specs.Map.{firstPreimagesBase, searchEnd}
+use Rattle.scratch.proofs.Unchanged.{unchanged-none, unchanged-both}
 
 -- the two stores of a value
 pub value-listed : {l : List ℕ} {a c x : ℕ} → ValueNeeds l a c x
@@ -28,18 +30,6 @@ value-listed {l} {a} {c} {x} p =
       others = λ i f g.
           getD-set-other between (57344 + (a * 65 + x)) i (c + 1) 0 f ∙ getD-set-other l (59392 + (a * 65 + c)) i (getD l (57344 + (a * 65 + x)) 0) 0 g;
     }
-
--- nothing changed
-pub kept-none : (l : List ℕ) → KeptBut l l
-kept-none l = record { same-length = refl; before = λ i h. refl; after = λ i h. refl }
-
--- two changes in a row
-pub kept-both : {l now next : List ℕ} → KeptBut l now → KeptBut now next → KeptBut l next
-kept-both p q = record {
-  same-length = q .same-length ∙ p .same-length;
-  before = λ i h. q .before i h ∙ p .before i h;
-  after = λ i h. q .after i h ∙ p .after i h;
-}
 
 -- one value more
 module _ {a c x : ℕ} {entry exit : List ℕ} (s : ValueListed entry exit a c x) (ha : a < 16) (hc : c < 65) (hx : x < 65) where
@@ -85,7 +75,7 @@ module _ {a c x : ℕ} {entry exit : List ℕ} (s : ValueListed entry exit a c x
 pub letter-none : {m : Morphism} {a : ℕ} {l : List ℕ} → m .size ≤ 64 → LetterRoom l a → LetterListed m a 0 l l
 letter-none {m} {a} {l} small room = record {
   listed = record { firsts = λ x h. rw (room .blank x (omega arith)) last-none; nexts = λ c h. absurd (omega arith) };
-  others = record { firsts = λ b x f hb hx. refl; nexts = λ b c f hb hc. refl; kept = kept-none l };
+  others = record { firsts = λ b x f hb hx. refl; nexts = λ b c f hb hc. refl; kept = unchanged-none firstPreimagesBase searchEnd l };
 }
 
 -- one value more of the letter is listed
@@ -98,7 +88,7 @@ letter-more small ha hc hx e l s =
       others = record {
         firsts = λ b y f hb hy. k .firsts b y f hb hy ∙ l .others .firsts b y f hb hy;
         nexts = λ b d f hb hd. k .nexts b d f hb hd ∙ l .others .nexts b d f hb hd;
-        kept = kept-both (l .others .kept) (k .kept);
+        kept = unchanged-both (l .others .kept) (k .kept);
       };
     }
 
@@ -108,7 +98,7 @@ unfolding firstAt
 letters-none {m} {l} few room = record {
   listed = λ b h. absurd (omega arith);
   blank = λ b x h hb hx. room .blank (57344 + (b * 65 + x)) (omega arith) (omega arith);
-  kept = kept-none l;
+  kept = unchanged-none firstPreimagesBase searchEnd l;
 }
 
 module _ {m : Morphism} {a : ℕ} {entry now : List ℕ} (l : LettersListed m a entry now) where
@@ -122,7 +112,7 @@ module _ {m : Morphism} {a : ℕ} {entry now : List ℕ} (l : LettersListed m a 
   letters-more {next} small few la s = record {
     listed = λ b h. letter-case b h (ℕ-discrete b a);
     blank = λ b x h hb hx. s .others .firsts b x (λ e. omega arith) (omega arith) hx ∙ l .blank b x (omega arith) hb hx;
-    kept = kept-both (l .kept) (s .others .kept);
+    kept = unchanged-both (l .kept) (s .others .kept);
   }
     where
       letter-case : (b : ℕ) → b < a + 1 → Dec (b ≡ a) → Listed m b (m .size + 1) next

@@ -4,8 +4,9 @@ use mathlib.Core.Path.{_≡_}
 use mathlib.Core.List.{List}
 use lib.ListN.{length, getD}
 use Rattle.theory.specs.Rules.{Morphism}
-use Rattle.scratch.specs.Preimages.{firstAt, nextAt, Listed, KeptBut}
+use Rattle.scratch.specs.Preimages.{firstAt, nextAt, Listed}
 use Rattle.scratch.specs.Map.{firstPreimagesBase, nextPreimagesBase, searchEnd}
+use Rattle.scratch.specs.Bytes.{UnchangedOutside}
 
 -- a letter, a value and an element whose bytes stand within the lists
 pub record ValueNeeds (scratch : List ℕ) (a c x : ℕ) : Type 0 where
@@ -30,7 +31,7 @@ pub record LetterRoom (scratch : List ℕ) (a : ℕ) : Type 0 where
 pub record OthersKept (a : ℕ) (entry exit : List ℕ) : Type 0 where
   pub firsts : (b x : ℕ) → (b ≡ a → ⊥) → b < 16 → x < 65 → firstAt exit b x ≡ firstAt entry b x
   pub nexts : (b c : ℕ) → (b ≡ a → ⊥) → b < 16 → c < 65 → nextAt exit b c ≡ nextAt entry b c
-  pub kept : KeptBut entry exit
+  pub kept : UnchangedOutside firstPreimagesBase searchEnd entry exit
 
 -- the values below a number are in the lists of one letter, and nothing else changed
 pub record LetterListed (m : Morphism) (a below : ℕ) (entry exit : List ℕ) : Type 0 where
@@ -41,4 +42,4 @@ pub record LetterListed (m : Morphism) (a below : ℕ) (entry exit : List ℕ) :
 pub record LettersListed (m : Morphism) (a : ℕ) (entry exit : List ℕ) : Type 0 where
   pub listed : (b : ℕ) → b < a → Listed m b (m .size + 1) exit
   pub blank : (b x : ℕ) → a ≤ b → b < m .letters → x < 65 → firstAt exit b x ≡ 0
-  pub kept : KeptBut entry exit
+  pub kept : UnchangedOutside firstPreimagesBase searchEnd entry exit

@@ -16,7 +16,7 @@ use Rattle.minimality.proofs.Saturation.{saturated}
 use Rattle.minimality.proofs.Reductions.{RuleNumbering, reduced-rule, reduction-right, reduced-linked}
 use Rattle.reduce_first_round.specs.Map.{outcomeOf, outcomeAt}
 use Rattle.reduce_rounds.specs.Rounds.{RoundsSettled}
-use Rattle.reduce_first_round.proofs.Bytes.{kept-room}
+use Rattle.scratch.proofs.Unchanged.{unchanged-room}
 use Rattle.reduce_first_round.proofs.OutcomeBytes.{outcome-below, outcome-acceptance}
 use Rattle.reduce_first_round.proofs.Comparing.{same-outcomes-carry}
 use Rattle.mark_search.specs.Search.{MarkingAt}
@@ -47,7 +47,7 @@ module _ {m : Morphism} {entry settled numbered out : List ℕ} {i c : ℕ} (sma
   quotient-place = record {
     some = b .some;
     letters-some = p .letters-some;
-    blocks = record { small = omega (arith, b .few); leaders = leader-inside; room = kept-room (b .kept) (kept-room (r .kept) (p .room)) };
+    blocks = record { small = omega (arith, b .few); leaders = leader-inside; room = unchanged-room (b .kept) (unchanged-room (r .kept) (p .room)) };
     out-room = p .out-room;
   }
 

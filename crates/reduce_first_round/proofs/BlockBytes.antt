@@ -13,7 +13,7 @@ use Rattle.finite.proofs.Numbers.{Compared, lesser, level, greater, compared}
 use Rattle.minimality.proofs.Blocks.{tabFrom, length-tab, getD-tab, IsBlocks, equal-related, related-equal}
 use Rattle.reduce_first_round.specs.Map.{BlocksAt}
 use Rattle.reduce_first_round.specs.Steps.{Tells, LeastRelated, BlocksWritten}
-use Rattle.reduce_first_round.proofs.Bytes.{kept-none, kept-both, kept-set}
+use Rattle.scratch.proofs.Unchanged.{unchanged-none, unchanged-both, unchanged-set}
 
 -- no element below t is related to s
 pub record NoneBelow (R : ℕ → ℕ → Type 0) (s t : ℕ) : Type 0 where
@@ -77,7 +77,7 @@ blocks-moved same b = blocks-of (λ s h. rw (same s h) (least-at b s h))
 pub written-none : {R : ℕ → ℕ → Type 0} (base : ℕ) (l : List ℕ) → BlocksWritten 0 R base l l
 written-none base l = record {
   blocks = record { at-most = λ s h. absurd (omega arith); related = λ s h. absurd (omega arith); least = λ s t h. absurd (omega arith) };
-  kept = kept-none base (base + 64) l;
+  kept = unchanged-none base (base + 64) l;
 }
 
 -- one block more
@@ -85,7 +85,7 @@ pub written-more : {R : ℕ → ℕ → Type 0} {base s r : ℕ} {entry now : Li
     → LeastRelated R s r → BlocksWritten (s + 1) R base entry (set now (base + s) r)
 written-more {R} {base} {s} {r} {entry} {now} hs room w l = record {
   blocks = blocks-of (λ t h. block t h (ℕ-discrete t s));
-  kept = kept-both (w .kept) (kept-set now (base + s) r (omega arith) (omega arith));
+  kept = unchanged-both (w .kept) (unchanged-set now (base + s) r (omega arith) (omega arith));
 }
   where
     block : (t : ℕ) → t < s + 1 → Dec (t ≡ s) → LeastRelated R t (getD (set now (base + s) r) (base + t) 0)

@@ -1,4 +1,3 @@
-pub mod Bytes
 pub mod OutcomeBytes
 pub mod Comparing
 pub mod BlockBytes

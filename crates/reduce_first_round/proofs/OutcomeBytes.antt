@@ -24,9 +24,10 @@ use Rattle.formats.proofs.Tables.{LeastPower}
 use Rattle.rule_table.specs.Answers.{PowerAnswer}
 use Rattle.rule_table.proofs.Facts.{least-power-is, no-power-absurd}
 use Rattle.scratch.specs.Map.{pairsFrom}
-use Rattle.reduce_first_round.specs.Map.{outcomeOf, outcomeAt, KeptOutside}
+use Rattle.reduce_first_round.specs.Map.{outcomeOf, outcomeAt}
+use Rattle.scratch.specs.Bytes.{UnchangedOutside}
 use Rattle.reduce_first_round.specs.Steps.{ColumnWritten, OutcomesWritten}
-use Rattle.reduce_first_round.proofs.Bytes.{kept-none, kept-both, kept-set}
+use Rattle.scratch.proofs.Unchanged.{unchanged-none, unchanged-both, unchanged-set}
 use Rattle.formats.specs.RuleChecks.{scratchSize}
 
 -- what the search for the idempotent power answered, by its case
@@ -54,19 +55,19 @@ module _ (scratch : List ℕ) (f : ℕ) {s t : ℕ} (e : t ≡ s) where
   look-unmarked h = rw (← e, le-ltb _ _ h)
 
 -- the table of marks is as it was
-pub marks-kept : {to : ℕ} {entry now : List ℕ} (s e : ℕ) → KeptOutside 8192 to entry now → s < 64 → e < 64 → pairsFrom now 4096 s e ≡ pairsFrom entry 4096 s e
+pub marks-kept : {to : ℕ} {entry now : List ℕ} (s e : ℕ) → UnchangedOutside 8192 to entry now → s < 64 → e < 64 → pairsFrom now 4096 s e ≡ pairsFrom entry 4096 s e
 unfolding pairsFrom
 marks-kept s e k hs he = ap (ltb 0) (k .before (4096 + (s * 64 + e)) (omega arith))
 
 -- outcomes stand below the blocks
-pub outcome-below : {from to : ℕ} {entry now : List ℕ} (s z : ℕ) → s < 64 → z < 64 → 12288 ≤ from → KeptOutside from to entry now
+pub outcome-below : {from to : ℕ} {entry now : List ℕ} (s z : ℕ) → s < 64 → z < 64 → 12288 ≤ from → UnchangedOutside from to entry now
     → outcomeAt now s z ≡ outcomeAt entry s z
 unfolding outcomeAt
 outcome-below s z hs hz h k = k .before (8192 + (s * 64 + z)) (omega arith)
 
 module _ {m : Morphism} (law : Lawful m) (small : m .size ≤ 64) where
   -- and so is what it says of an outcome
-  pub outcome-kept : {to : ℕ} {entry now : List ℕ} (s z : ℕ) → KeptOutside 8192 to entry now → s < m .size → z < m .size
+  pub outcome-kept : {to : ℕ} {entry now : List ℕ} (s z : ℕ) → UnchangedOutside 8192 to entry now → s < m .size → z < m .size
       → outcomeOf m now s z ≡ outcomeOf m entry s z
   unfolding outcomeOf
   outcome-kept s z k hs hz =
@@ -76,7 +77,7 @@ module _ {m : Morphism} (law : Lawful m) (small : m .size ≤ 64) where
 
   -- no outcome is written
   pub column-none : (z : ℕ) (l : List ℕ) → ColumnWritten m z 0 l l
-  column-none z l = record { column = λ s h. absurd (omega arith); others = λ s y h f. refl; kept = kept-none 8192 12288 l }
+  column-none z l = record { column = λ s h. absurd (omega arith); others = λ s y h f. refl; kept = unchanged-none 8192 12288 l }
 
   -- one outcome more of a column
   pub column-more : {z s f found : ℕ} {entry now : List ℕ} → z < m .size → s < m .size → scratchSize ≤ length entry → f ≡ settled-cycle m z
@@ -88,7 +89,7 @@ module _ {m : Morphism} (law : Lawful m) (small : m .size ≤ 64) where
     others = λ r y h g.
         let d : y ≢ z = g in
         getD-set-other now (8192 + (s * 64 + z)) (8192 + (r * 64 + y)) found 0 (λ e. omega arith) ∙ w .others r y h g;
-    kept = kept-both (w .kept) (kept-set now (8192 + (s * 64 + z)) found (omega arith) (omega arith));
+    kept = unchanged-both (w .kept) (unchanged-set now (8192 + (s * 64 + z)) found (omega arith) (omega arith));
   }
     where
       right : found ≡ outcomeOf m entry s z
@@ -107,14 +108,14 @@ module _ {m : Morphism} (law : Lawful m) (small : m .size ≤ 64) where
 
   -- no column is written
   pub outcomes-none : (l : List ℕ) → OutcomesWritten m 0 l l
-  outcomes-none l = record { outcomes = λ s z hs h. absurd (omega arith); kept = kept-none 8192 12288 l }
+  outcomes-none l = record { outcomes = λ s z hs h. absurd (omega arith); kept = unchanged-none 8192 12288 l }
 
   -- one column more
   pub outcomes-more : {z : ℕ} {entry now next : List ℕ} → z < m .size → OutcomesWritten m z entry now → ColumnWritten m z (m .size) now next
       → OutcomesWritten m (z + 1) entry next
   outcomes-more {z} {entry} {now} {next} hz w c = record {
     outcomes = λ s y hs h. cell s y hs h (ℕ-discrete y z);
-    kept = kept-both (w .kept) (c .kept);
+    kept = unchanged-both (w .kept) (c .kept);
   }
     where
       cell : (s y : ℕ) → s < m .size → y < z + 1 → Dec (y ≡ z) → outcomeAt next s y ≡ outcomeOf m entry s y

@@ -31,9 +31,3 @@ pub record BlocksAt (n : ℕ) (R : ℕ → ℕ → Type 0) (scratch : List ℕ) 
   pub at-most : (s : ℕ) → s < n → getD scratch (base + s) 0 ≤ s
   pub related : (s : ℕ) → s < n → R (getD scratch (base + s) 0) s
   pub least : (s t : ℕ) → s < n → t < getD scratch (base + s) 0 → R t s → ⊥
-
--- only the bytes from `from` up to `to` may differ
-pub record KeptOutside (from to : ℕ) (entry exit : List ℕ) : Type 0 where
-  pub same-length : length exit ≡ length entry
-  pub before : (i : ℕ) → i < from → getD exit i 0 ≡ getD entry i 0
-  pub after : (i : ℕ) → to ≤ i → getD exit i 0 ≡ getD entry i 0

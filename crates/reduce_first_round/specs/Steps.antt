@@ -5,7 +5,8 @@ use mathlib.Core.Bool.{Bool, true, false}
 use mathlib.Core.List.{List}
 use lib.ListN.{getD}
 use Rattle.theory.specs.Rules.{Morphism}
-use Rattle.reduce_first_round.specs.Map.{outcomeOf, outcomeAt, BlocksAt, KeptOutside}
+use Rattle.reduce_first_round.specs.Map.{outcomeOf, outcomeAt, BlocksAt}
+use Rattle.scratch.specs.Bytes.{UnchangedOutside}
 use Rattle.scratch.specs.Map.{blocksBase, nextBlocksBase, outcomesBase}
 
 -- an answer tells whether a fact holds
@@ -23,17 +24,17 @@ pub record LeastRelated (R : ℕ → ℕ → Type 0) (s r : ℕ) : Type 0 where
 pub record ColumnWritten (m : Morphism) (z rows : ℕ) (entry exit : List ℕ) : Type 0 where
   pub column : (s : ℕ) → s < rows → outcomeAt exit s z ≡ outcomeOf m entry s z
   pub others : (s y : ℕ) → y < 64 → (y ≡ z → ⊥) → outcomeAt exit s y ≡ outcomeAt entry s y
-  pub kept : KeptOutside outcomesBase blocksBase entry exit
+  pub kept : UnchangedOutside outcomesBase blocksBase entry exit
 
 -- the outcomes of all values whose cycle is one of the first elements stand there
 pub record OutcomesWritten (m : Morphism) (columns : ℕ) (entry exit : List ℕ) : Type 0 where
   pub outcomes : (s z : ℕ) → s < m .size → z < columns → outcomeAt exit s z ≡ outcomeOf m entry s z
-  pub kept : KeptOutside outcomesBase blocksBase entry exit
+  pub kept : UnchangedOutside outcomesBase blocksBase entry exit
 
 -- the blocks of the first n elements stand from a base on
 pub record BlocksWritten (n : ℕ) (R : ℕ → ℕ → Type 0) (base : ℕ) (entry exit : List ℕ) : Type 0 where
   pub blocks : BlocksAt n R exit base
-  pub kept : KeptOutside base (base + 64) entry exit
+  pub kept : UnchangedOutside base (base + 64) entry exit
 
 -- the products of s and t with the letter a are related, on the right and on the left
 pub record ProductsTogether (m : Morphism) (R : ℕ → ℕ → Type 0) (s t a : ℕ) : Type 0 where
@@ -50,7 +51,7 @@ pub record Differs (n : ℕ) (old new : ℕ → ℕ) : Type 0 where
 pub record Moved (s : ℕ) (changed : Bool) (entry exit : List ℕ) (answer : Bool) : Type 0 where
   pub block : getD exit (blocksBase + s) 0 ≡ getD entry (nextBlocksBase + s) 0
   pub others : (i : ℕ) → (i ≡ blocksBase + s → ⊥) → getD exit i 0 ≡ getD entry i 0
-  pub kept : KeptOutside blocksBase nextBlocksBase entry exit
+  pub kept : UnchangedOutside blocksBase nextBlocksBase entry exit
   pub same : getD entry (nextBlocksBase + s) 0 ≡ getD entry (blocksBase + s) 0 → answer ≡ changed
   pub differs : (getD entry (nextBlocksBase + s) 0 ≡ getD entry (blocksBase + s) 0 → ⊥) → answer ≡ true
 
@@ -58,6 +59,6 @@ pub record Moved (s : ℕ) (changed : Bool) (entry exit : List ℕ) (answer : Bo
 pub record TakenOver (n : ℕ) (entry exit : List ℕ) (answer : Bool) : Type 0 where
   pub blocks : (s : ℕ) → s < n → getD exit (blocksBase + s) 0 ≡ getD entry (nextBlocksBase + s) 0
   pub rest : (s : ℕ) → n ≤ s → getD exit (blocksBase + s) 0 ≡ getD entry (blocksBase + s) 0
-  pub kept : KeptOutside blocksBase nextBlocksBase entry exit
+  pub kept : UnchangedOutside blocksBase nextBlocksBase entry exit
   pub changed : answer ≡ true → Differs n (λ s. getD entry (blocksBase + s) 0) (λ s. getD entry (nextBlocksBase + s) 0)
   pub unchanged : answer ≡ false → (s : ℕ) → s < n → getD entry (nextBlocksBase + s) 0 ≡ getD entry (blocksBase + s) 0

@@ -8,7 +8,7 @@ use native.Mathlib.Decide.{ℕ-discrete}
 use lib.ListN.{length, getD, set, length-set}
 use lib.Seq.{getD-set-same, getD-set-other}
 use Rattle.rule_reach.specs.Reach.{placeAt}
-use Rattle.reduce_first_round.proofs.Bytes.{kept-none, kept-both, kept-set}
+use Rattle.scratch.proofs.Unchanged.{unchanged-none, unchanged-both, unchanged-set}
 use Rattle.reduce_numbering.specs.Steps.{blockAt, numberAt, leaderAt, Sought, Taken, taken-old, taken-new, Entries, Numbered}
 use Rattle.formats.specs.RuleChecks.{scratchSize}
 
@@ -52,7 +52,7 @@ numbered-none queue n l = record {
   number-below = λ t h. absurd (omega arith);
   number-block = λ t h. absurd (omega arith);
   number-first = λ t h. absurd (omega arith);
-  kept = kept-none 12416 12544 l;
+  kept = unchanged-none 12416 12544 l;
 }
 
 -- one entry more
@@ -134,7 +134,7 @@ module _ {queue : List ℕ} {n count i c : ℕ} {entry now : List ℕ} (e : Entr
       number-below = λ t h. old-below t (ℕ-discrete t i) h;
       number-block = λ t h. old-block t (ℕ-discrete t i) h;
       number-first = λ t h. old-first t (ℕ-discrete t i) h;
-      kept = kept-both (w .kept) (kept-set now (12416 + s) j (omega arith) (omega (arith, s-small)));
+      kept = unchanged-both (w .kept) (unchanged-set now (12416 + s) j (omega arith) (omega (arith, s-small)));
     }
 
   -- the block of s gets the next number
@@ -217,8 +217,8 @@ module _ {queue : List ℕ} {n count i c : ℕ} {entry now : List ℕ} (e : Entr
       number-below = λ t h. new-below t (ℕ-discrete t i) h;
       number-block = λ t h. new-block t (ℕ-discrete t i) h;
       number-first = λ t h. new-first t (ℕ-discrete t i) h;
-      kept = kept-both (w .kept) (kept-both (kept-set now (12416 + s) c (omega arith) (omega (arith, s-small)))
-          (kept-set (set now (12416 + s) c) (12480 + c) s (omega arith) (omega (arith, c-small))));
+      kept = unchanged-both (w .kept) (unchanged-both (unchanged-set now (12416 + s) c (omega arith) (omega (arith, s-small)))
+          (unchanged-set (set now (12416 + s) c) (12480 + c) s (omega arith) (omega (arith, c-small))));
     }
 
   pub numbered-more : {exit : List ℕ} {r : ℕ} → Taken now exit c s r → Numbered queue n (i + 1) r entry exit

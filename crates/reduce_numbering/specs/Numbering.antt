@@ -8,7 +8,8 @@ use Rattle.theory.specs.Words.{Over}
 use Rattle.theory.specs.Rules.{Morphism, element, value}
 use Rattle.minimality.specs.Rounds.{Together, Stable}
 use Rattle.minimality.proofs.Quotient.{Numbering}
-use Rattle.reduce_first_round.specs.Map.{BlocksAt, KeptOutside}
+use Rattle.reduce_first_round.specs.Map.{BlocksAt}
+use Rattle.scratch.specs.Bytes.{UnchangedOutside}
 use Rattle.reduce_numbering.specs.Steps.{numberAt, leaderAt}
 use Rattle.scratch.specs.Map.{blocksBase, leadersEnd, numbersBase}
 
@@ -38,4 +39,4 @@ pub record BlocksNumbered (m : Morphism) (c : ℕ) (entry exit : List ℕ) : Typ
   pub few : c ≤ m .size
   pub numbered : (acc : ℕ → ℕ → ℕ) (i : ℕ) → BlocksAt (m .size) (Together m acc i) entry blocksBase → Stable m acc i → NumberedAs m acc c exit
   pub in-order : WordsInOrder m c exit
-  pub kept : KeptOutside numbersBase leadersEnd entry exit
+  pub kept : UnchangedOutside numbersBase leadersEnd entry exit

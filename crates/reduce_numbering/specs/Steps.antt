@@ -9,7 +9,7 @@ use mathlib.Core.Path.{_≡_}
 use mathlib.Core.List.{List}
 use lib.ListN.{length, getD, set}
 use Rattle.rule_reach.specs.Reach.{placeAt, Places}
-use Rattle.reduce_first_round.specs.Map.{KeptOutside}
+use Rattle.scratch.specs.Bytes.{UnchangedOutside}
 use Rattle.scratch.specs.Map.{blocksBase, leadersBase, leadersEnd, numbersBase}
 
 -- the byte of the block of s
@@ -57,4 +57,4 @@ pub record Numbered (queue : List ℕ) (n i c : ℕ) (entry exit : List ℕ) : T
   pub number-below : (t : ℕ) → t < i → numberAt exit (getD queue t 0) < c
   pub number-block : (t : ℕ) → t < i → blockAt entry (leaderAt exit (numberAt exit (getD queue t 0))) ≡ blockAt entry (getD queue t 0)
   pub number-first : (t : ℕ) → t < i → placeAt queue (leaderAt exit (numberAt exit (getD queue t 0))) ≤ t + 1
-  pub kept : KeptOutside numbersBase leadersEnd entry exit
+  pub kept : UnchangedOutside numbersBase leadersEnd entry exit

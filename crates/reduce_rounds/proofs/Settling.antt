@@ -13,10 +13,11 @@ use Rattle.theory.specs.Rules.{Morphism}
 use Rattle.minimality.specs.Rounds.{StillTogether, Together, Stable}
 use Rattle.minimality.proofs.Rounds.{together-sym, together-trans, together-next, together-before}
 use Rattle.minimality.proofs.FirstStable.{blocks-many, blocks-at-most}
-use Rattle.reduce_first_round.specs.Map.{outcomeOf, outcomeAt, InOneBlock, BlocksAt, KeptOutside}
+use Rattle.reduce_first_round.specs.Map.{outcomeOf, outcomeAt, InOneBlock, BlocksAt}
+use Rattle.scratch.specs.Bytes.{UnchangedOutside}
 use Rattle.reduce_first_round.specs.Steps.{OutcomesWritten, BlocksWritten, TakenOver}
 use Rattle.reduce_rounds.specs.Rounds.{RoundDone, RoundsSettled}
-use Rattle.reduce_first_round.proofs.Bytes.{kept-none, kept-both, kept-wider}
+use Rattle.scratch.proofs.Unchanged.{unchanged-none, unchanged-both, unchanged-wider}
 use Rattle.reduce_first_round.proofs.OutcomeBytes.{outcome-below}
 use Rattle.reduce_first_round.proofs.Comparing.{same-outcomes-carry}
 use Rattle.reduce_first_round.proofs.BlockBytes.{least-carry, least-unique, least-at, blocks-carry, blocks-moved, bytes-related, related-bytes}
@@ -49,7 +50,7 @@ module _ {m : Morphism} (closed : (a b : ℕ) → a < m .size → b < m .size �
           differs = λ q. d .differs (sym (v .blocks (d .at) (d .below)) ∙ q ∙ sym (old (d .at) (d .below)));
         };
     unchanged = λ e s h. v .blocks s h ∙ v .unchanged e s h ∙ old s h;
-    kept = kept-both (kept-wider (omega arith) (omega arith) (w .kept)) (kept-wider (omega arith) (omega arith) (v .kept));
+    kept = unchanged-both (unchanged-wider (omega arith) (omega arith) (w .kept)) (unchanged-wider (omega arith) (omega arith) (v .kept));
   }
     where
       next : BlocksAt (m .size) (StillTogether m (InOneBlock entry)) exit 12288
@@ -80,7 +81,7 @@ module _ {m : Morphism} {acc : ℕ → ℕ → ℕ} {i : ℕ} {entry exit : List
 pub record Started (m : Morphism) (entry start : List ℕ) : Type 0 where
   pub blocks : BlocksAt (m .size) (Together m (outcomeOf m entry) 0) start 12288
   pub outcomes : (s z : ℕ) → s < m .size → z < m .size → outcomeAt start s z ≡ outcomeOf m entry s z
-  pub kept : KeptOutside 8192 12416 entry start
+  pub kept : UnchangedOutside 8192 12416 entry start
 
 -- after the outcomes and the blocks of round 0
 pub started : {m : Morphism} {entry now start : List ℕ} → m .size ≤ 64 → OutcomesWritten m (m .size) entry now
@@ -89,7 +90,7 @@ unfolding Together
 started small o w = record {
   blocks = blocks-carry (same-outcomes-carry (o .outcomes)) (w .blocks);
   outcomes = λ s z hs hz. outcome-below s z (omega arith) (omega arith) (omega arith) (w .kept) ∙ o .outcomes s z hs hz;
-  kept = kept-both (kept-wider (omega arith) (omega arith) (o .kept)) (kept-wider (omega arith) (omega arith) (w .kept));
+  kept = unchanged-both (unchanged-wider (omega arith) (omega arith) (o .kept)) (unchanged-wider (omega arith) (omega arith) (w .kept));
 }
 
 -- the blocks of round i stand there, and no round before was stable
@@ -100,12 +101,12 @@ pub record RoundsRun (m : Morphism) (acc : ℕ → ℕ → ℕ) (i : ℕ) (now :
 -- whatever the outcomes whose round 0 stood at the start
 pub record Running (m : Morphism) (start now : List ℕ) (i : ℕ) : Type 0 where
   pub runs : (acc : ℕ → ℕ → ℕ) → BlocksAt (m .size) (Together m acc 0) start 12288 → RoundsRun m acc i now
-  pub kept : KeptOutside 12288 12416 start now
+  pub kept : UnchangedOutside 12288 12416 start now
 
 pub running-start : {m : Morphism} (start : List ℕ) → Running m start start 0
 running-start start = record {
   runs = λ acc b. record { blocks = b; unstable = λ j h. absurd (omega arith) };
-  kept = kept-none 12288 12416 start;
+  kept = unchanged-none 12288 12416 start;
 }
 
 module _ {m : Morphism} {start now : List ℕ} {i : ℕ} (w : Running m start now i) where
@@ -122,7 +123,7 @@ module _ {m : Morphism} {start now : List ℕ} {i : ℕ} (w : Running m start no
       blocks = r .after acc i (w .runs acc b .blocks);
       unstable = λ j h. before acc b j h (ℕ-discrete j i);
     };
-    kept = kept-both (w .kept) (r .kept);
+    kept = unchanged-both (w .kept) (r .kept);
   })
     where
       before : (acc : ℕ → ℕ → ℕ) → BlocksAt (m .size) (Together m acc 0) start 12288 → (j : ℕ) → j < suc i → Dec (j ≡ i) → Stable m acc j → ⊥
@@ -140,6 +141,6 @@ module _ {m : Morphism} {start now : List ℕ} {i : ℕ} (w : Running m start no
         stable = unchanged-is-stable (run .blocks) r e;
         first = run .unstable;
         outcomes = λ s z hs hz.
-            outcome-below s z (omega arith) (omega arith) (omega arith) (kept-both (w .kept) (r .kept)) ∙ st .outcomes s z hs hz;
-        kept = kept-both (st .kept) (kept-wider (omega arith) (omega arith) (kept-both (w .kept) (r .kept)));
+            outcome-below s z (omega arith) (omega arith) (omega arith) (unchanged-both (w .kept) (r .kept)) ∙ st .outcomes s z hs hz;
+        kept = unchanged-both (st .kept) (unchanged-wider (omega arith) (omega arith) (unchanged-both (w .kept) (r .kept)));
       }

@@ -9,7 +9,7 @@ use native.Mathlib.Decide.{ℕ-discrete}
 use lib.ListN.{length, getD, set}
 use lib.Seq.{getD-set-same, getD-set-other}
 use Rattle.reduce_first_round.specs.Steps.{Differs, Moved, TakenOver}
-use Rattle.reduce_first_round.proofs.Bytes.{kept-none, kept-both, kept-set}
+use Rattle.scratch.proofs.Unchanged.{unchanged-none, unchanged-both, unchanged-set}
 use Rattle.formats.specs.RuleChecks.{scratchSize}
 
 -- one block taken over
@@ -19,7 +19,7 @@ module _ {s : ℕ} {changed : Bool} {l : List ℕ} (hs : s < 64) (room : scratch
   moved-same e = record {
     block = getD-set-same l (12288 + s) (getD l (12352 + s) 0) 0 (omega arith);
     others = λ i f. getD-set-other l (12288 + s) i (getD l (12352 + s) 0) 0 f;
-    kept = kept-set l (12288 + s) (getD l (12352 + s) 0) (omega arith) (omega arith);
+    kept = unchanged-set l (12288 + s) (getD l (12352 + s) 0) (omega arith) (omega arith);
     same = λ q. refl;
     differs = λ g. absurd (g (sym e));
   }
@@ -29,7 +29,7 @@ module _ {s : ℕ} {changed : Bool} {l : List ℕ} (hs : s < 64) (room : scratch
   moved-differs g = record {
     block = getD-set-same l (12288 + s) (getD l (12352 + s) 0) 0 (omega arith);
     others = λ i f. getD-set-other l (12288 + s) i (getD l (12352 + s) 0) 0 f;
-    kept = kept-set l (12288 + s) (getD l (12352 + s) 0) (omega arith) (omega arith);
+    kept = unchanged-set l (12288 + s) (getD l (12352 + s) 0) (omega arith) (omega arith);
     same = λ q. absurd (g (sym q));
     differs = λ f. refl;
   }
@@ -39,7 +39,7 @@ pub taken-none : (l : List ℕ) → TakenOver 0 l l false
 taken-none l = record {
   blocks = λ s h. absurd (omega arith);
   rest = λ s h. refl;
-  kept = kept-none 12288 12352 l;
+  kept = unchanged-none 12288 12352 l;
   changed = λ e. absurd (let z : _≡_ {A = ℕ} 0 1 = cc in omega arith);
   unchanged = λ e s h. absurd (omega arith);
 }
@@ -53,7 +53,7 @@ pub taken-more : {s : ℕ} {entry now next : List ℕ} {changed answer : Bool} �
 taken-more {s} {entry} {now} {next} {changed} {answer} hs w v = record {
   blocks = λ t h. block t h (ℕ-discrete t s);
   rest = λ t h. v .others (12288 + t) (λ e. omega arith) ∙ w .rest t (omega arith);
-  kept = kept-both (w .kept) (v .kept);
+  kept = unchanged-both (w .kept) (v .kept);
   changed = λ e. told e (ℕ-discrete (getD entry (12352 + s) 0) (getD entry (12288 + s) 0));
   unchanged = λ e t h. untold e t h (ℕ-discrete (getD entry (12352 + s) 0) (getD entry (12288 + s) 0)) (ℕ-discrete t s);
 }

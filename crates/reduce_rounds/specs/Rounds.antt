@@ -6,7 +6,8 @@ use mathlib.Core.List.{List}
 use lib.ListN.{getD}
 use Rattle.theory.specs.Rules.{Morphism}
 use Rattle.minimality.specs.Rounds.{StillTogether, Together, Stable}
-use Rattle.reduce_first_round.specs.Map.{outcomeOf, outcomeAt, InOneBlock, BlocksAt, KeptOutside}
+use Rattle.reduce_first_round.specs.Map.{outcomeOf, outcomeAt, InOneBlock, BlocksAt}
+use Rattle.scratch.specs.Bytes.{UnchangedOutside}
 use Rattle.reduce_first_round.specs.Steps.{Differs}
 use Rattle.scratch.specs.Map.{blocksBase, numbersBase, outcomesBase}
 
@@ -16,7 +17,7 @@ pub record RoundDone (m : Morphism) (entry exit : List ℕ) (answer : Bool) : Ty
   pub after : (acc : ℕ → ℕ → ℕ) (i : ℕ) → BlocksAt (m .size) (Together m acc i) entry blocksBase → BlocksAt (m .size) (Together m acc (suc i)) exit blocksBase
   pub changed : answer ≡ true → Differs (m .size) (λ s. getD entry (blocksBase + s) 0) (λ s. getD exit (blocksBase + s) 0)
   pub unchanged : answer ≡ false → (s : ℕ) → s < m .size → getD exit (blocksBase + s) 0 ≡ getD entry (blocksBase + s) 0
-  pub kept : KeptOutside blocksBase numbersBase entry exit
+  pub kept : UnchangedOutside blocksBase numbersBase entry exit
 
 -- all rounds: the blocks are those of round i, the first after which the next changes nothing; the outcomes stand there
 pub record RoundsSettled (m : Morphism) (entry exit : List ℕ) (i : ℕ) : Type 0 where
@@ -25,4 +26,4 @@ pub record RoundsSettled (m : Morphism) (entry exit : List ℕ) (i : ℕ) : Type
   pub stable : Stable m (outcomeOf m entry) i
   pub first : (j : ℕ) → j < i → Stable m (outcomeOf m entry) j → ⊥
   pub outcomes : (s z : ℕ) → s < m .size → z < m .size → outcomeAt exit s z ≡ outcomeOf m entry s z
-  pub kept : KeptOutside outcomesBase numbersBase entry exit
+  pub kept : UnchangedOutside outcomesBase numbersBase entry exit

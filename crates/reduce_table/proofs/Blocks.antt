@@ -12,8 +12,9 @@ use lib.ListN.{length, getD}
 use Rattle.finite.proofs.Search.{bit}
 use Rattle.rule_table.specs.Table.{Table}
 use Rattle.formats.specs.Table.{productAt, imageAt}
-use Rattle.reduce_first_round.specs.Map.{outcomeAt, KeptOutside}
-use Rattle.reduce_first_round.proofs.Bytes.{kept-room}
+use Rattle.reduce_first_round.specs.Map.{outcomeAt}
+use Rattle.scratch.specs.Bytes.{UnchangedOutside}
+use Rattle.scratch.proofs.Unchanged.{unchanged-room}
 use Rattle.reduce_numbering.specs.Steps.{numberAt, leaderAt}
 use Rattle.reduce_table.specs.Layout.{BlocksNeeds, blockProduct, blockImage, laidProduct, blockOutcome, blockMark}
 use Rattle.reduce_table.proofs.Cells.{pair-small}
@@ -24,14 +25,14 @@ pub product-small : {bytes : List ℕ} {n k c : ℕ} {scratch : List ℕ} → Ta
 product-small t p i j hi hj = omega (arith, t .small, t .products _ _ (p .leaders i hi) (p .leaders j hj))
 
 -- the places of a pair of blocks in the table and among the marks lie within scratch
-module _ {n c : ℕ} {entry : List ℕ} (p : BlocksNeeds n c entry) (i j : ℕ) (hi : i < c) (hj : j < c) {from to : ℕ} {now : List ℕ} (k : KeptOutside from to entry now) where
+module _ {n c : ℕ} {entry : List ℕ} (p : BlocksNeeds n c entry) (i j : ℕ) (hi : i < c) (hj : j < c) {from to : ℕ} {now : List ℕ} (k : UnchangedOutside from to entry now) where
   pub table-inside : 16384 + i * c + j < length now
-  table-inside = omega (arith, pair-small c i j (p .small) hi hj, kept-room k (p .room))
+  table-inside = omega (arith, pair-small c i j (p .small) hi hj, unchanged-room k (p .room))
 
   pub marks-inside : 24576 + i * 64 + j < length now
-  marks-inside = omega (arith, p .small, kept-room k (p .room))
+  marks-inside = omega (arith, p .small, unchanged-room k (p .room))
 
-module _ {from to : ℕ} {entry now : List ℕ} (k : KeptOutside from to entry now) (h : 16384 ≤ from) where
+module _ {from to : ℕ} {entry now : List ℕ} (k : UnchangedOutside from to entry now) (h : 16384 ≤ from) where
   -- numbers and leaders are as they were
   number-kept : (s : ℕ) → s < 64 → numberAt now s ≡ numberAt entry s
   number-kept s l = k .before (12416 + s) (omega arith)
@@ -43,7 +44,7 @@ module _ {from to : ℕ} {entry now : List ℕ} (k : KeptOutside from to entry n
   blocks-kept p = record {
     small = p .small;
     leaders = λ j l. rw (leader-kept j (omega (arith, p .small))) (p .leaders j l);
-    room = kept-room k (p .room);
+    room = unchanged-room k (p .room);
   }
 
   -- and so are the products and the letters of the blocks

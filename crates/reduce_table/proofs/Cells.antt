@@ -10,7 +10,7 @@ use native.Mathlib.Decide.{ℕ-discrete}
 use lib.Arith.{digits-lt}
 use lib.ListN.{length, getD, set}
 use lib.Seq.{getD-set-same, getD-set-other}
-use Rattle.reduce_first_round.proofs.Bytes.{kept-none, kept-both, kept-wider, kept-set}
+use Rattle.scratch.proofs.Unchanged.{unchanged-none, unchanged-both, unchanged-wider, unchanged-set}
 use Rattle.reduce_table.specs.Layout.{Filled, Grid}
 
 -- a pair of at most 64 blocks has its place among 4,096
@@ -23,14 +23,14 @@ row-more i s = rw add-one (suc-mul i s)
 
 -- no byte is filled
 pub filled-none : {f : ℕ → ℕ} (base : ℕ) (l : List ℕ) → Filled f base 0 l l
-filled-none base l = record { cells = λ j h. absurd (omega arith); kept = kept-none base (base + 0) l }
+filled-none base l = record { cells = λ j h. absurd (omega arith); kept = unchanged-none base (base + 0) l }
 
 -- one more
 pub filled-more : {f : ℕ → ℕ} {base j at v : ℕ} {entry now : List ℕ} → at ≡ base + j → base + j < length now → v ≡ f j
     → Filled f base j entry now → Filled f base (j + 1) entry (set now at v)
 filled-more {f} {base} {j} {at} {v} {entry} {now} e room q w = record {
   cells = λ l h. cell l h (ℕ-discrete l j);
-  kept = kept-both (kept-wider (omega arith) (omega arith) (w .kept)) (kept-set now at v (omega arith) (omega arith));
+  kept = unchanged-both (unchanged-wider (omega arith) (omega arith) (w .kept)) (unchanged-set now at v (omega arith) (omega arith));
 }
   where
     cell : (l : ℕ) → l < j + 1 → Dec (l ≡ j) → getD (set now at v) (base + l) 0 ≡ f l
@@ -45,14 +45,14 @@ filled-all {f} {base} {count} {j} {entry} {now} g h w =
 
 -- no row is filled
 pub grid-none : {f : ℕ → ℕ → ℕ} (base stride width : ℕ) (l : List ℕ) → Grid f base stride width 0 l l
-grid-none base stride width l = record { cells = λ i j h. absurd (omega arith); kept = kept-none base (base + 0 * stride) l }
+grid-none base stride width l = record { cells = λ i j h. absurd (omega arith); kept = unchanged-none base (base + 0 * stride) l }
 
 -- one row more, by a function that agrees
 pub grid-more : {f : ℕ → ℕ → ℕ} {g : ℕ → ℕ} {base stride width i : ℕ} {entry now next : List ℕ} → width ≤ stride → ((j : ℕ) → j < width → g j ≡ f i j)
     → Grid f base stride width i entry now → Filled g (base + i * stride) width now next → Grid f base stride width (i + 1) entry next
 grid-more {f} {g} {base} {stride} {width} {i} {entry} {now} {next} h agree w r = record {
   cells = λ a j ha hj. cell a j ha hj (ℕ-discrete a i);
-  kept = kept-both (kept-wider (omega arith) (omega (arith, row-more i stride)) (w .kept)) (kept-wider (omega arith) (omega (arith, row-more i stride)) (r .kept));
+  kept = unchanged-both (unchanged-wider (omega arith) (omega (arith, row-more i stride)) (w .kept)) (unchanged-wider (omega arith) (omega (arith, row-more i stride)) (r .kept));
 }
   where
     cell : (a j : ℕ) → a < i + 1 → j < width → Dec (a ≡ i) → getD next (base + (a * stride + j)) 0 ≡ f a j

@@ -13,7 +13,8 @@ use lib.ListN.{length, getD}
 use lib.Dec.{eqb, ltb}
 use Rattle.finite.proofs.Search.{bit}
 use Rattle.formats.specs.Table.{productAt, imageAt}
-use Rattle.reduce_first_round.specs.Map.{outcomeAt, KeptOutside}
+use Rattle.reduce_first_round.specs.Map.{outcomeAt}
+use Rattle.scratch.specs.Bytes.{UnchangedOutside}
 use Rattle.reduce_numbering.specs.Steps.{numberAt, leaderAt}
 use Rattle.scratch.specs.Map.{laidProductsBase}
 use Rattle.formats.specs.RuleChecks.{scratchSize}
@@ -50,9 +51,9 @@ blockMark c scratch i j =
 -- the bytes from a base on are the values of f, and every other byte is as it was
 pub record Filled (f : ℕ → ℕ) (base count : ℕ) (entry exit : List ℕ) : Type 0 where
   pub cells : (j : ℕ) → j < count → getD exit (base + j) 0 ≡ f j
-  pub kept : KeptOutside base (base + count) entry exit
+  pub kept : UnchangedOutside base (base + count) entry exit
 
 -- rows of values of f, each as many bytes after the one before it as the stride says, and every byte outside them is as it was
 pub record Grid (f : ℕ → ℕ → ℕ) (base stride width rows : ℕ) (entry exit : List ℕ) : Type 0 where
   pub cells : (i j : ℕ) → i < rows → j < width → getD exit (base + (i * stride + j)) 0 ≡ f i j
-  pub kept : KeptOutside base (base + rows * stride) entry exit
+  pub kept : UnchangedOutside base (base + rows * stride) entry exit

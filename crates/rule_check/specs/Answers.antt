@@ -9,7 +9,7 @@ use Rattle.answer.specs.Checks.{Check, Verdict, passed, refused, FirstFailure}
 use Rattle.theory.specs.Rules.{Morphism}
 use Rattle.formats.specs.RuleFile.{elementsOf, markingOf}
 use Rattle.formats.specs.RuleChecks.{ruleChecks}
-use Rattle.sections.specs.Answers.{UnchangedOutside}
+use Rattle.scratch.specs.Bytes.{UnchangedOutside}
 use Rattle.rule_layout.specs.declared.Shape.{Shape}
 use Rattle.rule_layout.specs.Answers.{IsShape}
 use Rattle.rule_marks.specs.declared.Fault.{Fault}

@@ -8,6 +8,7 @@ use lib.ListN.{length, getD}
 use lib.Dec.{ltb}
 use Rattle.theory.specs.Rules.{Morphism}
 use Rattle.scratch.specs.Map.{firstPreimagesBase, nextPreimagesBase, searchEnd}
+use Rattle.scratch.specs.Bytes.{UnchangedOutside}
 
 -- the element of the value with number c and then the letter a
 unfoldable pub afterLetter : Morphism → ℕ → ℕ → ℕ
@@ -41,13 +42,7 @@ pub record PreimagesRoom (scratch : List ℕ) : Type 0 where
   pub room : searchEnd ≤ length scratch
   pub blank : (i : ℕ) → firstPreimagesBase ≤ i → i < nextPreimagesBase → getD scratch i 0 ≡ 0
 
--- only the bytes of the lists may differ
-pub record KeptBut (entry exit : List ℕ) : Type 0 where
-  pub same-length : length exit ≡ length entry
-  pub before : (i : ℕ) → i < firstPreimagesBase → getD exit i 0 ≡ getD entry i 0
-  pub after : (i : ℕ) → searchEnd ≤ i → getD exit i 0 ≡ getD entry i 0
-
 -- the lists of every letter, and nothing else changed
 pub record PreimagesListed (m : Morphism) (entry exit : List ℕ) : Type 0 where
   pub preimages : Preimages m exit
-  pub kept : KeptBut entry exit
+  pub kept : UnchangedOutside firstPreimagesBase searchEnd entry exit

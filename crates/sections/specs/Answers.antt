@@ -10,12 +10,7 @@ use Rattle.sections.specs.declared.Counted.{Counted}
 use Rattle.sections.specs.declared.Counted.the-variants.{Read, Refused}
 use Rattle.formats.specs.Sections.{CountWidth, countChecks, entryChecks}
 use Rattle.formats.proofs.Sections.{AllBelow, CountGood, EntriesGood, FirstOut}
-
--- every byte outside a part is as it was
-pub record UnchangedOutside (from to : ℕ) (entry exit : List ℕ) : Type 0 where
-  pub same-length : length exit ≡ length entry
-  pub before : (i : ℕ) → i < from → getD exit i 0 ≡ getD entry i 0
-  pub after : (i : ℕ) → to ≤ i → getD exit i 0 ≡ getD entry i 0
+use Rattle.scratch.specs.Bytes.{UnchangedOutside}
 
 -- a part was filled with zeros, and nothing else changed
 pub record PartZeroed (from to : ℕ) (entry exit : List ℕ) : Type 0 where

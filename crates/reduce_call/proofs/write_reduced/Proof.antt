@@ -1,7 +1,7 @@
 -- `reduce_call::write_reduced` meets its contract: the rounds, the numbers of the blocks, and the rule of the blocks. Assumes nothing.
 use mathlib.Core.Path.{_∙_}
 use borrow.Author.Needs.{needs}
-use Rattle.reduce_first_round.proofs.Bytes.{kept-room}
+use Rattle.scratch.proofs.Unchanged.{unchanged-room}
 use Rattle.reduce_call.proofs.Reducing.{quotient-place, reduced-written}
 use Rattle.reduce_call.proofs.write_reduced.Statement.{statement}
 use Rattle.reduce_call.proofs.write_reduced.Tie as tie
@@ -15,7 +15,7 @@ number-blocks-requires : tie.Need-number-blocks-requires
 number-blocks-requires c κs =
     let at-settle = c .before .before .before in
     let start = at-settle .before .before .before .before .before in
-    (start .pre .0, (start .pre .1 .lawful, (start .pre .1 .reached, kept-room (at-settle .refine-until-stable .ensures .kept) (start .pre .1 .room))))
+    (start .pre .0, (start .pre .1 .lawful, (start .pre .1 .reached, unchanged-room (at-settle .refine-until-stable .ensures .kept) (start .pre .1 .room))))
 
 write-quotient-requires : tie.Need-write-quotient-requires
 write-quotient-requires c κs =

@@ -5,7 +5,7 @@ use Rattle.formats.specs.Table.{morphismAt}
 use Rattle.minimality.specs.Rounds.{Together}
 use Rattle.reduce_first_round.specs.Map.{outcomeAt}
 use Rattle.reduce_first_round.specs.Steps.{BlocksWritten}
-use Rattle.reduce_first_round.proofs.Bytes.{kept-room}
+use Rattle.scratch.proofs.Unchanged.{unchanged-room}
 use Rattle.reduce_first_round.proofs.BlockBytes.{written-none, written-all}
 use Rattle.reduce_first_round.proofs.Writing.{first-more}
 use Rattle.reduce_first_round.proofs.first_blocks.Statement.{statement}
@@ -23,7 +23,7 @@ loop-holds c = written-none 12288 _
 first-alike-requires : tie.Need-first-alike-requires Inv-loop μ-loop
 first-alike-requires c κs =
     let b = c .before .before .before .before .before in
-    (b .pre .0, (c .before .loop-test .taken, kept-room (c .before .before .loop .inv .kept) (b .pre .1)))
+    (b .pre .0, (c .before .loop-test .taken, unchanged-room (c .before .before .loop .inv .kept) (b .pre .1)))
 
 cast-scratch : tie.Need-cast-scratch Inv-loop μ-loop
 cast-scratch c = omega (arith, c .first-alike .ensures .at-most, c .before .before .before .before .before .before .pre .0 .small)
@@ -34,7 +34,7 @@ add-scratch c = omega (arith, c .before .before .before .before .before .before 
 slice-write-scratch : tie.Need-slice-write-scratch Inv-loop μ-loop
 slice-write-scratch c =
     let b = c .before .before .before .before .before .before in
-    omega (arith, kept-room (c .before .before .before .loop .inv .kept) (b .pre .1), b .pre .0 .small)
+    omega (arith, unchanged-room (c .before .before .before .loop .inv .kept) (b .pre .1), b .pre .0 .small)
 
 add-s : tie.Need-add-s Inv-loop μ-loop
 add-s c = omega arith

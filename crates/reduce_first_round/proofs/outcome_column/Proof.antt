@@ -3,7 +3,7 @@ use Prim.Native.Nat.{_-_}
 use native.Mathlib.Omega.{arith}
 use Rattle.formats.specs.Table.{morphismAt}
 use Rattle.reduce_first_round.specs.Steps.{ColumnWritten}
-use Rattle.reduce_first_round.proofs.Bytes.{kept-room}
+use Rattle.scratch.proofs.Unchanged.{unchanged-room}
 use Rattle.reduce_first_round.proofs.OutcomeBytes.{settled-below, column-none, column-more, column-all}
 use Rattle.reduce_first_round.proofs.outcome_column.Statement.{statement}
 use Rattle.reduce_first_round.proofs.outcome_column.Tie as tie
@@ -26,7 +26,7 @@ outcome-requires : tie.Need-outcome-requires Inv-loop μ-loop
 outcome-requires c κs =
     let b = c .before .before .before .before .before .before in
     let h = settled-below (b .pre .1 .0) (b .pre .1 .1 .0) (c .before .before .before .idempotent-power-of .ensures) in
-    (b .pre .0, ((c .before .loop-test .taken, h), kept-room (c .before .before .loop .inv .kept) (b .pre .1 .1 .1)))
+    (b .pre .0, ((c .before .loop-test .taken, h), unchanged-room (c .before .before .loop .inv .kept) (b .pre .1 .1 .1)))
 
 mul-scratch : tie.Need-mul-scratch Inv-loop μ-loop
 mul-scratch c = omega (arith, c .before .before .before .before .before .before .before .pre .0 .small)
@@ -40,7 +40,7 @@ add-scratch-2 c = omega (arith, c .before .before .before .before .before .befor
 slice-write-scratch : tie.Need-slice-write-scratch Inv-loop μ-loop
 slice-write-scratch c =
     let b = c .before .before .before .before .before .before .before in
-    omega (arith, b .pre .0 .small, kept-room (c .before .before .before .loop .inv .kept) (b .pre .1 .1 .1))
+    omega (arith, b .pre .0 .small, unchanged-room (c .before .before .before .loop .inv .kept) (b .pre .1 .1 .1))
 
 add-s : tie.Need-add-s Inv-loop μ-loop
 add-s c = omega arith

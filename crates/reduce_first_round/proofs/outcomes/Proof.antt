@@ -3,7 +3,7 @@ use Prim.Native.Nat.{_-_}
 use native.Mathlib.Omega.{arith}
 use Rattle.formats.specs.Table.{morphismAt}
 use Rattle.reduce_first_round.specs.Steps.{OutcomesWritten}
-use Rattle.reduce_first_round.proofs.Bytes.{kept-room}
+use Rattle.scratch.proofs.Unchanged.{unchanged-room}
 use Rattle.reduce_first_round.proofs.OutcomeBytes.{outcomes-none, outcomes-more, outcomes-all}
 use Rattle.reduce_first_round.proofs.outcomes.Statement.{statement}
 use Rattle.reduce_first_round.proofs.outcomes.Tie as tie
@@ -20,7 +20,7 @@ loop-holds c = outcomes-none (c .before .before .pre .1 .0) (c .before .before .
 outcome-column-requires : tie.Need-outcome-column-requires Inv-loop μ-loop
 outcome-column-requires c κs =
     let b = c .before .before .before .before .before in
-    (b .pre .0, (b .pre .1 .0, (c .before .loop-test .taken, kept-room (c .before .before .loop .inv .kept) (b .pre .1 .1))))
+    (b .pre .0, (b .pre .1 .0, (c .before .loop-test .taken, unchanged-room (c .before .before .loop .inv .kept) (b .pre .1 .1))))
 
 add-z : tie.Need-add-z Inv-loop μ-loop
 add-z c = omega arith

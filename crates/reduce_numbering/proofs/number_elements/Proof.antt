@@ -3,7 +3,7 @@ use Prim.Native.Nat.{_-_, _≤_}
 use native.Mathlib.Omega.{arith}
 use Rattle.reduce_numbering.specs.Steps.{Numbered}
 use Rattle.reduce_numbering.proofs.Steps.{numbered-none, numbered-more, numbered-all}
-use Rattle.reduce_first_round.proofs.Bytes.{kept-room}
+use Rattle.scratch.proofs.Unchanged.{unchanged-room}
 use Rattle.reduce_numbering.proofs.number_elements.Statement.{statement}
 use Rattle.reduce_numbering.proofs.number_elements.Tie as tie
 
@@ -34,7 +34,7 @@ number-element-requires c κs =
         omega
             (arith, start .pre .0 .small, start .pre .0 .inside _ (at-test .loop-test .taken)),
       ),
-      kept-room (at-loop .loop .inv .0 .kept) (start .pre .1),
+      unchanged-room (at-loop .loop .inv .0 .kept) (start .pre .1),
     )
 
 add-i : tie.Need-add-i Inv-loop μ-loop
@@ -49,7 +49,7 @@ loop-again c =
     let at-test = at-number-element .before .before .before in
     let at-loop = at-test .before in
     let start = at-loop .before .before .before in (
-      numbered-more (start .pre .0) (at-test .loop-test .taken) (kept-room (at-loop .loop .inv .0 .kept) (start .pre .1)) (at-loop .loop .inv .0)
+      numbered-more (start .pre .0) (at-test .loop-test .taken) (unchanged-room (at-loop .loop .inv .0 .kept) (start .pre .1)) (at-loop .loop .inv .0)
           (at-number-element .number-element .ensures),
       omega arith,
     )

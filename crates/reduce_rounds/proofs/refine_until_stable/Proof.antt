@@ -4,7 +4,7 @@ use Prim.Native.Nat.{_-_}
 use mathlib.Core.Path.{_∙_}
 use native.Mathlib.Omega.{arith}
 use Rattle.formats.specs.Table.{morphismAt}
-use Rattle.reduce_first_round.proofs.Bytes.{kept-room}
+use Rattle.scratch.proofs.Unchanged.{unchanged-room}
 use Rattle.reduce_first_round.proofs.Comparing.{not-true, not-false}
 use Rattle.reduce_rounds.proofs.Settling.{Started, started, Running, running-start, running-bound, running-next, running-settled}
 use Rattle.reduce_rounds.proofs.refine_until_stable.Statement.{statement}
@@ -24,7 +24,7 @@ outcomes-requires c κs =
 first-blocks-requires : tie.Need-first-blocks-requires Inv-loop μ-loop
 first-blocks-requires c κs =
     let b = c .before .before .before .before .before .before .before in
-    (b .pre .0, kept-room (c .before .before .before .outcomes .ensures .kept) (b .pre .1 .1))
+    (b .pre .0, unchanged-room (c .before .before .before .outcomes .ensures .kept) (b .pre .1 .1))
 
 loop-holds : tie.Need-loop-holds Inv-loop μ-loop
 loop-holds c = running-start _
@@ -46,7 +46,7 @@ round-requires : tie.Need-round-requires Inv-loop μ-loop
 round-requires c κs =
     let d = c .before .before in
     let b = d .before .before .before .before .before .before .before .before .before .before in
-    (b .pre .0, kept-room (c .before .loop .inv .kept) (kept-room (begun d .kept) (b .pre .1 .1)))
+    (b .pre .0, unchanged-room (c .before .loop .inv .kept) (unchanged-room (begun d .kept) (b .pre .1 .1)))
 
 same-length : tie.Need-same-length Inv-loop μ-loop
 same-length c =

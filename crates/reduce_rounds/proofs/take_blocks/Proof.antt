@@ -2,7 +2,7 @@
 use Prim.Native.Nat.{_-_, _≤_}
 use native.Mathlib.Omega.{arith}
 use Rattle.reduce_first_round.specs.Steps.{TakenOver}
-use Rattle.reduce_first_round.proofs.Bytes.{kept-room}
+use Rattle.scratch.proofs.Unchanged.{unchanged-room}
 use Rattle.reduce_rounds.proofs.Taking.{taken-none, taken-more, taken-all}
 use Rattle.reduce_rounds.proofs.take_blocks.Statement.{statement}
 use Rattle.reduce_rounds.proofs.take_blocks.Tie as tie
@@ -19,7 +19,7 @@ loop-holds c = (taken-none _, omega arith)
 take-block-requires : tie.Need-take-block-requires Inv-loop μ-loop
 take-block-requires c κs =
     let b = c .before .before .before .before in
-    (omega (arith, b .pre .0), kept-room (c .before .before .loop .inv .0 .kept) (b .pre .1))
+    (omega (arith, b .pre .0), unchanged-room (c .before .before .loop .inv .0 .kept) (b .pre .1))
 
 add-s : tie.Need-add-s Inv-loop μ-loop
 add-s c = omega arith

@@ -1,7 +1,7 @@
 -- `reduce_rule::write_quotient` meets its contract: the tables are laid out one after the other, and then written. Assumes nothing.
 use mathlib.Core.Path.{_∙_}
 use borrow.Author.Needs.{needs}
-use Rattle.reduce_first_round.proofs.Bytes.{kept-room}
+use Rattle.scratch.proofs.Unchanged.{unchanged-room}
 use Rattle.reduce_rule.proofs.Laid.{images-place, marks-place, quotient-written}
 use Rattle.reduce_rule.proofs.write_quotient.Statement.{statement}
 use Rattle.reduce_rule.proofs.write_quotient.Tie as tie
@@ -13,7 +13,7 @@ lay-images-requires : tie.Need-lay-images-requires
 lay-images-requires c κs =
     let at-lay-table = c .before .before .before in
     let start = at-lay-table .before .before .before .before .before in
-    (start .pre .0, kept-room (at-lay-table .lay-table .ensures .kept) (start .pre .1 .blocks .room))
+    (start .pre .0, unchanged-room (at-lay-table .lay-table .ensures .kept) (start .pre .1 .blocks .room))
 
 lay-marks-requires : tie.Need-lay-marks-requires
 lay-marks-requires c κs =
