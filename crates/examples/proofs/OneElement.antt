@@ -96,7 +96,7 @@ sooner-none (sooner-letter e h) = omega arith
 module _ (k : ℕ) (some : 0 < k) (few : k < 17) where
   one-reached : AllReached (one k)
   unfolding marked level
-  one-reached = record { word-of = λ s h. one-marks k some .marks s s h h .0 tt .start }
+  one-reached = record { word-of = λ s h. one-marks k some .marks s s h h .0 tt .lassos .start }
 
   one-linked : LinkedOnly (one k) (marked all-marked)
   one-linked = record { linked = λ s e hs he t. one-marks k some .marks s e hs he .0 t .linked }
