@@ -1,14 +1,14 @@
 -- Where the two bytes of a pair's number stand, that a number of two bytes is read back as it was stored, and bytes that are
 -- kept. Assumes nothing.
 use Prim.Native.Nat.{ℕ, _+_, _*_, _/_, _%_, _≤_, _<_}
-use mathlib.Core.Path.{_≡_, refl, sym, ap, _∙_}
+use mathlib.Core.Path.{_≡_, refl, _∙_}
 use mathlib.Core.Logic.{_≢_}
 use mathlib.Core.List.{List}
 use native.Mathlib.Omega.{arith}
 use native.Mathlib.Nat.{mul-le-mul}
 use lib.ListN.{length, getD, set, length-set}
 use lib.Seq.{getD-set-same, getD-set-other}
-use lib.Arith.{digits-lt, digits-div, digits-mod}
+use lib.Arith.{digits-lt}
 use Rattle.formats.specs.Sections.{twoBytes}
 use Rattle.mark_class_numbers.specs.Cells.{Stored, Kept}
 
@@ -26,13 +26,6 @@ pub cell-place : {n s e : ℕ} {bytes : List ℕ} → n ≤ 64 → s < n → e <
 cell-place h hs he long =
     let b = digits-lt hs he in
     record { below = b; small = pairs-small h; inside = omega arith }
-
--- a pair's number tells the pair
-pub pair-same : {n a b c d : ℕ} → b < n → d < n → a * n + b ≡ c * n + d → (a ≡ c) × (b ≡ d)
-pair-same {n} {a} {b} {c} {d} hb hd p = (
-  sym (digits-div a hb) ∙ ap (λ (i : ℕ). i / n) p ∙ digits-div c hd,
-  sym (digits-mod a hb) ∙ ap (λ (i : ℕ). i % n) p ∙ digits-mod c hd,
-)
 
 -- the two bytes of a number, low byte first
 pub stored-two : (l : List ℕ) (at number : ℕ) → at + 1 < length l → number < 65536

@@ -1,11 +1,13 @@
 -- The class numbers while they are worked out, two bytes for each pair: what a load and a store do, what a number says once some
 -- of the factors x, y were tried, and what the passes over the numbers leave. Assumes nothing.
-use Prim.Native.Nat.{ℕ, _+_, _*_, _/_, _%_, _<_, _≤_}
+use Prim.Native.Nat.{ℕ, _+_, _*_, _<_, _≤_}
 use mathlib.Core.Path.{_≡_}
 use mathlib.Core.List.{List}
+use native.Mathlib.Nat.{le-refl, le-trans}
 use lib.ListN.{length, getD}
-use Rattle.theory.specs.Rules.{Morphism}
-use Rattle.theory.specs.Pairs.{Idempotent, Linked, Conjugate, pair-number, Counted}
+use Rattle.theory.specs.Rules.{Morphism, Marking}
+use Rattle.theory.specs.Pairs.{Linked, pair-number, Counted}
+use Rattle.theory.proofs.BestConjugates.{Ranking, Best, Better, BestSoFar, ColumnBettered}
 use Rattle.formats.specs.Sections.{twoBytes}
 use Rattle.promises.specs.Classes.{noClass}
 
@@ -27,27 +29,34 @@ pub record Kept (n : ℕ) (entry exit : List ℕ) : Type 0 where
   pub same-length : length exit ≡ length entry
   pub kept : (i : ℕ) → 2 * (n * n) ≤ i → getD exit i 0 ≡ getD entry i 0
 
--- of the factors x, y with x·n+y below the count, none gives (s, e) a conjugate with a smaller number
-pub record NoneLess (m : Morphism) (count s e number : ℕ) : Type 0 where
-  pub least : (x y : ℕ) → x < m .size → y < m .size → x * m .size + y < count → m .product x y ≡ e
-      → Idempotent m (m .product y x) → number ≤ pair-number m (m .product s x) (m .product y x)
+-- the numbers of the pairs, two bytes each
+abbrev pub numberTable : ℕ → List ℕ → Marking
+numberTable n bytes s e = twoBytes bytes (2 * (s * n + e))
+
+-- the least number is best; a pair that is not linked has 65,535
+abbrev pub leastNumber : Morphism → Ranking
+leastNumber m = record {
+  no-worse = _≤_;
+  reflexive = le-refl;
+  transitive = λ a b c p q. le-trans p q;
+  without = λ s e number. (Linked m s e → ⊥) × (number ≡ noClass);
+}
 
 -- the number of a pair's conjugate, the least by the factors tried so far, or 65,535 where the pair is not linked
-pub data Numbered (m : Morphism) (count s e : ℕ) : ℕ → Type 0 where
-  of-conjugate : {t f : ℕ} → Conjugate m s e t f → NoneLess m count s e (pair-number m t f) → Numbered m count s e (pair-number m t f)
-  of-none : (Linked m s e → ⊥) → Numbered m count s e noClass
+abbrev pub Numbered : Morphism → ℕ → ℕ → ℕ → ℕ → Type 0
+Numbered m count s e number = Best m (leastNumber m) (pair-number m) count s e number
 
 -- the pairs with the numbers from `from` up to `to` have their first numbers, before any factors were tried
 pub record Begun (m : Morphism) (from to : ℕ) (entry exit : List ℕ) : Type 0 where
   pub same-length : length exit ≡ length entry
-  pub cells : (i : ℕ) → from ≤ i → i < to → Numbered m 0 (i / m .size) (i % m .size) (twoBytes exit (2 * i))
+  pub cells : (s e : ℕ) → e < m .size → from ≤ s * m .size + e → s * m .size + e < to → Numbered m 0 s e (numberTable (m .size) exit s e)
   pub bytes : (i : ℕ) → 2 * from ≤ i → i < 2 * to → getD exit i 0 < 256
   pub before : (i : ℕ) → i < 2 * from → getD exit i 0 ≡ getD entry i 0
   pub after : (i : ℕ) → 2 * to ≤ i → getD exit i 0 ≡ getD entry i 0
 
 -- every pair has its number, by the factors tried so far
 pub record Classed (m : Morphism) (count : ℕ) (bytes : List ℕ) : Type 0 where
-  pub cells : (i : ℕ) → i < m .size * m .size → Numbered m count (i / m .size) (i % m .size) (twoBytes bytes (2 * i))
+  pub numbers : BestSoFar m (leastNumber m) (pair-number m) count (numberTable (m .size) bytes)
   pub bytes-small : (i : ℕ) → i < 2 * (m .size * m .size) → getD bytes i 0 < 256
 
 -- the numbers after factors were tried, and nothing else changed
@@ -56,15 +65,13 @@ pub record Advanced (m : Morphism) (count : ℕ) (entry exit : List ℕ) : Type 
   pub kept : Kept (m .size) entry exit
 
 -- the lesser of an old number and that of (s·x, f), where s·e = s; else the old number
-pub data Lowest (m : Morphism) (x e f s old : ℕ) : ℕ → Type 0 where
-  lowered : m .product s e ≡ s → pair-number m (m .product s x) f ≤ old → Lowest m x e f s old (pair-number m (m .product s x) f)
-  as-it-was : (m .product s e ≡ s → old ≤ pair-number m (m .product s x) f) → Lowest m x e f s old old
+abbrev pub Lowest : Morphism → ℕ → ℕ → ℕ → ℕ → ℕ → ℕ → Type 0
+Lowest m x e f s old number = Better m (leastNumber m) (pair-number m) x e f s old number
 
 -- the numbers of (s, e) for the first elements s are lowered, and every other number is as it was
 pub record Lowered (m : Morphism) (x e f rows : ℕ) (entry exit : List ℕ) : Type 0 where
   pub kept : Kept (m .size) entry exit
-  pub cells : (s : ℕ) → s < rows → Lowest m x e f s (twoBytes entry (2 * (s * m .size + e))) (twoBytes exit (2 * (s * m .size + e)))
-  pub others : (i : ℕ) → ((s : ℕ) → s < rows → i ≡ s * m .size + e → ⊥) → twoBytes exit (2 * i) ≡ twoBytes entry (2 * i)
+  pub column : ColumnBettered m (leastNumber m) (pair-number m) x e f rows (numberTable (m .size) entry) (numberTable (m .size) exit)
   pub bytes : (i : ℕ) → getD entry i 0 < 256 → getD exit i 0 < 256
 
 -- how many of the first numbers are those of linked pairs, and how many are their own pair's

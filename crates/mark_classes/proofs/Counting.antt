@@ -8,10 +8,10 @@ use native.Mathlib.Numerals.{add-one}
 use native.Mathlib.Nat.{mod-lt, div-add-mod', div-lt-iff-lt-mul, le-antisymm}
 use Rattle.theory.specs.Rules.{Morphism}
 use Rattle.theory.specs.Pairs.{Linked, LeastConjugate, pair-number, Counted, counted-none, counted-one, counted-other, LinkedPairs, Classes, ClassCounts}
+use Rattle.theory.proofs.BestConjugates.{pair-same}
 use Rattle.formats.specs.Sections.{twoBytes}
 use Rattle.promises.specs.Classes.{noClass, ClassNumber, least-conjugate, not-linked, ClassesWritten, classPlace}
 use Rattle.mark_class_numbers.specs.Cells.{Loaded, CellCounts}
-use Rattle.mark_class_numbers.proofs.Bytes.{pair-same}
 use Rattle.mark_class_numbers.proofs.Factors.{pair-below}
 
 -- no number was looked at

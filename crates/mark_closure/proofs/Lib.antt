@@ -1,6 +1,5 @@
 pub mod Tables
 pub mod Columns
-pub mod Factors
 pub mod Passes
 pub mod Answers
 pub mod Agreement

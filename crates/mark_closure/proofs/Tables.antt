@@ -1,14 +1,12 @@
 -- Two tables of marks in one list of bytes: where a pair's byte stands, what it says, and tables that are kept. Assumes nothing.
 use Prim.Native.Nat.{ℕ, _+_, _*_, _≤_, _<_}
-use mathlib.Core.Path.{_≡_, refl, ap, _∙_, subst}
+use mathlib.Core.Path.{_≡_, refl, ap, _∙_}
 use mathlib.Core.List.{List}
 use native.Mathlib.Omega.{arith}
 use native.Mathlib.Nat.{zero-add}
 use lib.ListN.{getD}
 use lib.Dec.{T, ltb}
 use mir.Facts.{ltb-yes, yes-ltb}
-use Rattle.theory.specs.Rules.{Morphism}
-use Rattle.theory.specs.Pairs.{LinkedOnly}
 use Rattle.scratch.specs.Map.{pairsFrom}
 use Rattle.mark_closure.specs.Closing.{place, Kept}
 
@@ -55,8 +53,3 @@ module _ {n : ℕ} {entry exit : List ℕ} (small : n ≤ 64) (k : Kept n entry 
   -- the first table is as it was
   pub kept-first : (s e : ℕ) → s < n → e < n → pairsFrom exit 0 s e ≡ pairsFrom entry 0 s e
   kept-first s e hs he = pair-kept entry exit 0 s e (kept-before (0 + (s * 64 + e)) (omega arith))
-
--- the first table of marks has linked pairs only
-pub linked-kept : {m : Morphism} {entry exit : List ℕ} → m .size ≤ 64 → Kept (m .size) entry exit → LinkedOnly m (pairsFrom entry 0)
-    → LinkedOnly m (pairsFrom exit 0)
-linked-kept small k l = record { linked = λ s e hs he t. l .linked s e hs he (subst T (kept-first small k s e hs he) t) }

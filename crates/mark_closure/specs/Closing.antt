@@ -3,12 +3,11 @@
 use Prim.Native.Nat.{ℕ, _+_, _*_, _≤_, _<_}
 use mathlib.Core.Path.{_≡_}
 use mathlib.Core.Bool.{Bool, true, false}
-use mathlib.Core.Logic.{_↔_}
 use mathlib.Core.List.{List}
 use lib.ListN.{length, getD}
-use lib.Dec.{T}
-use Rattle.theory.specs.Rules.{Morphism, Pairs}
-use Rattle.theory.specs.Pairs.{Linked, LinkedOnly}
+use Rattle.finite.proofs.Count.{bit}
+use Rattle.theory.specs.Rules.{Morphism, Marking, Pairs}
+use Rattle.theory.proofs.BestConjugates.{Ranking, Better, BestSoFar, ColumnBettered}
 use Rattle.scratch.specs.Map.{pairsFrom}
 
 -- the byte of (s, e) in the second table
@@ -20,23 +19,27 @@ pub record Kept (n : ℕ) (entry exit : List ℕ) : Type 0 where
   pub same-length : length exit ≡ length entry
   pub kept : (i : ℕ) → ((s e : ℕ) → s < n → e < n → i ≡ place s e → ⊥) → getD exit i 0 ≡ getD entry i 0
 
--- the pair is linked, and some of the factors x, y with x·n+y below the count take it to a pair of P
-pub record Joined (m : Morphism) (P : Pairs) (count s e : ℕ) : Type 0 where
-  pub linked : Linked m s e
-  pub x : ℕ
-  pub y : ℕ
-  pub x-inside : x < m .size
-  pub y-inside : y < m .size
-  pub tried : x * m .size + y < count
-  pub around : m .product x y ≡ e
-  pub is-marked : T (P (m .product s x) (m .product y x))
+-- the second table
+abbrev pub secondTable : List ℕ → Marking
+secondTable bytes s e = getD bytes (place s e) 0
+
+-- 1 for a pair of the set
+abbrev pub markBit : Pairs → Marking
+markBit P s e = bit (P s e)
+
+-- any byte that is not 0 is best; a pair with no conjugate in the set has 0
+abbrev pub anyMark : Ranking
+anyMark = record {
+  no-worse = λ a b. 0 < b → 0 < a;
+  reflexive = λ a h. h;
+  transitive = λ a b c p q h. p (q h);
+  without = λ s e byte. byte ≡ 0;
+}
 
 -- the second table has the pairs that the factors tried so far take to a pair of the first
 pub record ClosedSoFar (m : Morphism) (count : ℕ) (bytes : List ℕ) : Type 0 where
   pub room : 8192 ≤ length bytes
-  pub linked : LinkedOnly m (pairsFrom bytes 0)
-  pub pairs : (s e : ℕ) → s < m .size → e < m .size → T (pairsFrom bytes 4096 s e) ↔ Joined m (pairsFrom bytes 0) count s e
-  pub bits : (i : ℕ) → 4096 ≤ i → i < 8192 → getD bytes i 0 ≤ 1
+  pub pairs : BestSoFar m anyMark (markBit (pairsFrom bytes 0)) count (secondTable bytes)
 
 -- the second table after factors were tried, and nothing else changed
 pub record Advanced (m : Morphism) (count : ℕ) (entry exit : List ℕ) : Type 0 where
@@ -44,16 +47,13 @@ pub record Advanced (m : Morphism) (count : ℕ) (entry exit : List ℕ) : Type 
   pub kept : Kept (m .size) entry exit
 
 -- the byte of (s, e) after the factors x, y with e = x·y and f = y·x: 1 where s·e = s and P has (s·x, f), else the old byte
-pub data ByteAfter (m : Morphism) (P : Pairs) (x e f s old : ℕ) : ℕ → Type 0 where
-  joined : m .product s e ≡ s → T (P (m .product s x) f) → ByteAfter m P x e f s old 1
-  as-it-was : (m .product s e ≡ s → T (P (m .product s x) f) → ⊥) → ByteAfter m P x e f s old old
+abbrev pub ByteAfter : Morphism → Pairs → ℕ → ℕ → ℕ → ℕ → ℕ → ℕ → Type 0
+ByteAfter m P x e f s old byte = Better m anyMark (markBit P) x e f s old byte
 
 -- the bytes of (s, e) for the first elements s have changed so, and every other byte is as it was
 pub record ColumnClosed (m : Morphism) (x e f rows : ℕ) (entry exit : List ℕ) : Type 0 where
-  pub same-length : length exit ≡ length entry
-  pub column : (s : ℕ) → s < rows → ByteAfter m (pairsFrom entry 0) x e f s (getD entry (place s e) 0) (getD exit (place s e) 0)
-  pub others : (i : ℕ) → ((s : ℕ) → s < rows → i ≡ place s e → ⊥) → getD exit i 0 ≡ getD entry i 0
-  pub bits : (i : ℕ) → getD entry i 0 ≤ 1 → getD exit i 0 ≤ 1
+  pub kept : Kept (m .size) entry exit
+  pub column : ColumnBettered m anyMark (markBit (pairsFrom entry 0)) x e f rows (secondTable entry) (secondTable exit)
 
 -- of the first bytes of the second table, each that is not 0 has its fellow in the first table not 0
 pub record SecondInFirst (bytes : List ℕ) (count : ℕ) : Type 0 where

@@ -6,7 +6,7 @@ use native.Mathlib.Nat.{add-zero}
 use Rattle.formats.specs.Table.{morphismAt}
 use Rattle.mark_class_numbers.specs.Cells.{Begun}
 use Rattle.mark_class_numbers.proofs.Bytes.{CellNeeds, cell-place}
-use Rattle.mark_class_numbers.proofs.Factors.{numbered-small}
+use Rattle.mark_class_numbers.proofs.Factors.{attained-small}
 use Rattle.mark_class_numbers.proofs.Passes.{begun-none, begun-more}
 use Rattle.mark_class_numbers.proofs.begin_row.Statement.{statement}
 use Rattle.mark_class_numbers.proofs.begin_row.Tie as tie
@@ -47,7 +47,7 @@ mul-store-2 c = omega (arith, place (c .before .before))
 
 store-requires : tie.Need-store-requires Inv-loop μ-loop
 store-requires c κs =
-    (place (c .before .before) .inside, numbered-small (c .before .before .before .before .before .before .pre .0 .small) (c .before .first-number .ensures))
+    (place (c .before .before) .inside, attained-small (c .before .before .before .before .before .before .pre .0 .small) (c .before .first-number .ensures .attained))
 
 add-e : tie.Need-add-e Inv-loop μ-loop
 add-e c = omega arith

@@ -2,8 +2,7 @@
 use borrow.Author.Needs.{needs}
 use Rattle.rule_table.proofs.Places.{row-fits, entry-fits}
 use Rattle.rule_marks.proofs.MarkOrder.{said-linked, said-unlinked}
-use Rattle.mark_class_numbers.specs.Cells.{of-none}
-use Rattle.mark_class_numbers.proofs.Factors.{first-own}
+use Rattle.mark_class_numbers.proofs.Factors.{first-own, first-none}
 use Rattle.mark_class_numbers.proofs.first_number.Statement.{statement}
 use Rattle.mark_class_numbers.proofs.first_number.Tie as tie
 
@@ -11,7 +10,7 @@ linked-requires : tie.Need-linked-requires
 linked-requires c κs = search needs
 
 returns : tie.Need-returns
-returns c = of-none (said-unlinked _ _ _ (c .before .linked .result) (c .before .linked .ensures) (c .if1 .taken))
+returns c = first-none (said-unlinked _ _ _ (c .before .linked .result) (c .before .linked .ensures) (c .if1 .taken))
 
 mul-result : tie.Need-mul-result
 mul-result c = let b = c .before .before .before in row-fits _ _ (b .pre .1 .1 .0) (b .pre .0 .small)

@@ -2,7 +2,8 @@
 use borrow.Author.Needs.{needs}
 use Rattle.rule_table.proofs.Facts.{product-below}
 use Rattle.rule_table.proofs.Places.{row-fits, entry-fits}
-use Rattle.mark_class_numbers.proofs.Factors.{lowest-moved, lowest-less, lowest-not}
+use Rattle.theory.proofs.BestConjugates.{better-moved}
+use Rattle.mark_class_numbers.proofs.Factors.{lowest-less, lowest-not}
 use Rattle.mark_class_numbers.proofs.lowest.Statement.{statement}
 use Rattle.mark_class_numbers.proofs.lowest.Tie as tie
 
@@ -10,7 +11,7 @@ product-requires : tie.Need-product-requires
 product-requires c κs = search needs
 
 returns : tie.Need-returns
-returns c = lowest-moved _ _ _ _ _ _ (c .before .product .ensures) (c .if1 .taken)
+returns c = better-moved (c .before .product .ensures) (c .if1 .taken)
 
 product-requires-2 : tie.Need-product-requires-2
 product-requires-2 c κs = search needs
@@ -28,10 +29,14 @@ add-number c =
     search entry-fits
 
 returns-2 : tie.Need-returns-2
-returns-2 c = lowest-less _ _ _ _ _ _ (c .before .before .before .product .ensures) (c .before .before .if1 .left) (c .before .product2 .ensures) (c .if2 .taken)
+returns-2 c =
+    let d = c .before in
+    lowest-less _ _ _ _ _ _ (d .before .before .product .ensures) (d .product2 .ensures) (d .before .if1 .left) (c .if2 .taken)
 
 returns-3 : tie.Need-returns-3
-returns-3 c = lowest-not _ _ _ _ _ _ (c .before .before .before .product .ensures) (c .before .product2 .ensures) (c .if2 .left)
+returns-3 c =
+    let d = c .before in
+    lowest-not _ _ _ _ _ _ (d .before .before .product .ensures) (d .product2 .ensures) (c .if2 .left)
 
 pub lowest-spec : {M : Type 1} → statement M
 lowest-spec =

@@ -3,7 +3,8 @@ use Prim.Native.Nat.{_<_}
 use native.Mathlib.Omega.{arith}
 use borrow.Author.Needs.{needs}
 use Rattle.rule_table.proofs.Facts.{product-below}
-use Rattle.mark_closure.proofs.Columns.{after-moved, after-unmarked, after-marked}
+use Rattle.theory.proofs.BestConjugates.{better-moved}
+use Rattle.mark_closure.proofs.Columns.{after-unmarked, after-marked}
 use Rattle.mark_closure.proofs.byte_after.Statement.{statement}
 use Rattle.mark_closure.proofs.byte_after.Tie as tie
 
@@ -23,7 +24,7 @@ product-requires : tie.Need-product-requires
 product-requires c κs = search needs
 
 returns : tie.Need-returns
-returns c = after-moved _ _ _ _ _ _ _ (c .before .product .ensures) (c .if1 .taken)
+returns c = better-moved (c .before .product .ensures) (c .if1 .taken)
 
 product-requires-2 : tie.Need-product-requires-2
 product-requires-2 c κs = search needs
@@ -44,12 +45,14 @@ shared-slice-read-if2 : tie.Need-shared-slice-read-if2
 shared-slice-read-if2 c = omega (arith, start-below (c .before))
 
 returns-2 : tie.Need-returns-2
-returns-2 c = after-unmarked _ _ _ _ _ _ _ (c .before .before .before .before .product .ensures) (c .before .before .product2 .ensures) (c .if2 .taken)
+returns-2 c =
+    let d = c .before .before in
+    after-unmarked _ _ _ _ _ _ _ (d .before .before .product .ensures) (d .product2 .ensures) (c .if2 .taken)
 
 returns-3 : tie.Need-returns-3
 returns-3 c =
-    after-marked _ _ _ _ _ _ _ (c .before .before .before .before .product .ensures) (c .before .before .before .if1 .left) (c .before .before .product2 .ensures)
-    (c .if2 .left)
+    let d = c .before .before in
+    after-marked _ _ _ _ _ _ _ (d .before .before .product .ensures) (d .product2 .ensures) (d .before .if1 .left) (c .if2 .left)
 
 pub byte-after-spec : {M : Type 1} → statement M
 byte-after-spec =

@@ -4,7 +4,7 @@ use mathlib.Core.Path.{_≡_, subst}
 use native.Mathlib.Omega.{arith}
 use Rattle.formats.specs.Table.{morphismAt}
 use Rattle.mark_closure.specs.Closing.{ColumnClosed}
-use Rattle.mark_closure.proofs.Columns.{column-none, column-more}
+use Rattle.mark_closure.proofs.Columns.{closed-rows-none, closed-rows-more}
 use Rattle.mark_closure.proofs.close_column.Statement.{statement}
 use Rattle.mark_closure.proofs.close_column.Tie as tie
 
@@ -15,13 +15,13 @@ abbrev μ-loop : tie.MeasureT-loop
 μ-loop rule n k scratch₀ x e f s₀ scratch s = n - s
 
 loop-holds : tie.Need-loop-holds Inv-loop μ-loop
-loop-holds c = (column-none _ _ _ _ _, omega arith)
+loop-holds c = (closed-rows-none _ _ _ _ _, omega arith)
 
 byte-after-requires : tie.Need-byte-after-requires Inv-loop μ-loop
 byte-after-requires c κs =
     let a = c .before .before in
     let b = a .before .before .before in
-    (b .pre .0, (omega (arith, b .pre .1 .0, a .loop .inv .0 .same-length), (b .pre .1 .1 .0, b .pre .1 .1 .1, b .pre .1 .1 .2, c .before .loop-test .taken)))
+    (b .pre .0, (omega (arith, b .pre .1 .0, a .loop .inv .0 .kept .same-length), (b .pre .1 .1 .0, b .pre .1 .1 .1, b .pre .1 .1 .2, c .before .loop-test .taken)))
 
 mul-scratch : tie.Need-mul-scratch Inv-loop μ-loop
 mul-scratch c = omega arith
@@ -33,7 +33,7 @@ add-scratch-2 : tie.Need-add-scratch-2 Inv-loop μ-loop
 add-scratch-2 c = omega arith
 
 slice-write-scratch : tie.Need-slice-write-scratch Inv-loop μ-loop
-slice-write-scratch c = omega (arith, c .before .before .before .loop .inv .0 .same-length)
+slice-write-scratch c = omega (arith, c .before .before .before .loop .inv .0 .kept .same-length)
 
 add-s : tie.Need-add-s Inv-loop μ-loop
 add-s c = omega arith
@@ -46,13 +46,14 @@ loop-again c =
     let t = c .before .before in
     let a = t .before in
     let b = a .before .before .before in
-    let p = b .pre .0 .products (a .loop .s) (b .args .x) (t .loop-test .taken) (b .pre .1 .1 .0) in (
-      column-more (omega arith) (omega arith) (omega arith) (omega (arith, a .loop .inv .0 .same-length)) (a .loop .inv .0) (c .byte-after .ensures),
+    let e-f = b .pre .1 .1 in (
+      closed-rows-more (b .pre .0 .small) (t .loop-test .taken) (e-f .1) (e-f .2) (b .pre .0 .products (a .loop .s) (b .args .x) (t .loop-test .taken) (e-f .0))
+          (omega (arith, a .loop .inv .0 .kept .same-length)) (a .loop .inv .0) (c .byte-after .ensures),
       omega arith,
     )
 
 same-length : tie.Need-same-length Inv-loop μ-loop
-same-length c = c .before .loop .inv .0 .same-length
+same-length c = c .before .loop .inv .0 .kept .same-length
 
 returns : tie.Need-returns Inv-loop μ-loop
 returns c =
