@@ -1,7 +1,7 @@
 -- How many numbers below a bound pass a test. Assumes nothing.
 use mathlib.Core.Path.{_≡_, refl, subst, sym, ap}
 use mathlib.Core.Bool.{Bool, true, false}
-use mathlib.Core.Logic.{⊎-elim}
+use mathlib.Core.Logic.{⊎-elim, _↔_}
 use Prim.Native.Nat.{ℕ, zero, suc, _+_, _≤_, _<_}
 use native.Mathlib.Nat.{not-suc-le-zero, le-antisymm}
 use native.Mathlib.Numerals.{add-one}
@@ -14,6 +14,14 @@ use Rattle.finite.proofs.Tests.{T-dec, T-true, T-false}
 abbrev pub bit : Bool → ℕ
 bit true = 1
 bit false = 0
+
+pub bit-le : (b : Bool) → bit b ≤ 1
+bit-le true = omega arith
+bit-le false = omega arith
+
+pub bit-passes : (b : Bool) → T b ↔ (0 < bit b)
+bit-passes true = (λ t. omega arith, λ h. tt)
+bit-passes false = (λ t. absurd t, λ h. omega arith)
 
 bit-mono : (a b : Bool) → (T a → T b) → bit a ≤ bit b
 bit-mono true true h = omega arith

@@ -1,9 +1,11 @@
--- Cases on the order of numbers, and strong induction. Assumes nothing.
-use mathlib.Core.Path.{_≡_}
+-- Cases on the order of numbers, strong induction, and pairs of numbers counted row by row. Assumes nothing.
+use mathlib.Core.Path.{_≡_, sym, ap, _∙_}
 use mathlib.Core.Logic.{_⊎_, inl, inr, ⊎-elim}
-use Prim.Native.Nat.{ℕ, zero, suc, _≤_, _<_, zero-le, suc-le-suc}
-use native.Mathlib.Nat.{le-of-suc-le-suc, not-suc-le-zero, eq-or-lt-of-le}
+use Prim.Native.Nat.{ℕ, zero, suc, _+_, _*_, _/_, _%_, _≤_, _<_, zero-le, suc-le-suc}
+use native.Mathlib.Nat.{le-of-suc-le-suc, not-suc-le-zero, eq-or-lt-of-le, suc-mul}
+use native.Mathlib.Numerals.{add-one}
 use native.Mathlib.Omega.{arith}
+use lib.Arith.{digits-div, digits-mod}
 
 -- a number below n + 1 is n or below n
 pub below-cases : {i n : ℕ} → i < suc n → (i ≡ n) ⊎ (i < n)
@@ -30,3 +32,14 @@ strong P step n = step n (below n)
     below : (k m : ℕ) → m < k → P m
     below zero m h = absurd (not-suc-le-zero h)
     below (suc k) m h = step m (λ j l. below k j (omega arith))
+
+-- the number a·n + b tells the pair
+pub pair-same : {n a b c d : ℕ} → b < n → d < n → a * n + b ≡ c * n + d → (a ≡ c) × (b ≡ d)
+pair-same {n} {a} {b} {c} {d} hb hd p = (
+  sym (digits-div a hb) ∙ ap (λ (i : ℕ). i / n) p ∙ digits-div c hd,
+  sym (digits-mod a hb) ∙ ap (λ (i : ℕ). i % n) p ∙ digits-mod c hd,
+)
+
+-- one row more
+pub row-more : (a n : ℕ) → (a + 1) * n ≡ a * n + n
+row-more a n = rw add-one (suc-mul a n)

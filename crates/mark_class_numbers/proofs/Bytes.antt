@@ -5,6 +5,7 @@ use mathlib.Core.Path.{_≡_, refl, _∙_}
 use mathlib.Core.Logic.{_≢_}
 use mathlib.Core.List.{List}
 use native.Mathlib.Omega.{arith}
+use native.Mathlib.Decide.{ℕ-discrete}
 use native.Mathlib.Nat.{mul-le-mul}
 use lib.ListN.{length, getD, set, length-set}
 use lib.Seq.{getD-set-same, getD-set-other}
@@ -57,6 +58,16 @@ pub stored-other : {entry exit : List ℕ} {place number : ℕ} → Stored entry
 stored-other {entry} {exit} {place} s i f =
     let g : i ≢ place = f in
     two-kept entry exit i (s .others (2 * i) (λ e. omega arith) (λ e. omega arith)) (s .others (2 * i + 1) (λ e. omega arith) (λ e. omega arith))
+
+-- and every byte below 256, if those were that it does not write
+pub stored-byte : {entry exit : List ℕ} {at number : ℕ} → Stored entry exit at number → (i : ℕ)
+    → ((i ≡ at → ⊥) → (i ≡ at + 1 → ⊥) → getD entry i 0 < 256) → getD exit i 0 < 256
+stored-byte {entry} {exit} {at} s i h = go (ℕ-discrete i at) (ℕ-discrete i (at + 1))
+  where
+    go : Dec (i ≡ at) → Dec (i ≡ at + 1) → getD exit i 0 < 256
+    go (yes q) r = rw q (s .low)
+    go (no f) (yes q) = rw q (s .high)
+    go (no f) (no g) = rw (s .others i f g) (h f g)
 
 pub kept-none : (n : ℕ) (l : List ℕ) → Kept n l l
 kept-none n l = record { same-length = refl; kept = λ i h. refl }

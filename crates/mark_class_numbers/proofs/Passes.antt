@@ -2,18 +2,17 @@
 -- once all factors were tried. Assumes nothing.
 use Prim.Native.Nat.{ℕ, _+_, _*_, _≤_, _<_}
 use mathlib.Core.Path.{_≡_, refl, sym, _∙_, subst, subst₂}
-use mathlib.Core.Logic.{⊎-elim}
+use mathlib.Core.Logic.{_≢_, ⊎-elim}
 use mathlib.Core.List.{List}
 use native.Mathlib.Omega.{arith}
 use native.Mathlib.Decide.{ℕ-discrete}
-use lib.ListN.{getD}
 use lib.Arith.{digits-lt}
-use Rattle.finite.proofs.Numbers.{le-or-lt}
+use Rattle.finite.proofs.Numbers.{le-or-lt, pair-same, row-more}
 use Rattle.theory.specs.Rules.{Morphism, Lawful}
-use Rattle.theory.proofs.BestConjugates.{pair-same, row-more, column-none, column-more, so-far-column}
+use Rattle.theory.proofs.BestConjugates.{bettered-none, bettered-more, so-far-column}
 use Rattle.promises.specs.Classes.{ClassesWritten, classPlace}
 use Rattle.mark_class_numbers.specs.Cells.{numberTable, Stored, Numbered, Begun, Classed, Advanced, Lowest, Lowered}
-use Rattle.mark_class_numbers.proofs.Bytes.{two-kept, stored-other, kept-none, kept-both}
+use Rattle.mark_class_numbers.proofs.Bytes.{two-kept, stored-other, stored-byte, kept-none, kept-both}
 use Rattle.mark_class_numbers.proofs.Factors.{numbered-all}
 
 -- no pair has its first number yet
@@ -33,7 +32,7 @@ module _ {m : Morphism} {from s e : ℕ} {entry now next : List ℕ} {number : �
   begun-more he lo b st d = record {
     same-length = st .same-length ∙ b .same-length;
     cells = λ a c hc g h. cell a c hc g (ℕ-discrete (a * m .size + c) (s * m .size + e)) h;
-    bytes = λ i a h. byte i a (ℕ-discrete i (2 * (s * m .size + e))) (ℕ-discrete i (2 * (s * m .size + e) + 1)) h;
+    bytes = λ i a h. stored-byte st i (λ f g. b .bytes i a (let u : i ≢ 2 * (s * m .size + e) = f in let v : i ≢ 2 * (s * m .size + e) + 1 = g in omega arith));
     before = λ i h. st .others i (λ q. omega arith) (λ q. omega arith) ∙ b .before i h;
     after = λ i h. st .others i (λ q. omega arith) (λ q. omega arith) ∙ b .after i (omega arith);
   }
@@ -45,11 +44,6 @@ module _ {m : Morphism} {from s e : ℕ} {entry now next : List ℕ} {number : �
           subst₂ (λ (a c : ℕ). Numbered m 0 a c (numberTable (m .size) next a c)) (sym (same .0)) (sym (same .1))
           (subst (λ (v : ℕ). Numbered m 0 s e v) (sym (st .is-number)) d)
       cell a c hc g (no f) h = rw (stored-other st (a * m .size + c) f) (b .cells a c hc g (omega arith))
-
-      byte : (i : ℕ) → 2 * from ≤ i → Dec (i ≡ 2 * (s * m .size + e)) → Dec (i ≡ 2 * (s * m .size + e) + 1) → i < 2 * (s * m .size + (e + 1)) → getD next i 0 < 256
-      byte i a (yes q) r h = rw q (st .low)
-      byte i a (no f) (yes q) h = rw q (st .high)
-      byte i a (no f) (no g) h = rw (st .others i f g) (b .bytes i a (omega arith))
 
 -- two passes in a row
 pub begun-both : {m : Morphism} {from mid to : ℕ} {entry now next : List ℕ} → from ≤ mid → mid ≤ to → Begun m from mid entry now → Begun m mid to now next
@@ -68,7 +62,7 @@ begun-both {m} {from} {mid} {to} {entry} {now} {next} h g a b = record {
 pub begun-row : {m : Morphism} (s : ℕ) {entry now next : List ℕ} → Begun m 0 (s * m .size) entry now → Begun m (s * m .size) (s * m .size + m .size) now next
     → Begun m 0 ((s + 1) * m .size) entry next
 begun-row {m} s {entry} {now} {next} a b =
-    subst (λ (to : ℕ). Begun m 0 to entry next) (row-more (m .size) s) (begun-both (omega arith) (omega arith) a b)
+    subst (λ (to : ℕ). Begun m 0 to entry next) (sym (row-more s (m .size))) (begun-both (omega arith) (omega arith) a b)
 
 -- every pair has its first number
 pub begun-all : {m : Morphism} {entry exit : List ℕ} → Begun m 0 (m .size * m .size) entry exit → Advanced m 0 entry exit
@@ -82,7 +76,7 @@ begun-all b = record {
 
 -- no number is lowered yet
 pub lowered-none : (m : Morphism) (x e f : ℕ) (l : List ℕ) → Lowered m x e f 0 l l
-lowered-none m x e f l = record { kept = kept-none (m .size) l; column = column-none; bytes = λ i h. h }
+lowered-none m x e f l = record { kept = kept-none (m .size) l; column = bettered-none; bytes = λ i h. h }
 
 -- the number of one more element
 module _ {m : Morphism} {x e f s : ℕ} {entry now next : List ℕ} {number : ℕ} where
@@ -95,17 +89,12 @@ module _ {m : Morphism} {x e f s : ℕ} {entry now next : List ℕ} {number : �
           same-length = st .same-length;
           kept = λ i h. st .others i (λ q. omega arith) (λ q. omega arith);
         });
-        column = column-more hs he (l .column) d (record {
+        column = bettered-more hs he (l .column) d (record {
           is-value = st .is-number;
           others = λ a b ha hb g. stored-other st (a * m .size + b) (λ q. let p = pair-same hb he q in g (p .0) (p .1));
         });
-        bytes = λ i h. byte i h (ℕ-discrete i (2 * (s * m .size + e))) (ℕ-discrete i (2 * (s * m .size + e) + 1));
+        bytes = λ i h. stored-byte st i (λ f g. l .bytes i h);
       }
-    where
-      byte : (i : ℕ) → getD entry i 0 < 256 → Dec (i ≡ 2 * (s * m .size + e)) → Dec (i ≡ 2 * (s * m .size + e) + 1) → getD next i 0 < 256
-      byte i h (yes q) r = rw q (st .low)
-      byte i h (no g) (yes q) = rw q (st .high)
-      byte i h (no g) (no k) = rw (st .others i g k) (l .bytes i h)
 
 -- one pair of factors more, whose products are idempotent: a column was lowered
 pub advanced-lowered : {m : Morphism} {x y e f ee ff : ℕ} {entry exit : List ℕ} → Lawful m → x < m .size → y < m .size → Classed m (x * m .size + y) entry
@@ -125,7 +114,7 @@ advanced-both p q = record { classed = q .classed; kept = kept-both (p .kept) (q
 
 pub advanced-row : {m : Morphism} (x : ℕ) {entry now next : List ℕ} → Advanced m (x * m .size) entry now → Advanced m (x * m .size + m .size) now next
     → Advanced m ((x + 1) * m .size) entry next
-advanced-row {m} x {entry} {now} {next} a b = subst (λ (count : ℕ). Advanced m count entry next) (row-more (m .size) x) (advanced-both a b)
+advanced-row {m} x {entry} {now} {next} a b = subst (λ (count : ℕ). Advanced m count entry next) (sym (row-more x (m .size))) (advanced-both a b)
 
 -- all factors were tried: the classes are written
 pub advanced-all : {m : Morphism} {entry exit : List ℕ} → Advanced m (m .size * m .size) entry exit → ClassesWritten m entry exit

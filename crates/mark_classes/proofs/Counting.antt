@@ -6,9 +6,9 @@ use mathlib.Core.List.{List}
 use native.Mathlib.Omega.{arith}
 use native.Mathlib.Numerals.{add-one}
 use native.Mathlib.Nat.{mod-lt, div-add-mod', div-lt-iff-lt-mul, le-antisymm}
+use Rattle.finite.proofs.Numbers.{pair-same}
 use Rattle.theory.specs.Rules.{Morphism}
 use Rattle.theory.specs.Pairs.{Linked, LeastConjugate, pair-number, Counted, counted-none, counted-one, counted-other, LinkedPairs, Classes, ClassCounts}
-use Rattle.theory.proofs.BestConjugates.{pair-same}
 use Rattle.formats.specs.Sections.{twoBytes}
 use Rattle.promises.specs.Classes.{noClass, ClassNumber, least-conjugate, not-linked, ClassesWritten, classPlace}
 use Rattle.mark_class_numbers.specs.Cells.{Loaded, CellCounts}

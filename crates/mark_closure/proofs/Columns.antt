@@ -6,10 +6,10 @@ use mathlib.Core.List.{List}
 use native.Mathlib.Omega.{arith}
 use lib.ListN.{length, getD, set, length-set}
 use lib.Seq.{getD-set-same, getD-set-other}
-use Rattle.finite.proofs.Count.{bit}
-use Rattle.finite.proofs.Tests.{T-true, T-false}
+use Rattle.finite.proofs.Count.{bit, bit-passes}
+use Rattle.finite.proofs.Tests.{T-true}
 use Rattle.theory.specs.Rules.{Morphism}
-use Rattle.theory.proofs.BestConjugates.{better-not, better-taken, better-same, column-none, column-more}
+use Rattle.theory.proofs.BestConjugates.{better-not, better-taken, better-same, bettered-none, bettered-more}
 use Rattle.scratch.specs.Map.{pairsFrom}
 use Rattle.mark_closure.specs.Closing.{place, ByteAfter, ColumnClosed}
 use Rattle.mark_closure.proofs.Tables.{place-same, first-in, first-byte, kept-none, kept-both, kept-first}
@@ -17,9 +17,7 @@ use Rattle.mark_closure.proofs.Tables.{place-same, first-in, first-byte
 -- the ways through the code for one byte where s·e = s: (s·x, f) is not marked, or it is
 module _ (m : Morphism) (bytes : List ℕ) (x e f s old : ℕ) {kept t : ℕ} (is-kept : kept ≡ m .product s e) (is-start : t ≡ m .product s x) where
   pub after-unmarked : getD bytes (t * 64 + f) 0 ≡ 0 → ByteAfter m (pairsFrom bytes 0) x e f s old old
-  after-unmarked z =
-      let none = ap bit (T-false (pairsFrom bytes 0 t f) (λ h. let b = first-byte bytes t f h in omega arith)) in
-      better-not is-kept is-start (λ h. absurd (omega arith))
+  after-unmarked z = better-not is-kept is-start (λ h. absurd (let b = first-byte bytes t f (bit-passes (pairsFrom bytes 0 t f) .1 h) in omega arith))
 
   pub after-marked : kept ≡ s → (getD bytes (t * 64 + f) 0 ≡ 0 → ⊥) → ByteAfter m (pairsFrom bytes 0) x e f s old 1
   after-marked p g =
@@ -27,20 +25,20 @@ module _ (m : Morphism) (bytes : List ℕ) (x e f s old : ℕ) {kept t : ℕ} (i
       better-taken is-kept is-start p (sym (ap bit (T-true (pairsFrom bytes 0 t f) (first-in bytes t f (omega arith))))) (λ h. omega arith)
 
 -- no byte of the column has changed yet
-pub closed-rows-none : (m : Morphism) (x e f : ℕ) (l : List ℕ) → ColumnClosed m x e f 0 l l
-closed-rows-none m x e f l = record { kept = kept-none (m .size) l; column = column-none }
+pub column-none : (m : Morphism) (x e f : ℕ) (l : List ℕ) → ColumnClosed m x e f 0 l l
+column-none m x e f l = record { kept = kept-none (m .size) l; column = bettered-none }
 
 -- the byte of one more element
 module _ {m : Morphism} {x e f s : ℕ} {entry now : List ℕ} {byte : ℕ} (small : m .size ≤ 64) (hs : s < m .size) (he : e < m .size) (hf : f < m .size)
     (ht : m .product s x < m .size) (inside : place s e < length now) (l : ColumnClosed m x e f s entry now)
     (d : ByteAfter m (pairsFrom now 0) x e f s (getD now (place s e) 0) byte) where
-  pub closed-rows-more : ColumnClosed m x e f (s + 1) entry (set now (place s e) byte)
-  closed-rows-more = record {
+  pub column-more : ColumnClosed m x e f (s + 1) entry (set now (place s e) byte)
+  column-more = record {
     kept = kept-both (l .kept) (record {
       same-length = length-set now (place s e) byte;
       kept = λ i g. getD-set-other now (place s e) i byte 0 (λ q. g s e hs he q);
     });
-    column = column-more hs he (l .column) (better-same (ap bit (kept-first small (l .kept) (m .product s x) f ht hf)) d) (record {
+    column = bettered-more hs he (l .column) (better-same (ap bit (kept-first small (l .kept) (m .product s x) f ht hf)) d) (record {
       is-value = getD-set-same now (place s e) byte 0 inside;
       others = λ a b ha hb g. getD-set-other now (place s e) (place a b) byte 0 (λ q. let p = place-same a b s e (omega arith) (omega arith) q in g (p .0) (p .1));
     });

@@ -1,17 +1,17 @@
 -- What the passes over the second table leave: one pair of factors after the other, and the closure once all were tried.
 -- Assumes nothing.
 use Prim.Native.Nat.{ℕ, _+_, _*_, _-_, _/_, _%_, _≤_, _<_}
-use mathlib.Core.Path.{_≡_, refl, sym, ap, subst}
-use mathlib.Core.Bool.{Bool, true, false}
+use mathlib.Core.Path.{_≡_, sym, ap, subst}
 use mathlib.Core.List.{List}
 use native.Mathlib.Omega.{arith}
 use native.Mathlib.Decide.{decLt}
 use lib.ListN.{length, getD}
 use lib.Dec.{T}
-use Rattle.finite.proofs.Count.{bit}
-use Rattle.finite.proofs.Tests.{tests-equal, T-true, true-T}
+use Rattle.finite.proofs.Count.{bit, bit-le, bit-passes}
+use Rattle.finite.proofs.Numbers.{row-more}
+use Rattle.finite.proofs.Tests.{tests-equal}
 use Rattle.theory.specs.Rules.{Morphism, Lawful, Pairs}
-use Rattle.theory.proofs.BestConjugates.{Attained, of-conjugate, of-none, BestSoFar, best-none, best-all, so-far-same, row-more}
+use Rattle.theory.proofs.BestConjugates.{Attained, of-conjugate, of-none, BestSoFar, best-none, best-all, so-far-same}
 use Rattle.theory.proofs.Closure.{closure-test, closure-intro, closure-elim}
 use Rattle.scratch.specs.Map.{pairsFrom}
 use Rattle.mark_closure.specs.Closure.{ClosureRoom, ClosureLaid}
@@ -42,24 +42,17 @@ advanced-both p q = record { so-far = q .so-far; kept = kept-both (p .kept) (q .
 
 pub advanced-row : {m : Morphism} (x : ℕ) {entry now next : List ℕ} → Advanced m (x * m .size) entry now → Advanced m (x * m .size + m .size) now next
     → Advanced m ((x + 1) * m .size) entry next
-advanced-row {m} x {entry} {now} {next} a b = subst (λ (count : ℕ). Advanced m count entry next) (row-more (m .size) x) (advanced-both a b)
+advanced-row {m} x {entry} {now} {next} a b = subst (λ (count : ℕ). Advanced m count entry next) (sym (row-more x (m .size))) (advanced-both a b)
 
 -- a byte of the best is 0 or 1, and not 0 only for a pair of the closure
 module _ {m : Morphism} (P : Pairs) {s e byte : ℕ} where
   best-bit : Attained m anyMark (markBit P) s e byte → byte ≤ 1
-  best-bit (of-conjugate {t} {f} c q) = go (P t f) q
-    where
-      go : (b : Bool) → byte ≡ bit b → byte ≤ 1
-      go true p = omega arith
-      go false p = omega arith
+  best-bit (of-conjugate {t} {f} c q) = omega (arith, bit-le (P t f))
   best-bit (of-none z) = omega arith
 
   best-closure : Attained m anyMark (markBit P) s e byte → 0 < byte → T (closure-test m P s e)
-  best-closure (of-conjugate {t} {f} c q) h = go (P t f) refl q
-    where
-      go : (b : Bool) → P t f ≡ b → byte ≡ bit b → T (closure-test m P s e)
-      go true p r = closure-intro (record { to-start = t; to-cycle = f; conjugate = c; is-marked = true-T p })
-      go false p r = absurd (omega arith)
+  best-closure (of-conjugate {t} {f} c q) h =
+      closure-intro (record { to-start = t; to-cycle = f; conjugate = c; is-marked = bit-passes (P t f) .1 (subst (λ (a : ℕ). 0 < a) q h) })
   best-closure (of-none z) h = absurd (omega arith)
 
 -- all factors were tried: the second table has the closure
@@ -73,8 +66,7 @@ module _ {m : Morphism} {entry exit : List ℕ} (small : m .size ≤ 64) (law : 
       (λ t. best-closure (pairsFrom entry 0) (best .cells s e hs he .attained) (pair-byte exit 4096 s e t))
       (λ t.
       let c = closure-elim law (r .linked) s e t in
-      let found = ap bit (T-true (pairsFrom entry 0 (c .to-start) (c .to-cycle)) (c .is-marked)) in
-      pair-in exit 4096 s e (best-all (best .cells s e hs he) (c .conjugate) (omega arith)))
+      pair-in exit 4096 s e (best-all (best .cells s e hs he) (c .conjugate) (bit-passes (pairsFrom entry 0 (c .to-start) (c .to-cycle)) .0 (c .is-marked))))
 
   -- a byte of the second table is that of a pair of elements, or 0 as it was
   bit-at : (i : ℕ) → 4096 ≤ i → i < 8192 → Dec (i / 64 - 64 < m .size) → Dec (i % 64 < m .size) → getD exit i 0 ≤ 1

@@ -46,7 +46,8 @@ pub record Advanced (m : Morphism) (count : ℕ) (entry exit : List ℕ) : Type 
   pub so-far : ClosedSoFar m count exit
   pub kept : Kept (m .size) entry exit
 
--- the byte of (s, e) after the factors x, y with e = x·y and f = y·x: 1 where s·e = s and P has (s·x, f), else the old byte
+-- the byte of (s, e) after the factors x, y with e = x·y and f = y·x: not 0 where the old byte is not, or where s·e = s and P
+-- has (s·x, f)
 abbrev pub ByteAfter : Morphism → Pairs → ℕ → ℕ → ℕ → ℕ → ℕ → ℕ → Type 0
 ByteAfter m P x e f s old byte = Better m anyMark (markBit P) x e f s old byte
 

@@ -4,22 +4,19 @@ use mathlib.Core.Path.{_≡_, ap, subst, _∙_}
 use mathlib.Core.Logic.{_≢_}
 use mathlib.Core.List.{List}
 use native.Mathlib.Omega.{arith}
-use native.Mathlib.Nat.{suc-mul, mul-le-mul}
-use native.Mathlib.Numerals.{add-one}
+use native.Mathlib.Nat.{mul-le-mul}
 use native.Mathlib.Decide.{ℕ-discrete}
 use lib.Arith.{digits-lt}
 use lib.ListN.{length, getD, set}
 use lib.Seq.{getD-set-same, getD-set-other}
 use Rattle.scratch.proofs.Unchanged.{unchanged-none, unchanged-both, unchanged-wider, unchanged-set}
+use Rattle.finite.proofs.Numbers.{row-more}
+
 use Rattle.reduce_table.specs.Layout.{Filled, Grid}
 
 -- a pair of at most 64 blocks has its place among 4,096
 pub pair-small : (c i j : ℕ) → c ≤ 64 → i < c → j < c → i * c + j < 4096
 pair-small c i j h hi hj = omega (arith, digits-lt hi hj, mul-le-mul h h)
-
--- one row more
-pub row-more : (i s : ℕ) → (i + 1) * s ≡ i * s + s
-row-more i s = rw add-one (suc-mul i s)
 
 -- no byte is filled
 pub filled-none : {f : ℕ → ℕ} (base : ℕ) (l : List ℕ) → Filled f base 0 l l

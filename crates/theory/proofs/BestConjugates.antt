@@ -1,16 +1,15 @@
 -- The best value over the conjugates of each pair, whatever is best, while the factors x, y are tried one pair after the other:
 -- x·y = e and y·x = f make a linked pair (s, e) conjugate to (s·x, f). Assumes nothing.
-use Prim.Native.Nat.{ℕ, _+_, _*_, _/_, _%_, _<_}
+use Prim.Native.Nat.{ℕ, _+_, _*_, _<_}
 use mathlib.Core.Path.{_≡_, refl, sym, ap, _∙_, subst, subst₂}
 use mathlib.Core.Logic.{_⊎_, inl, inr, _≢_}
 use native.Mathlib.Omega.{arith}
 use native.Mathlib.Decide.{ℕ-discrete}
-use native.Mathlib.Nat.{suc-mul}
-use native.Mathlib.Numerals.{add-one}
-use lib.Arith.{digits-lt, digits-div, digits-mod}
-use Rattle.finite.proofs.Numbers.{below-cases}
+use lib.Arith.{digits-lt}
+use Rattle.finite.proofs.Numbers.{below-cases, pair-same}
 use Rattle.theory.specs.Rules.{Morphism, Lawful, Marking}
 use Rattle.theory.specs.Pairs.{Idempotent, Linked, Conjugate}
+use Rattle.theory.proofs.Conjugacy.{conjugate-by}
 
 -- what is best: when a value is no worse than another, a preorder, and what a pair may have that has no conjugate's value
 pub record Ranking : Type 1 where
@@ -55,40 +54,6 @@ pub record ColumnBettered (m : Morphism) (R : Ranking) (value : Marking) (x e f 
 pub record CellSet (n s e new : ℕ) (now next : Marking) : Type 0 where
   pub is-value : next s e ≡ new
   pub others : (a b : ℕ) → a < n → b < n → (a ≡ s → b ≡ e → ⊥) → next a b ≡ now a b
-
--- a pair's number tells the pair
-pub pair-same : {n a b c d : ℕ} → b < n → d < n → a * n + b ≡ c * n + d → (a ≡ c) × (b ≡ d)
-pair-same {n} {a} {b} {c} {d} hb hd p = (
-  sym (digits-div a hb) ∙ ap (λ (i : ℕ). i / n) p ∙ digits-div c hd,
-  sym (digits-mod a hb) ∙ ap (λ (i : ℕ). i % n) p ∙ digits-mod c hd,
-)
-
--- a row more: from x·n to (x+1)·n
-pub row-more : (n x : ℕ) → x * n + n ≡ (x + 1) * n
-row-more n x = sym (ap (λ (a : ℕ). a * n) (add-one x) ∙ suc-mul x n)
-
--- factors of a linked pair lead to a linked pair
-pub factors-conjugate : {m : Morphism} {x y s e : ℕ} → Lawful m → Factors m x y s e → Conjugate m s e (m .product s x) (m .product y x)
-factors-conjugate {m} {x} {y} {s} law w =
-    let inside = law .closed s x (w .linked .inside) (w .x-inside) in
-    record {
-      left-linked = w .linked;
-      right-linked = record {
-        inside = inside;
-        idempotent = w .turned;
-        stays =
-            sym (law .associative (m .product s x) y x inside (w .y-inside) (w .x-inside))
-            ∙ ap (λ (a : ℕ). m .product a x)
-            (law .associative s x y (w .linked .inside) (w .x-inside) (w .y-inside) ∙ ap (m .product s) (w .around) ∙ w .linked .stays);
-      };
-      x = x;
-      y = y;
-      x-inside = w .x-inside;
-      y-inside = w .y-inside;
-      moves = refl;
-      around = w .around;
-      turned = refl;
-    }
 
 -- the ways through the code for one value: s·e is not s, or the value of (s·x, f) is compared with the old one
 module _ {m : Morphism} {R : Ranking} {value : Marking} {x e f s old kept : ℕ} (is-kept : kept ≡ m .product s e) where
@@ -163,12 +128,12 @@ so-far-same {m} {R} {value} {other} {count} {table} law same c = record { cells 
 
 -- one column, element after element
 module _ {m : Morphism} {R : Ranking} {value : Marking} {x e f : ℕ} where
-  pub column-none : {entry : Marking} → ColumnBettered m R value x e f 0 entry entry
-  column-none = record { cells = λ s h. absurd (omega arith); others = λ s b hs hb g. refl }
+  pub bettered-none : {entry : Marking} → ColumnBettered m R value x e f 0 entry entry
+  bettered-none = record { cells = λ s h. absurd (omega arith); others = λ s b hs hb g. refl }
 
-  pub column-more : {s new : ℕ} {entry now next : Marking} → s < m .size → e < m .size → ColumnBettered m R value x e f s entry now
+  pub bettered-more : {s new : ℕ} {entry now next : Marking} → s < m .size → e < m .size → ColumnBettered m R value x e f s entry now
       → Better m R value x e f s (now s e) new → CellSet (m .size) s e new now next → ColumnBettered m R value x e f (s + 1) entry next
-  column-more {s} {new} {entry} {now} {next} hs he l d st = record {
+  bettered-more {s} {new} {entry} {now} {next} hs he l d st = record {
     cells = λ a h. cell a (ℕ-discrete a s) h;
     others = λ a b ha hb g. st .others a b ha hb (λ p q. g (omega arith) q) ∙ l .others a b ha hb (λ h q. g (omega arith) q);
   }
@@ -203,15 +168,10 @@ module _ {m : Morphism} {R : Ranking} {value : Marking} {x y e f : ℕ} {entry :
       after : (s : ℕ) → s < m .size → {old new : ℕ} → Best m R value (x * m .size + y) s e old → Better m R value x e f s old new
           → Best m R value (x * m .size + (y + 1)) s e new
       after s hs {old} {new} b (taken p q h) =
-          let w : Factors m x y s e = record {
-            x-inside = hx;
-            y-inside = hy;
-            linked = record { inside = hs; idempotent = record { inside = subst (λ (a : ℕ). a < m .size) (sym pe) (law .closed x y hx hy); square = cc }; stays = p };
-            around = sym pe;
-            turned = record { inside = law .closed y x hy hx; square = cc };
-          } in
+          let i : Idempotent m e = record { inside = subst (λ (a : ℕ). a < m .size) (sym pe) (law .closed x y hx hy); square = cc } in
+          let j : Idempotent m (m .product y x) = record { inside = law .closed y x hy hx; square = cc } in
           let r : new ≡ value (m .product s x) (m .product y x) = q ∙ ap (value (m .product s x)) pf in
-          best-more hy b (of-conjugate (factors-conjugate law w) r) h (λ k. subst (R .no-worse new) r (R .reflexive new))
+          best-more hy b (of-conjugate (conjugate-by law (record { inside = hs; idempotent = i; stays = p }) hx hy (sym pe) j) r) h (λ w. subst (R .no-worse new) r (R .reflexive new))
       after s hs {old} {new} b (as-it-was g q) =
           subst (λ (v : ℕ). Best m R value (x * m .size + (y + 1)) s e v) (sym q)
           (best-kept hy b (λ w. subst (λ (a : ℕ). R .no-worse old (value (m .product s x) a)) pf (g (w .linked .stays))))

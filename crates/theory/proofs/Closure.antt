@@ -1,20 +1,20 @@
 -- The closure of a marking under conjugacy as a test that computes, and acceptance under a strong marking as one look in
 -- it. Assumes nothing.
 use Prim.Native.Nat.{ℕ, _≤_}
-use mathlib.Core.Path.{_≡_, refl}
-use mathlib.Core.Bool.{Bool, true, false, _&&_}
+use mathlib.Core.Path.{_≡_}
+use mathlib.Core.Bool.{Bool, _&&_}
 use mathlib.Core.Logic.{_↔_}
 use mathlib.Core.List.{List}
-use native.Mathlib.Omega.{arith}
 use lib.Dec.{T, eqb, ltb}
 use mir.Facts.{eqb-yes, yes-eqb, ltb-yes, yes-ltb}
 use Rattle.finite.proofs.Tests.{T-and, T-and-left, T-and-right}
 use Rattle.finite.specs.Search.{anyBelow}
-use Rattle.finite.proofs.Search.{any-intro, any-elim, bit}
+use Rattle.finite.proofs.Search.{any-intro, any-elim, bit, bit-le, bit-passes}
 use Rattle.theory.specs.Words.{Over}
 use Rattle.theory.specs.Rules.{Morphism, Lawful, Pairs, element, value, AllReached}
 use Rattle.theory.specs.Acceptance.{Accepts, Strong}
 use Rattle.theory.specs.Pairs.{Linked, LinkedOnly}
+use Rattle.theory.proofs.Conjugacy.{conjugate-by}
 use Rattle.theory.proofs.Strength.{Closed, settled-cycle, settled-start, strong-all, accepted-settled, settled-accepted}
 
 -- the pair is linked
@@ -81,29 +81,15 @@ closure-elim {m} {P} law linked s e t =
     record {
       to-start = m .product s (f .at);
       to-cycle = m .product (g .at) (f .at);
-      conjugate = record {
-        left-linked = l;
-        right-linked =
-            linked .linked (m .product s (f .at)) (m .product (g .at) (f .at)) (law .closed s (f .at) (l .inside) (f .below))
-            (law .closed (g .at) (f .at) (g .below) (f .below)) marked;
-        x = f .at;
-        y = g .at;
-        x-inside = f .below;
-        y-inside = g .below;
-        moves = refl;
-        around = eqb-yes (T-and-left (eqb (m .product (f .at) (g .at)) e) _ (g .holds));
-        turned = refl;
-      };
+      conjugate = conjugate-by law l (f .below) (g .below) (eqb-yes (T-and-left (eqb (m .product (f .at) (g .at)) e) _ (g .holds)))
+          (linked .linked (m .product s (f .at)) (m .product (g .at) (f .at)) (law .closed s (f .at) (l .inside) (f .below))
+          (law .closed (g .at) (f .at) (g .below) (f .below)) marked .idempotent);
       is-marked = marked;
     }
 
 -- 1 where the lassos with the values (s, z) are accepted under a strong marking, else 0
 unfoldable pub acceptance : Morphism → Pairs → ℕ → ℕ → ℕ
 acceptance m P s z = bit (closure-test m P (settled-start m s z) (settled-cycle m z))
-
-bit-passes : (b : Bool) → T b ↔ (1 ≤ bit b)
-bit-passes true = (λ t. omega arith, λ h. tt)
-bit-passes false = (λ t. absurd t, λ h. omega arith)
 
 -- the settled pair is in the closure exactly where this number is 1
 pub acceptance-passes : (m : Morphism) (P : Pairs) (s z : ℕ)
@@ -113,11 +99,7 @@ acceptance-passes m P s z = bit-passes (closure-test m P (settled-start m s z) (
 
 pub acceptance-le : (m : Morphism) (P : Pairs) (s z : ℕ) → acceptance m P s z ≤ 1
 unfolding acceptance
-acceptance-le m P s z = go (closure-test m P (settled-start m s z) (settled-cycle m z))
-  where
-    go : (b : Bool) → bit b ≤ 1
-    go true = omega arith
-    go false = omega arith
+acceptance-le m P s z = bit-le (closure-test m P (settled-start m s z) (settled-cycle m z))
 
 -- under a strong marking a lasso is accepted exactly if its values say so
 pub strong-acceptance : {m : Morphism} {P : Pairs} {u v : List ℕ} {s z : ℕ} → Lawful m → AllReached m → LinkedOnly m P → Strong m P

@@ -39,6 +39,27 @@ module _ {m : Morphism} (law : Lawful m) where
     turned = c .around;
   }
 
+  -- factors of a linked pair's cycle lead to a linked pair, if the turned cycle is idempotent
+  pub conjugate-by : {x y s e : ℕ} → Linked m s e → x < m .size → y < m .size → m .product x y ≡ e → Idempotent m (m .product y x)
+      → Conjugate m s e (m .product s x) (m .product y x)
+  conjugate-by {x} {y} {s} l hx hy p turned = record {
+    left-linked = l;
+    right-linked = record {
+      inside = law .closed s x (l .inside) hx;
+      idempotent = turned;
+      stays =
+          sym (law .associative (m .product s x) y x (law .closed s x (l .inside) hx) hy hx)
+          ∙ ap (λ (a : ℕ). m .product a x) (law .associative s x y (l .inside) hx hy ∙ ap (m .product s) p ∙ l .stays);
+    };
+    x = x;
+    y = y;
+    x-inside = hx;
+    y-inside = hy;
+    moves = refl;
+    around = p;
+    turned = refl;
+  }
+
   -- (a·b)·(c·d) = a·((b·c)·d)
   pub middle : (a b c d : ℕ) → a < m .size → b < m .size → c < m .size → d < m .size
       → m .product (m .product a b) (m .product c d) ≡ m .product a (m .product (m .product b c) d)

@@ -1,12 +1,12 @@
 -- A cycle whose value is an idempotent e, cut in two: x is the value of its beginning and y of its end, so x·y = e. After
 -- the cut one turn has the value f = y·x; its square is f's idempotent power. Assumes nothing.
-use Prim.Native.Nat.{ℕ, _<_}
-use mathlib.Core.Path.{_≡_, refl, sym, ap, _∙_}
+use Prim.Native.Nat.{ℕ, _<_, zero, suc}
+use mathlib.Core.Path.{_≡_, refl, sym, ap, _∙_, subst}
 use Rattle.theory.specs.Rules.{Morphism, Lawful, Value, none, element, join}
 use Rattle.theory.specs.Pairs.{Linked, Conjugate}
 use Rattle.theory.proofs.Values.{Inside, inside-none, inside-element, element-same}
-use Rattle.theory.proofs.Powers.{times, idempotent-of, idempotent-is}
-use Rattle.theory.proofs.Conjugacy.{semigroup, middle}
+use Rattle.theory.proofs.Powers.{times, idempotent-of, idempotent-is, Semigroup}
+use Rattle.theory.proofs.Conjugacy.{semigroup, middle, conjugate-by}
 
 -- the element y·x, where y may be none
 unfoldable pub turned : Morphism → Value → ℕ → ℕ
@@ -35,21 +35,8 @@ module _ {m : Morphism} (law : Lawful m) where
     inside = l .idempotent .inside;
     stays = ap (λ (a : ℕ). m .product a e) (l .stays);
     settles = sym (idempotent-is (semigroup law) (l .idempotent .inside) 1 squared);
-    conjugate = record {
-      left-linked = l;
-      right-linked = record {
-        inside = law .closed s e (l .inside) (l .idempotent .inside);
-        idempotent = record { inside = law .closed e e (l .idempotent .inside) (l .idempotent .inside); square = squared };
-        stays = ap (λ (a : ℕ). m .product (m .product s e) a) (l .idempotent .square) ∙ ap (λ (a : ℕ). m .product a e) (l .stays);
-      };
-      x = e;
-      y = e;
-      x-inside = l .idempotent .inside;
-      y-inside = l .idempotent .inside;
-      moves = refl;
-      around = l .idempotent .square;
-      turned = refl;
-    };
+    conjugate = conjugate-by law l (l .idempotent .inside) (l .idempotent .inside) (l .idempotent .square)
+        (record { inside = law .closed e e (l .idempotent .inside) (l .idempotent .inside); square = squared });
   }
     where
       squared : m .product (m .product e e) (m .product e e) ≡ m .product e e
@@ -99,23 +86,9 @@ module _ {m : Morphism} (law : Lawful m) where
       inside = hf;
       stays = moved;
       settles = sym (idempotent-is (semigroup law) hf 1 squared);
-      conjugate = record {
-        left-linked = l;
-        right-linked = record {
-          inside = law .closed s x (l .inside) hx;
-          idempotent = record { inside = law .closed f f hf hf; square = squared };
-          stays =
-              sym (law .associative (m .product s x) f f (law .closed s x (l .inside) hx) hf hf)
-              ∙ ap (λ (a : ℕ). m .product a f) moved ∙ moved;
-        };
-        x = x;
-        y = m .product y e;
-        x-inside = hx;
-        y-inside = law .closed y e hy he;
-        moves = refl;
-        around = sym (law .associative x y e hx hy he) ∙ ap (λ (a : ℕ). m .product a e) p ∙ l .idempotent .square;
-        turned = law .associative y e x hy he hx ∙ sym square-as;
-      };
+      conjugate = subst (λ (a : ℕ). Idempotent m a → Conjugate m s e (m .product s x) a) (law .associative y e x hy he hx ∙ sym square-as)
+          (conjugate-by law l hx (law .closed y e hy he) (sym (law .associative x y e hx hy he) ∙ ap (λ (a : ℕ). m .product a e) p ∙ l .idempotent .square))
+          (record { inside = law .closed f f hf hf; square = squared });
     }
 
   -- every cut of a cycle with an idempotent value

@@ -4,7 +4,7 @@ use mathlib.Core.Path.{_≡_, subst}
 use native.Mathlib.Omega.{arith}
 use Rattle.formats.specs.Table.{morphismAt}
 use Rattle.mark_closure.specs.Closing.{ColumnClosed}
-use Rattle.mark_closure.proofs.Columns.{closed-rows-none, closed-rows-more}
+use Rattle.mark_closure.proofs.Columns.{column-none, column-more}
 use Rattle.mark_closure.proofs.close_column.Statement.{statement}
 use Rattle.mark_closure.proofs.close_column.Tie as tie
 
@@ -15,7 +15,7 @@ abbrev μ-loop : tie.MeasureT-loop
 μ-loop rule n k scratch₀ x e f s₀ scratch s = n - s
 
 loop-holds : tie.Need-loop-holds Inv-loop μ-loop
-loop-holds c = (closed-rows-none _ _ _ _ _, omega arith)
+loop-holds c = (column-none _ _ _ _ _, omega arith)
 
 byte-after-requires : tie.Need-byte-after-requires Inv-loop μ-loop
 byte-after-requires c κs =
@@ -46,8 +46,8 @@ loop-again c =
     let t = c .before .before in
     let a = t .before in
     let b = a .before .before .before in
-    let e-f = b .pre .1 .1 in (
-      closed-rows-more (b .pre .0 .small) (t .loop-test .taken) (e-f .1) (e-f .2) (b .pre .0 .products (a .loop .s) (b .args .x) (t .loop-test .taken) (e-f .0))
+    let below = b .pre .1 .1 in (
+      column-more (b .pre .0 .small) (t .loop-test .taken) (below .1) (below .2) (b .pre .0 .products (a .loop .s) (b .args .x) (t .loop-test .taken) (below .0))
           (omega (arith, a .loop .inv .0 .kept .same-length)) (a .loop .inv .0) (c .byte-after .ensures),
       omega arith,
     )
