@@ -19,7 +19,7 @@ pub record Ranking : Type 1 where
   pub without : ℕ → ℕ → ℕ → Type 0
 
 -- the factors x, y make (s, e) conjugate to (s·x, y·x)
-pub record Factors (m : Morphism) (x y s e : ℕ) : Type 0 where
+pub record ConjugateBy (m : Morphism) (x y s e : ℕ) : Type 0 where
   pub x-inside : x < m .size
   pub y-inside : y < m .size
   pub linked : Linked m s e
@@ -34,7 +34,7 @@ pub data Attained (m : Morphism) (R : Ranking) (value : Marking) (s e best : ℕ
 -- the best over the factors x, y with x·n+y below the count
 pub record Best (m : Morphism) (R : Ranking) (value : Marking) (count s e best : ℕ) : Type 0 where
   pub attained : Attained m R value s e best
-  pub none-better : (x y : ℕ) → Factors m x y s e → x * m .size + y < count → R .no-worse best (value (m .product s x) (m .product y x))
+  pub none-better : (x y : ℕ) → ConjugateBy m x y s e → x * m .size + y < count → R .no-worse best (value (m .product s x) (m .product y x))
 
 -- the better of an old value and that of (s·x, f), where s·e = s; else the old value
 pub data Better (m : Morphism) (R : Ranking) (value : Marking) (x e f s old new : ℕ) : Type 0 where
@@ -80,19 +80,19 @@ module _ {m : Morphism} {R : Ranking} {value : Marking} where
 
   -- one pair of factors more: a value that is no worse than the old one, nor than theirs
   best-more : {x y s e old new : ℕ} → y < m .size → Best m R value (x * m .size + y) s e old → Attained m R value s e new → R .no-worse new old
-      → (Factors m x y s e → R .no-worse new (value (m .product s x) (m .product y x))) → Best m R value (x * m .size + (y + 1)) s e new
+      → (ConjugateBy m x y s e → R .no-worse new (value (m .product s x) (m .product y x))) → Best m R value (x * m .size + (y + 1)) s e new
   best-more {x} {y} {s} {e} {old} {new} hy b a h here = record { attained = a; none-better = λ x′ y′ w g. tried x′ y′ w (below-cases (omega arith)) }
     where
-      tried : (x′ y′ : ℕ) → Factors m x′ y′ s e → (x′ * m .size + y′ ≡ x * m .size + y) ⊎ (x′ * m .size + y′ < x * m .size + y)
+      tried : (x′ y′ : ℕ) → ConjugateBy m x′ y′ s e → (x′ * m .size + y′ ≡ x * m .size + y) ⊎ (x′ * m .size + y′ < x * m .size + y)
           → R .no-worse new (value (m .product s x′) (m .product y′ x′))
       tried x′ y′ w (inr l) = R .transitive new old _ h (b .none-better x′ y′ w l)
       tried x′ y′ w (inl q) =
           let same = pair-same (w .y-inside) hy q in
-          subst₂ (λ (a b : ℕ). Factors m a b s e → R .no-worse new (value (m .product s a) (m .product b a))) (sym (same .0)) (sym (same .1)) here w
+          subst₂ (λ (a b : ℕ). ConjugateBy m a b s e → R .no-worse new (value (m .product s a) (m .product b a))) (sym (same .0)) (sym (same .1)) here w
 
   -- the old value, where the factors have no better one
   best-kept : {x y s e old : ℕ} → y < m .size → Best m R value (x * m .size + y) s e old
-      → (Factors m x y s e → R .no-worse old (value (m .product s x) (m .product y x))) → Best m R value (x * m .size + (y + 1)) s e old
+      → (ConjugateBy m x y s e → R .no-worse old (value (m .product s x) (m .product y x))) → Best m R value (x * m .size + (y + 1)) s e old
   best-kept {old = old} hy b here = best-more hy b (b .attained) (R .reflexive old) here
 
   -- all factors were tried: no conjugate has a better value
@@ -149,7 +149,7 @@ module _ {m : Morphism} {R : Ranking} {value : Marking} {x e f : ℕ} where
 -- one pair of factors more, by the products e = x·y and f = y·x and their squares
 module _ {m : Morphism} {R : Ranking} {value : Marking} {x y e f : ℕ} {entry : Marking} (hx : x < m .size) (hy : y < m .size)
     (c : BestSoFar m R value (x * m .size + y) entry) (pe : e ≡ m .product x y) (pf : f ≡ m .product y x) where
-  so-far-skip : ((s a : ℕ) → Factors m x y s a → ⊥) → BestSoFar m R value (x * m .size + (y + 1)) entry
+  so-far-skip : ((s a : ℕ) → ConjugateBy m x y s a → ⊥) → BestSoFar m R value (x * m .size + (y + 1)) entry
   so-far-skip g = record { cells = λ s a hs ha. best-kept hy (c .cells s a hs ha) (λ w. absurd (g s a w)) }
 
   -- x·y is not idempotent: no pair (s, x·y) is linked
