@@ -1,3 +1,3 @@
 pub mod TripleBytes
 pub mod Sectioned
-pub mod Rows
+pub mod CountsRead

@@ -4,14 +4,12 @@ use mathlib.Core.Path.{_≡_, _∙_, subst}
 use mathlib.Core.List.{List}
 use native.Mathlib.Omega.{arith}
 use lib.ListN.{length, getD}
-use Rattle.answer.specs.declared.Refusal.{Refusal}
-use Rattle.answer.specs.Checks.{passed, refused, FirstFailure}
+use Rattle.answer.specs.Checks.{passed, FirstFailure}
 use Rattle.sections.specs.declared.Counted.{Counted}
 use Rattle.sections.specs.declared.Counted.the-variants.{Read, Refused}
-use Rattle.formats.specs.Sections.{Section, one-byte, two-byte, sectionChecks}
+use Rattle.formats.specs.Sections.{one-byte, two-byte, sectionChecks}
 use Rattle.formats.proofs.Sections.{CountGood, section-count-refused, section-entries-refused, good-passes}
-use Rattle.sections.specs.Answers.{CountAnswer}
-use Rattle.rule_layout.specs.Answers.{SectionAnswer, SectionPassed}
+use Rattle.sections.specs.Answers.{CountAnswer, SectionAnswer}
 use Rattle.formats.specs.AutomatonFile.{lettersSection, transitionsSection, tripleBound, transitionWidth}
 use Rattle.automaton_sections.specs.Sections.{TriplesAnswer, TriplesRead}
 
@@ -47,11 +45,3 @@ module _ (at : ℕ) (rest : List ℕ) where
       refusal = triples-pass (subst (TriplesRead rest m k count) (t .is-count) t);
     }
     by-triples (Refused r place) f = λ input. section-entries-refused (transitionsSection m k) input at rest g (f input)
-
--- a section's answer, known by its case
-module _ (s : Section) (at : ℕ) (rest : List ℕ) (answer : Counted) (known : SectionAnswer s at rest answer) where
-  pub section-read : {count : ℕ} → answer ≡ Read count → SectionPassed s at rest count
-  section-read e = subst (SectionAnswer s at rest) e known
-
-  pub section-refused : {r : Refusal} {place : ℕ} → answer ≡ Refused r place → (input : ℕ) → FirstFailure (sectionChecks s input at rest) (refused r input place)
-  section-refused e = subst (SectionAnswer s at rest) e known

@@ -7,7 +7,7 @@ use sections::entries;
 use sections::wide_count;
 ghost use Prim.Native.Nat.{_+_, _*_, _≤_, _<_, _^_};
 ghost use lib.ListN.{length};
-ghost use Rattle.rule_layout.specs.Answers.{SectionAnswer};
+ghost use Rattle.sections.specs.Answers.{SectionAnswer};
 ghost use Rattle.formats.specs.AutomatonFile.{statesSection, lettersSection, transitionsSection};
 ghost use Rattle.automaton_sections.specs.Sections.{BeyondAnswer, TriplesAnswer, LayoutAnswer};
 

@@ -18,7 +18,7 @@ use Rattle.formats.proofs.Sections.{passed-good}
 use Rattle.sections.proofs.Limits.{section-limited}
 use Rattle.formats.specs.RuleFile.{elementsOf, lettersAt, lettersOf, marksAt, marksOf, ruleEnd, morphismOf, elementsSection, lettersSection, marksSection}
 use Rattle.formats.specs.RuleChecks.{TrailingAt, UnlinkedAt, RepeatedAt, ShortAt, markChecks, layoutChecks, tableChecks, contentChecks, ruleChecks, secondMarksChecks, bufferCheck}
-use Rattle.automaton_sections.proofs.Rows.{first-byte}
+use Rattle.formats.proofs.SectionList.{first-byte}
 use Rattle.formats.specs.Calls.{checkedChecks}
 use Rattle.rule_check.proofs.Passed.{size-small, letters-small, marks-small}
 use Rattle.formats.specs.WordChecks.{longestWord, LengthOutAt, UnknownLetterAt, lassoChecks}

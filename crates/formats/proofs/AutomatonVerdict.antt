@@ -1,10 +1,12 @@
 -- The checks of an automaton file have one verdict. Assumes nothing.
 use Prim.Native.Nat.{ℕ, zero, suc}
+use mathlib.Core.Path.{subst}
 use mathlib.Core.List.{List}
 use Rattle.answer.proofs.Order.{AllSingle, single-nil, single-at, single-cons, single-append}
-use Rattle.formats.proofs.Sections.{section-single}
+use Rattle.formats.proofs.SectionList.{list-single}
+use Rattle.formats.proofs.AutomatonSections.{automatonSections, automaton-list}
 use Rattle.formats.proofs.Buffers.{buffer-single}
-use Rattle.formats.specs.AutomatonFile.{transitionsAt, transitionsOf}
+use Rattle.formats.specs.AutomatonFile.{transitionsOf}
 use Rattle.formats.specs.AutomatonChecks.{RepeatedAt, repeatedChecks, layoutChecks, automatonChecks, readChecks}
 use Rattle.formats.specs.RuleChecks.{TrailingAt}
 
@@ -17,8 +19,7 @@ module _ (input : ℕ) (bytes : List ℕ) where
 
   -- 1 to 3
   layout-single : AllSingle (layoutChecks input bytes)
-  layout-single =
-      single-append (section-single _ input 0 bytes) (single-append (section-single _ input _ _) (section-single _ input (transitionsAt bytes) _))
+  layout-single = subst AllSingle (automaton-list input bytes) (list-single automatonSections input 0 bytes)
 
   -- every check of an automaton file fails at one place at most
   pub automaton-single : AllSingle (automatonChecks input bytes)

@@ -1,10 +1,12 @@
 -- Each check of a rule file fails at one place at most, so the checks have one verdict only. Assumes nothing.
 use Prim.Native.Nat.{ℕ, zero, suc}
+use mathlib.Core.Path.{subst}
 use mathlib.Core.List.{List}
 use Rattle.answer.proofs.Order.{AllSingle, single-nil, single-at, single-cons, single-append}
 use Rattle.theory.specs.Rules.{Morphism}
 use Rattle.formats.proofs.Tables.{not-associative-unique, unsettled-unique, unreached-unique}
-use Rattle.formats.proofs.Sections.{section-single}
+use Rattle.formats.proofs.SectionList.{list-single}
+use Rattle.formats.proofs.RuleSections.{ruleSections, rule-list}
 use Rattle.formats.specs.RuleFile.{marksAt, marksOf, morphismOf}
 use Rattle.formats.proofs.Buffers.{buffer-single}
 use Rattle.formats.specs.RuleChecks.{UnlinkedAt, TrailingAt, RepeatedAt, layoutChecks, tableChecks, markChecks, powerChecks, contentChecks, ruleChecks}
@@ -32,8 +34,7 @@ module _ (input : ℕ) where
   module _ (bytes : List ℕ) where
     -- 1 to 3
     layout-single : AllSingle (layoutChecks input bytes)
-    layout-single =
-        single-append (section-single _ input 0 bytes) (single-append (section-single _ input _ _) (section-single _ input (marksAt bytes) _))
+    layout-single = subst AllSingle (rule-list input bytes) (list-single ruleSections input 0 bytes)
 
     content-single : AllSingle (contentChecks input bytes)
     content-single =

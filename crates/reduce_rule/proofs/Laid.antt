@@ -14,7 +14,7 @@ use Rattle.theory.specs.Rules.{Morphism, Marking}
 use Rattle.theory.proofs.Closure.{linked-test}
 use Rattle.rule_table.specs.Table.{Table}
 use Rattle.formats.specs.Table.{morphismAt}
-use Rattle.rule_layout.proofs.Rows.{rest-of}
+use Rattle.formats.proofs.SectionList.{rest-of}
 use Rattle.minimality.proofs.Quotient.{quotient, quotient-acc}
 use Rattle.minimality.proofs.Saturation.{saturated}
 use Rattle.reduce_first_round.specs.Map.{outcomeAt}

@@ -11,7 +11,8 @@ use Rattle.rule_table.proofs.Facts.{table-lawful}
 use Rattle.formats.specs.RuleFile.{marksAt, marksOf, ruleEnd, morphismOf}
 use Rattle.formats.specs.RuleChecks.{layoutChecks, tableChecks, contentChecks, ruleChecks}
 use Rattle.rule_check.specs.GoodRule.{GoodRule}
-use Rattle.rule_check.proofs.Passed.{layout-as, letters-some, marks-small, end-inside, table-of}
+use Rattle.formats.proofs.RuleSections.{rule-in-any}
+use Rattle.rule_check.proofs.Passed.{letters-some, marks-small, end-inside, table-of}
 use Rattle.rule_check.proofs.TablePassed.{table-associates, table-reached}
 use Rattle.rule_check.proofs.MarksPassed.{passed-marks, marking-linked}
 use Rattle.rule_marks.proofs.MarkOrder.{GoodMarks}
@@ -20,7 +21,7 @@ module _ (input : ℕ) (bytes : List ℕ) (all : FirstFailure (ruleChecks input 
   -- its sections pass, as those of a first input
   pub layout-passed : FirstFailure (layoutChecks 1 bytes) passed
   unfolding ruleChecks
-  layout-passed = layout-as bytes input 1 (passed-first _ _ all)
+  layout-passed = rule-in-any input bytes (passed-first _ _ all) 1
 
   content-passed : FirstFailure (contentChecks input bytes) passed
   unfolding ruleChecks

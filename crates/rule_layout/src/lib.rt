@@ -7,7 +7,8 @@ use sections::wide_count;
 ghost use Prim.Native.Nat.{_+_, _<_, _^_};
 ghost use lib.ListN.{length};
 ghost use Rattle.formats.specs.RuleFile.{elementsSection, lettersSection, marksSection};
-ghost use Rattle.rule_layout.specs.Answers.{SectionAnswer, LayoutAnswer};
+ghost use Rattle.sections.specs.Answers.{SectionAnswer};
+ghost use Rattle.rule_layout.specs.Answers.{LayoutAnswer};
 
 // The elements' section, at the front of the file.
 fn elements_section(rule: &[u8]) -> Counted

@@ -1,3 +1,5 @@
 pub mod Zeros
 pub mod Laws
 pub mod Limits
+pub mod Sectioned
+pub mod HandedOn

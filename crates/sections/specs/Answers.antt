@@ -3,12 +3,12 @@ use Prim.Native.Nat.{ℕ, _≤_, _<_}
 use mathlib.Core.Path.{_≡_}
 use mathlib.Core.List.{List}
 use lib.ListN.{length, getD}
-use Rattle.answer.specs.Checks.{refused, FirstFailure}
+use Rattle.answer.specs.Checks.{passed, refused, FirstFailure}
 use Rattle.sections.specs.declared.Found.{Found}
 use Rattle.sections.specs.declared.Found.the-variants.{At, Nothing}
 use Rattle.sections.specs.declared.Counted.{Counted}
 use Rattle.sections.specs.declared.Counted.the-variants.{Read, Refused}
-use Rattle.formats.specs.Sections.{CountWidth, countChecks, entryChecks}
+use Rattle.formats.specs.Sections.{CountWidth, Section, countAt, countChecks, entryChecks, sectionChecks}
 use Rattle.formats.proofs.Sections.{AllBelow, CountGood, EntriesGood, FirstOut}
 use Rattle.scratch.specs.Bytes.{UnchangedOutside}
 
@@ -35,3 +35,13 @@ abbrev pub EntriesAnswer : ℕ → ℕ → ℕ → ℕ → List ℕ → ℕ → 
 EntriesAnswer from size bound at rest count (Read result) = EntriesRead from size bound rest count result
 EntriesAnswer from size bound at rest count (Refused refusal place) =
     (input : ℕ) → FirstFailure (entryChecks from size (λ i. bound) input at rest) (refused refusal input place)
+
+-- a section that passes: its count
+pub record SectionPassed (section : Section) (at : ℕ) (rest : List ℕ) (count : ℕ) : Type 0 where
+  pub is-count : count ≡ countAt (section .width) rest
+  pub refusal : (input : ℕ) → FirstFailure (sectionChecks section input at rest) passed
+
+-- reading a section: its count, or the first of its checks that fails, whatever the number of the input
+abbrev pub SectionAnswer : Section → ℕ → List ℕ → Counted → Type 0
+SectionAnswer section at rest (Read count) = SectionPassed section at rest count
+SectionAnswer section at rest (Refused refusal place) = (input : ℕ) → FirstFailure (sectionChecks section input at rest) (refused refusal input place)

@@ -4,7 +4,7 @@ use native.Mathlib.Omega.{arith}
 use borrow.Author.Needs.{needs}
 use Rattle.formats.specs.Sections.{one-byte}
 use Rattle.formats.proofs.Sections.{CountGood}
-use Rattle.rule_layout.proofs.Sectioned.{count-read, count-refused, by-count, by-entries}
+use Rattle.sections.proofs.Sectioned.{count-read, count-refused, by-entries}
 use Rattle.formats.specs.AutomatonFile.{statesSection}
 use Rattle.automaton_sections.proofs.states_section.Statement.{statement}
 use Rattle.automaton_sections.proofs.states_section.Tie as tie
@@ -17,7 +17,10 @@ enum-known-m c = search needs
 
 -- the count that was read
 good : (c : tie.After-known-told) → CountGood one-byte 1 6 (c .before .before .before .before .before .args .bytes .now) (c .before .m .given .0 .0)
-good c = count-read one-byte 1 6 0 (c .before .before .before .before .before .args .bytes .now) (c .before .before .before .byte-count .result) (c .before .before .before .byte-count .ensures) (c .before .m .given .1)
+good c =
+    let a = c .before .before .before .before .before .args in
+    let call = c .before .before .before .byte-count in
+    count-read statesSection 0 (a .bytes .now) (call .result) (call .ensures) (c .before .m .given .1)
 
 entries-requires : tie.Need-entries-requires
 entries-requires c κs = omega (arith, good c .within)
@@ -29,7 +32,10 @@ returns : tie.Need-returns
 returns c = by-entries statesSection 0 (c .before .before .before .before .before .before .args .bytes .now) (good (c .before)) refl (c .entries .result) (c .entries .ensures)
 
 returns-2 : tie.Need-returns-2
-returns-2 c = by-count statesSection 0 (c .before .before .before .before .before .args .bytes .now) (count-refused one-byte 1 6 0 (c .before .before .before .before .before .args .bytes .now) (c .before .before .before .byte-count .result) (c .before .before .before .byte-count .ensures) (c .before .refusal .given .1))
+returns-2 c =
+    let a = c .before .before .before .before .before .args in
+    let call = c .before .before .before .byte-count in
+    count-refused statesSection 0 (a .bytes .now) (call .result) (call .ensures) (c .before .refusal .given .1)
 
 pub states-section-spec : {M : Type 1} → statement M
 states-section-spec =

@@ -2,7 +2,7 @@
 use borrow.Author.Needs.{needs}
 use Rattle.formats.specs.Sections.{two-byte}
 use Rattle.formats.proofs.Sections.{CountGood}
-use Rattle.rule_layout.proofs.Sectioned.{count-read, count-refused, by-count}
+use Rattle.sections.proofs.Sectioned.{count-read, count-refused}
 use Rattle.formats.specs.AutomatonFile.{transitionsSection}
 use Rattle.automaton_sections.proofs.Sectioned.{by-triples}
 use Rattle.automaton_sections.proofs.transitions_section.Statement.{statement}
@@ -16,7 +16,10 @@ enum-known-c c = search needs
 
 -- the count that was read
 good : (c : tie.After-known-told) → CountGood two-byte 0 576 (c .before .before .before .before .before .args .rest .now) (c .before .c .given .0 .0)
-good c = count-read two-byte 0 576 (c .before .before .before .before .before .args .at) (c .before .before .before .before .before .args .rest .now) (c .before .before .before .wide-count .result) (c .before .before .before .wide-count .ensures) (c .before .c .given .1)
+good c =
+    let a = c .before .before .before .before .before .args in
+    let call = c .before .before .before .wide-count in
+    count-read (transitionsSection (a .m) (a .k)) (a .at) (a .rest .now) (call .result) (call .ensures) (c .before .c .given .1)
 
 triples-requires : tie.Need-triples-requires
 triples-requires c κs = (c .before .before .before .before .before .pre, good c .within)
@@ -25,12 +28,15 @@ enum-known-refusal : tie.Need-enum-known-refusal
 enum-known-refusal c = search needs
 
 returns : tie.Need-returns
-returns c = by-triples (c .before .before .before .before .before .before .args .at) (c .before .before .before .before .before .before .args .rest .now) (c .before .before .before .before .before .before .args .m) (c .before .before .before .before .before .before .args .k) (good (c .before)) (c .triples .result) (c .triples .ensures)
+returns c =
+    let a = c .before .before .before .before .before .before .args in
+    by-triples (a .at) (a .rest .now) (a .m) (a .k) (good (c .before)) (c .triples .result) (c .triples .ensures)
 
 returns-2 : tie.Need-returns-2
-returns-2 c = let a = c .before .before .before .before .before .args in
-    by-count (transitionsSection (a .m) (a .k)) (a .at) (a .rest .now)
-    (count-refused two-byte 0 576 (a .at) (a .rest .now) (c .before .before .before .wide-count .result) (c .before .before .before .wide-count .ensures) (c .before .refusal .given .1))
+returns-2 c =
+    let a = c .before .before .before .before .before .args in
+    let call = c .before .before .before .wide-count in
+    count-refused (transitionsSection (a .m) (a .k)) (a .at) (a .rest .now) (call .result) (call .ensures) (c .before .refusal .given .1)
 
 pub transitions-section-spec : {M : Type 1} → statement M
 transitions-section-spec =

@@ -1,5 +1,5 @@
 -- `rule_check::rest_after` meets its contract: the part from a place to the end is what is left from there. Assumes nothing.
-use Rattle.rule_layout.proofs.Rows.{rest-of}
+use Rattle.formats.proofs.SectionList.{rest-of}
 use borrow.Author.Needs.{needs}
 use Rattle.rule_check.proofs.rest_after.Statement.{statement}
 use Rattle.rule_check.proofs.rest_after.Tie as tie

@@ -5,7 +5,7 @@ use native.Mathlib.Nat.{mul-le-mul}
 use Rattle.formats.specs.Sections.{one-byte}
 use Rattle.formats.proofs.Sections.{CountGood}
 use Rattle.formats.specs.RuleFile.{elementsSection}
-use Rattle.rule_layout.proofs.Sectioned.{count-read, count-refused, by-count, by-entries}
+use Rattle.sections.proofs.Sectioned.{count-read, count-refused, by-entries}
 use borrow.Author.Needs.{needs}
 use Rattle.rule_layout.proofs.elements_section.Statement.{statement}
 use Rattle.rule_layout.proofs.elements_section.Tie as tie
@@ -20,7 +20,8 @@ enum-known-n c = search needs
 good : (c : tie.After-known-told) → CountGood one-byte 1 64 (c .before .before .before .before .before .args .rule .now) (c .before .n .given .0 .0)
 good c =
     let a = c .before .before .before .before .before .args in
-    count-read one-byte 1 64 0 (a .rule .now) (c .before .before .before .byte-count .result) (c .before .before .before .byte-count .ensures) (c .before .n .given .1)
+    let call = c .before .before .before .byte-count in
+    count-read elementsSection 0 (a .rule .now) (call .result) (call .ensures) (c .before .n .given .1)
 
 mul-entries : tie.Need-mul-entries
 mul-entries c = omega (arith, mul-le-mul (good c .within) (good c .within))
@@ -39,8 +40,8 @@ returns c =
 returns-2 : tie.Need-returns-2
 returns-2 c =
     let a = c .before .before .before .before .before .args in
-    by-count elementsSection 0 (a .rule .now)
-    (count-refused one-byte 1 64 0 (a .rule .now) (c .before .before .before .byte-count .result) (c .before .before .before .byte-count .ensures) (c .before .refusal .given .1))
+    let call = c .before .before .before .byte-count in
+    count-refused elementsSection 0 (a .rule .now) (call .result) (call .ensures) (c .before .refusal .given .1)
 
 pub elements-section-spec : {M : Type 1} → statement M
 elements-section-spec =

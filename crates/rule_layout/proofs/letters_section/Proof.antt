@@ -4,7 +4,7 @@ use native.Mathlib.Omega.{arith}
 use Rattle.formats.specs.Sections.{one-byte}
 use Rattle.formats.proofs.Sections.{CountGood}
 use Rattle.formats.specs.RuleFile.{lettersSection}
-use Rattle.rule_layout.proofs.Sectioned.{count-read, count-refused, by-count, by-entries}
+use Rattle.sections.proofs.Sectioned.{count-read, count-refused, by-entries}
 use borrow.Author.Needs.{needs}
 use Rattle.rule_layout.proofs.letters_section.Statement.{statement}
 use Rattle.rule_layout.proofs.letters_section.Tie as tie
@@ -19,7 +19,8 @@ enum-known-k c = search needs
 good : (c : tie.After-known-told) → CountGood one-byte 1 16 (c .before .before .before .before .before .args .rest .now) (c .before .k .given .0 .0)
 good c =
     let a = c .before .before .before .before .before .args in
-    count-read one-byte 1 16 (a .at) (a .rest .now) (c .before .before .before .byte-count .result) (c .before .before .before .byte-count .ensures) (c .before .k .given .1)
+    let call = c .before .before .before .byte-count in
+    count-read (lettersSection (a .n)) (a .at) (a .rest .now) (call .result) (call .ensures) (c .before .k .given .1)
 
 entries-requires : tie.Need-entries-requires
 entries-requires c κs = omega (arith, good c .within)
@@ -35,8 +36,8 @@ returns c =
 returns-2 : tie.Need-returns-2
 returns-2 c =
     let a = c .before .before .before .before .before .args in
-    by-count (lettersSection (a .n)) (a .at) (a .rest .now)
-    (count-refused one-byte 1 16 (a .at) (a .rest .now) (c .before .before .before .byte-count .result) (c .before .before .before .byte-count .ensures) (c .before .refusal .given .1))
+    let call = c .before .before .before .byte-count in
+    count-refused (lettersSection (a .n)) (a .at) (a .rest .now) (call .result) (call .ensures) (c .before .refusal .given .1)
 
 pub letters-section-spec : {M : Type 1} → statement M
 letters-section-spec =

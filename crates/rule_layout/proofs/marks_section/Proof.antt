@@ -4,7 +4,7 @@ use native.Mathlib.Omega.{arith}
 use Rattle.formats.specs.Sections.{two-byte}
 use Rattle.formats.proofs.Sections.{CountGood}
 use Rattle.formats.specs.RuleFile.{marksSection}
-use Rattle.rule_layout.proofs.Sectioned.{count-read, count-refused, by-count, by-entries}
+use Rattle.sections.proofs.Sectioned.{count-read, count-refused, by-entries}
 use borrow.Author.Needs.{needs}
 use Rattle.rule_layout.proofs.marks_section.Statement.{statement}
 use Rattle.rule_layout.proofs.marks_section.Tie as tie
@@ -19,7 +19,8 @@ enum-known-c c = search needs
 good : (c : tie.After-known-told) → CountGood two-byte 0 4096 (c .before .before .before .before .before .args .rest .now) (c .before .c .given .0 .0)
 good c =
     let a = c .before .before .before .before .before .args in
-    count-read two-byte 0 4096 (a .at) (a .rest .now) (c .before .before .before .wide-count .result) (c .before .before .before .wide-count .ensures) (c .before .c .given .1)
+    let call = c .before .before .before .wide-count in
+    count-read (marksSection (a .n)) (a .at) (a .rest .now) (call .result) (call .ensures) (c .before .c .given .1)
 
 mul-entries : tie.Need-mul-entries
 mul-entries c = omega (arith, good c .within)
@@ -38,8 +39,8 @@ returns c =
 returns-2 : tie.Need-returns-2
 returns-2 c =
     let a = c .before .before .before .before .before .args in
-    by-count (marksSection (a .n)) (a .at) (a .rest .now)
-    (count-refused two-byte 0 4096 (a .at) (a .rest .now) (c .before .before .before .wide-count .result) (c .before .before .before .wide-count .ensures) (c .before .refusal .given .1))
+    let call = c .before .before .before .wide-count in
+    count-refused (marksSection (a .n)) (a .at) (a .rest .now) (call .result) (call .ensures) (c .before .refusal .given .1)
 
 pub marks-section-spec : {M : Type 1} → statement M
 marks-section-spec =
