@@ -1,3 +1,2 @@
 pub mod TripleBytes
-pub mod Sectioned
 pub mod CountsRead

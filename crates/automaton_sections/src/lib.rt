@@ -7,9 +7,9 @@ use sections::entries;
 use sections::wide_count;
 ghost use Prim.Native.Nat.{_+_, _*_, _≤_, _<_, _^_};
 ghost use lib.ListN.{length};
-ghost use Rattle.sections.specs.Answers.{SectionAnswer};
-ghost use Rattle.formats.specs.AutomatonFile.{statesSection, lettersSection, transitionsSection};
-ghost use Rattle.automaton_sections.specs.Sections.{BeyondAnswer, TriplesAnswer, LayoutAnswer};
+ghost use Rattle.sections.specs.Answers.{FoundOut, EntriesAnswer, SectionAnswer};
+ghost use Rattle.formats.specs.AutomatonFile.{statesSection, lettersSection, transitionsSection, transitionWidth, tripleBound};
+ghost use Rattle.automaton_sections.specs.Sections.{LayoutAnswer};
 
 // The states' section, at the front of the file: a kind is 0, 1, 2 or 3.
 pub fn states_section(bytes: &[u8]) -> Counted
@@ -32,7 +32,7 @@ pub fn letters_section(rest: &[u8], at: usize) -> Counted
 // The first byte of the triples that names no state, at its ends, or no letter, in its middle.
 pub fn first_beyond(rest: &[u8], count: usize, m: usize, k: usize) -> Found
     requires { ⌜ 2 + 3 * count ≤ length (now rest) ⌝ }
-    ensures { λ r. ⌜ BeyondAnswer (now (rest .entry)) m k count r ⌝ }
+    ensures { λ r. ⌜ FoundOut (now (rest .entry)) 2 (transitionWidth * count) (tripleBound m k) r ⌝ }
 {
     for i in 0..count {
         let first = 3 * i;
@@ -53,7 +53,7 @@ pub fn first_beyond(rest: &[u8], count: usize, m: usize, k: usize) -> Found
 pub fn triples(rest: &[u8], at: usize, count: usize, m: usize, k: usize) -> Counted
     requires { ⌜ at + length (now rest) < 2 ^ 64 ⌝ }
     requires { ⌜ count ≤ 576 ⌝ }
-    ensures { λ r. ⌜ TriplesAnswer at (now (rest .entry)) m k count r ⌝ }
+    ensures { λ r. ⌜ EntriesAnswer 2 (transitionWidth * count) (tripleBound m k) at (now (rest .entry)) count r ⌝ }
 {
     if rest.len() < 2 + 3 * count {
         let end = at + rest.len();

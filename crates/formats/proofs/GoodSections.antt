@@ -1,5 +1,5 @@
 -- The sections of a written rule pass the checks 1 to 3, and the file has its right end: every entry names an element, every
--- byte is below 256, and the whole is at most 12,308 bytes long. Assumes nothing.
+-- byte is below 256, and the whole is no longer than the longest file. Assumes nothing.
 use Prim.Native.Nat.{ℕ, _+_, _*_, _/_, _%_, _≤_, _<_}
 use mathlib.Core.Path.{_≡_, refl, sym, subst}
 use mathlib.Core.List.{List, [], _∷_, _++_, append-nil}
@@ -14,6 +14,7 @@ use Rattle.theory.proofs.Words.{over-append, over-at, over-from}
 use Rattle.formats.specs.Sections.{Section, countBytes, countAt, twoBytes, sectionChecks}
 use Rattle.formats.proofs.Sections.{section-passes}
 use Rattle.formats.specs.RuleFile.{elementsSection, lettersSection, marksSection}
+use Rattle.formats.specs.RuleChecks.{ruleSize}
 use Rattle.formats.specs.WrittenFile.{tabulate, elementsBytes, lettersBytes, markNumbers, pairBytes, marksBytes, fileOf, FitsFormat}
 use Rattle.formats.proofs.Tabulated.{tabulate-length, tabulate-at}
 use Rattle.formats.proofs.Pairs.{pairs-length}
@@ -53,10 +54,12 @@ passes-with : (s : Section) (input at count n : ℕ) (front body tail : List ℕ
 passes-with s input at count n front body tail lf ec low high lb eb o =
     section-passes s input at (front ++ (body ++ tail))
     (record { present = simp length-append (omega arith); is-count = ec; above = low; within = high })
-    eb
     (record {
       present = simp length-append (omega arith);
-      entries = record { below = λ i l. rw (← lf) (body-below front body tail n i o (omega arith)) };
+      entries = record {
+        below = λ i l. subst (λ (bound : ℕ → ℕ). getD (front ++ (body ++ tail)) (countBytes (s .width) + i) 0 < bound i) (sym eb)
+            (rw (← lf) (body-below front body tail n i o (omega arith)));
+      };
     })
 
 -- every product and every letter's image is an element
@@ -74,7 +77,7 @@ module _ (m : Morphism) (marks : Marking) (fits : FitsFormat m) where
   marks-few = omega (arith, numbers-listed m marks .short, mul-le-mul (fits .small) (fits .small))
 
   -- no file is longer than the longest
-  pub file-short : length (fileOf m marks) ≤ 12308
+  pub file-short : length (fileOf m marks) ≤ ruleSize
   file-short = omega (arith, file-length m marks, marks-few, fits .letters-small, mul-le-mul (fits .small) (fits .small))
 
   module _ (names : NamesElements m) where

@@ -12,15 +12,15 @@ use Rattle.answer.specs.declared.Refusal.the-variants.{Truncated, CountOutOfRan
 use Rattle.answer.specs.Checks.{Verdict, passed, numbered, refused, FirstFailure}
 use Rattle.answer.proofs.Order.{first-passes, first-fails, none-left, refused-before, passed-before, passes-head, passes-tail, AllSingle, single-nil, single-at, single-cons}
 
--- the first of `count` bytes from `from` on that is not below the bound
-pub record FirstOut (bytes : List ℕ) (from count bound index : ℕ) : Type 0 where
+-- the first of `count` bytes from `from` on that is not below its bound
+pub record FirstOut (bytes : List ℕ) (from count : ℕ) (bound : ℕ → ℕ) (index : ℕ) : Type 0 where
   pub below : index < count
-  pub outside : bound ≤ getD bytes (from + index) 0
-  pub first : (i : ℕ) → i < index → getD bytes (from + i) 0 < bound
+  pub outside : bound index ≤ getD bytes (from + index) 0
+  pub first : (i : ℕ) → i < index → getD bytes (from + i) 0 < bound i
 
--- all of them are below it
-pub record AllBelow (bytes : List ℕ) (from count bound : ℕ) : Type 0 where
-  pub below : (i : ℕ) → i < count → getD bytes (from + i) 0 < bound
+-- each of them is below its bound
+pub record AllBelow (bytes : List ℕ) (from count : ℕ) (bound : ℕ → ℕ) : Type 0 where
+  pub below : (i : ℕ) → i < count → getD bytes (from + i) 0 < bound i
 
 -- the count is there and in its range
 pub record CountGood (width : CountWidth) (low high : ℕ) (rest : List ℕ) (count : ℕ) : Type 0 where
@@ -29,8 +29,8 @@ pub record CountGood (width : CountWidth) (low high : ℕ) (rest : List ℕ) (co
   pub above : low ≤ count
   pub within : count ≤ high
 
--- the entries are there and each is below the bound
-pub record EntriesGood (from size bound : ℕ) (rest : List ℕ) : Type 0 where
+-- the entries are there and each is below its bound
+pub record EntriesGood (from size : ℕ) (bound : ℕ → ℕ) (rest : List ℕ) : Type 0 where
   pub present : from + size ≤ length rest
   pub entries : AllBelow rest from size bound
 
@@ -62,29 +62,24 @@ module _ (width : CountWidth) (low high input at : ℕ) (rest : List ℕ) where
       first-passes (record { nowhere = long-passes (g .present) at })
       (first-passes (record { nowhere = λ place o. ⊎-elim (λ l. omega (arith, g .is-count, g .above)) (λ l. omega (arith, g .is-count, g .within)) (o .outside) }) none-left)
 
--- entries that are there, each below its bound
-entries-below-pass : (from size : ℕ) (bound : ℕ → ℕ) (input at : ℕ) (rest : List ℕ) → from + size ≤ length rest
-    → ((i : ℕ) → i < size → getD rest (from + i) 0 < bound i) → FirstFailure (entryChecks from size bound input at rest) passed
-entries-below-pass from size bound input at rest h below =
-    first-passes (record { nowhere = long-passes h at })
-    (first-passes (record { nowhere = λ place o. omega (arith, below (o .index) (o .below), o .outside) }) none-left)
-
-module _ (from size bound input at : ℕ) (rest : List ℕ) where
+module _ (from size : ℕ) (bound : ℕ → ℕ) (input at : ℕ) (rest : List ℕ) where
   -- entries missing
-  pub entries-cut : length rest < from + size → FirstFailure (entryChecks from size (λ i. bound) input at rest) (refused Truncated input (at + length rest))
+  pub entries-cut : length rest < from + size → FirstFailure (entryChecks from size bound input at rest) (refused Truncated input (at + length rest))
   entries-cut h = first-fails (record { refusal = Truncated; input = input; Fails = TruncatedAt (from + size) at rest }) (record { short = h; is-place = refl })
 
   -- an entry out of its range
   pub entries-out : {index : ℕ} → from + size ≤ length rest → FirstOut rest from size bound index
-      → FirstFailure (entryChecks from size (λ i. bound) input at rest) (refused EntryOutOfRange input (at + (from + index)))
+      → FirstFailure (entryChecks from size bound input at rest) (refused EntryOutOfRange input (at + (from + index)))
   entries-out {index} h o =
       first-passes (record { nowhere = long-passes h at })
-      (first-fails (record { refusal = EntryOutOfRange; input = input; Fails = EntryOutAt rest from size (λ i. bound) at })
+      (first-fails (record { refusal = EntryOutOfRange; input = input; Fails = EntryOutAt rest from size bound at })
       (record { index = index; below = o .below; outside = o .outside; first = o .first; is-place = refl }))
 
   -- good entries
-  pub entries-pass : EntriesGood from size bound rest → FirstFailure (entryChecks from size (λ i. bound) input at rest) passed
-  entries-pass g = entries-below-pass from size (λ i. bound) input at rest (g .present) (g .entries .below)
+  pub entries-pass : EntriesGood from size bound rest → FirstFailure (entryChecks from size bound input at rest) passed
+  entries-pass g =
+      first-passes (record { nowhere = long-passes (g .present) at })
+      (first-passes (record { nowhere = λ place o. omega (arith, g .entries .below (o .index) (o .below), o .outside) }) none-left)
 
 module _ (rest : List ℕ) (from size : ℕ) (bound : ℕ → ℕ) (at : ℕ) where
   -- no entry is the first out of its range
@@ -131,7 +126,7 @@ module _ (s : Section) (input at : ℕ) (rest : List ℕ) where
   section-count-refused f = refused-before _ _ f
 
   -- after a good count the entries decide
-  section-entries-decide : {count : ℕ} {v : Verdict} → CountGood (s .width) (s .low) (s .high) rest count
+  pub section-entries-decide : {count : ℕ} {v : Verdict} → CountGood (s .width) (s .low) (s .high) rest count
       → FirstFailure (entryChecks (countBytes (s .width)) (s .entries count) (s .bound count) input at rest) v
       → FirstFailure (sectionChecks s input at rest) v
   unfolding sectionChecks
@@ -139,19 +134,10 @@ module _ (s : Section) (input at : ℕ) (rest : List ℕ) where
       passed-before _ _ (count-passes (s .width) (s .low) (s .high) input at rest g)
       (subst (λ (n : ℕ). FirstFailure (entryChecks (countBytes (s .width)) (s .entries n) (s .bound n) input at rest) v) (g .is-count) f)
 
-  -- an entry missing or out of its range refuses the section
-  pub section-entries-refused : {count number p : ℕ} → CountGood (s .width) (s .low) (s .high) rest count
-      → FirstFailure (entryChecks (countBytes (s .width)) (s .entries count) (s .bound count) input at rest) (numbered number input p)
-      → FirstFailure (sectionChecks s input at rest) (numbered number input p)
-  section-entries-refused g f = section-entries-decide g f
-
-  -- good entries under one bound pass it
-  pub section-passes : {count b : ℕ} → CountGood (s .width) (s .low) (s .high) rest count → s .bound count ≡ (λ i. b)
-      → EntriesGood (countBytes (s .width)) (s .entries count) b rest → FirstFailure (sectionChecks s input at rest) passed
-  section-passes {count} {b} g e f =
-      section-entries-decide g
-      (subst (λ (bound : ℕ → ℕ). FirstFailure (entryChecks (countBytes (s .width)) (s .entries count) bound input at rest) passed) (sym e)
-      (entries-pass (countBytes (s .width)) (s .entries count) b input at rest f))
+  -- good entries pass it
+  pub section-passes : {count : ℕ} → CountGood (s .width) (s .low) (s .high) rest count
+      → EntriesGood (countBytes (s .width)) (s .entries count) (s .bound count) rest → FirstFailure (sectionChecks s input at rest) passed
+  section-passes g f = section-entries-decide g (entries-pass _ _ _ input at rest f)
 
   -- a section that passes is as it should be
   pub passed-good : FirstFailure (sectionChecks s input at rest) passed → SectionGood s rest
@@ -172,9 +158,9 @@ module _ (s : Section) (input at : ℕ) (rest : List ℕ) where
   -- and a section that is as it should be passes
   pub good-passes : SectionGood s rest → FirstFailure (sectionChecks s input at rest) passed
   good-passes g =
-      section-entries-decide
+      section-passes
       (record { present = g .count-present; is-count = refl; above = g .above; within = g .within })
-      (entries-below-pass (countBytes (s .width)) _ _ input at rest (g .entries-present) (g .entries-below))
+      (record { present = g .entries-present; entries = record { below = g .entries-below } })
 
   -- each check fails at one place at most
   pub section-single : AllSingle (sectionChecks s input at rest)

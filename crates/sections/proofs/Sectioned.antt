@@ -1,13 +1,14 @@
 -- A section read by its count and then its entries. Assumes nothing.
 use Prim.Native.Nat.{ℕ}
-use mathlib.Core.Path.{_≡_, sym, _∙_, subst}
+use mathlib.Core.Path.{_≡_, refl, _∙_, subst}
 use mathlib.Core.List.{List}
+use native.Mathlib.Omega.{arith}
 use Rattle.answer.specs.declared.Refusal.{Refusal}
 use Rattle.answer.specs.Checks.{refused, FirstFailure}
 use Rattle.sections.specs.declared.Counted.{Counted}
 use Rattle.sections.specs.declared.Counted.the-variants.{Read, Refused}
-use Rattle.formats.specs.Sections.{Section, countBytes, entryChecks, sectionChecks}
-use Rattle.formats.proofs.Sections.{CountGood, section-count-refused, section-entries-refused, section-passes}
+use Rattle.formats.specs.Sections.{Section, countBytes, sectionChecks}
+use Rattle.formats.proofs.Sections.{CountGood, section-count-refused, section-entries-decide, section-passes}
 use Rattle.sections.specs.Answers.{CountAnswer, EntriesAnswer, SectionPassed, SectionAnswer}
 
 module _ (s : Section) (at : ℕ) (rest : List ℕ) where
@@ -21,15 +22,24 @@ module _ (s : Section) (at : ℕ) (rest : List ℕ) where
     count-refused e input = section-count-refused s input at rest (subst (CountAnswer (s .width) (s .low) (s .high) at rest) e known input)
 
   -- after a good count the entries' answer is the section's
-  pub by-entries : {count b : ℕ} → CountGood (s .width) (s .low) (s .high) rest count → s .bound count ≡ (λ i. b) → (answer : Counted)
-      → EntriesAnswer (countBytes (s .width)) (s .entries count) b at rest count answer → SectionAnswer s at rest answer
-  by-entries {count} {b} g e (Read result) k = record {
+  pub by-entries : {count : ℕ} → CountGood (s .width) (s .low) (s .high) rest count → (answer : Counted)
+      → EntriesAnswer (countBytes (s .width)) (s .entries count) (s .bound count) at rest count answer → SectionAnswer s at rest answer
+  by-entries g (Read result) k = record {
     is-count = k .is-count ∙ g .is-count;
-    refusal = λ input. section-passes s input at rest g e (k .good);
+    refusal = λ input. section-passes s input at rest g (k .good);
   }
-  by-entries {count} {b} g e (Refused r place) k =
-      λ input. section-entries-refused s input at rest g
-      (subst (λ (bound : ℕ → ℕ). FirstFailure (entryChecks (countBytes (s .width)) (s .entries count) bound input at rest) (refused r input place)) (sym e) (k input))
+  by-entries g (Refused r place) k = λ input. section-entries-decide s input at rest g (k input)
+
+  -- where no entries follow a count, its answer is the section's
+  pub by-count : ((count : ℕ) → s .entries count ≡ 0) → (answer : Counted) → CountAnswer (s .width) (s .low) (s .high) at rest answer
+      → SectionAnswer s at rest answer
+  by-count none (Read count) g =
+      by-entries g (Read count)
+      (record {
+        good = record { present = omega (arith, none count, g .present); entries = record { below = λ i h. absurd (let z : ⊥ = omega (arith, none count) in z) } };
+        is-count = refl;
+      })
+  by-count none (Refused r place) f = λ input. section-count-refused s input at rest (f input)
 
   -- the section's answer, known by its case
   module _ (answer : Counted) (known : SectionAnswer s at rest answer) where

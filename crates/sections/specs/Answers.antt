@@ -17,7 +17,7 @@ pub record PartZeroed (from to : ℕ) (entry exit : List ℕ) : Type 0 where
   pub zeros : (i : ℕ) → from ≤ i → i < to → getD exit i 0 ≡ 0
   pub outside : UnchangedOutside from to entry exit
 
-abbrev pub FoundOut : List ℕ → ℕ → ℕ → ℕ → Found → Type 0
+abbrev pub FoundOut : List ℕ → ℕ → ℕ → (ℕ → ℕ) → Found → Type 0
 FoundOut bytes from count bound (At i) = FirstOut bytes from count bound i
 FoundOut bytes from count bound Nothing = AllBelow bytes from count bound
 
@@ -27,14 +27,14 @@ CountAnswer width low high at rest (Read count) = CountGood width low high rest 
 CountAnswer width low high at rest (Refused refusal place) = (input : ℕ) → FirstFailure (countChecks width low high input at rest) (refused refusal input place)
 
 -- passing entries: the count that was read is handed on
-pub record EntriesRead (from size bound : ℕ) (rest : List ℕ) (count result : ℕ) : Type 0 where
+pub record EntriesRead (from size : ℕ) (bound : ℕ → ℕ) (rest : List ℕ) (count result : ℕ) : Type 0 where
   pub good : EntriesGood from size bound rest
   pub is-count : result ≡ count
 
-abbrev pub EntriesAnswer : ℕ → ℕ → ℕ → ℕ → List ℕ → ℕ → Counted → Type 0
+abbrev pub EntriesAnswer : ℕ → ℕ → (ℕ → ℕ) → ℕ → List ℕ → ℕ → Counted → Type 0
 EntriesAnswer from size bound at rest count (Read result) = EntriesRead from size bound rest count result
 EntriesAnswer from size bound at rest count (Refused refusal place) =
-    (input : ℕ) → FirstFailure (entryChecks from size (λ i. bound) input at rest) (refused refusal input place)
+    (input : ℕ) → FirstFailure (entryChecks from size bound input at rest) (refused refusal input place)
 
 -- a section that passes: its count
 pub record SectionPassed (section : Section) (at : ℕ) (rest : List ℕ) (count : ℕ) : Type 0 where

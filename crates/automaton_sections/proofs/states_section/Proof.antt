@@ -1,5 +1,4 @@
 -- `automaton_sections::states_section` meets its contract: the count decides, and after a good count the kinds. Assumes nothing.
-use mathlib.Core.Path.{refl}
 use native.Mathlib.Omega.{arith}
 use borrow.Author.Needs.{needs}
 use Rattle.formats.specs.Sections.{one-byte}
@@ -29,7 +28,7 @@ enum-known-refusal : tie.Need-enum-known-refusal
 enum-known-refusal c = search needs
 
 returns : tie.Need-returns
-returns c = by-entries statesSection 0 (c .before .before .before .before .before .before .args .bytes .now) (good (c .before)) refl (c .entries .result) (c .entries .ensures)
+returns c = by-entries statesSection 0 (c .before .before .before .before .before .before .args .bytes .now) (good (c .before)) (c .entries .result) (c .entries .ensures)
 
 returns-2 : tie.Need-returns-2
 returns-2 c =

@@ -2,9 +2,8 @@
 use borrow.Author.Needs.{needs}
 use Rattle.formats.specs.Sections.{two-byte}
 use Rattle.formats.proofs.Sections.{CountGood}
-use Rattle.sections.proofs.Sectioned.{count-read, count-refused}
+use Rattle.sections.proofs.Sectioned.{count-read, count-refused, by-entries}
 use Rattle.formats.specs.AutomatonFile.{transitionsSection}
-use Rattle.automaton_sections.proofs.Sectioned.{by-triples}
 use Rattle.automaton_sections.proofs.transitions_section.Statement.{statement}
 use Rattle.automaton_sections.proofs.transitions_section.Tie as tie
 
@@ -30,7 +29,7 @@ enum-known-refusal c = search needs
 returns : tie.Need-returns
 returns c =
     let a = c .before .before .before .before .before .before .args in
-    by-triples (a .at) (a .rest .now) (a .m) (a .k) (good (c .before)) (c .triples .result) (c .triples .ensures)
+    by-entries (transitionsSection (a .m) (a .k)) (a .at) (a .rest .now) (good (c .before)) (c .triples .result) (c .triples .ensures)
 
 returns-2 : tie.Need-returns-2
 returns-2 c =

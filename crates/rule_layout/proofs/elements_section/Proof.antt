@@ -1,5 +1,4 @@
 -- `rule_layout::elements_section` meets its contract: the count decides, and after a good count the entries. Assumes nothing.
-use mathlib.Core.Path.{refl}
 use native.Mathlib.Omega.{arith}
 use native.Mathlib.Nat.{mul-le-mul}
 use Rattle.formats.specs.Sections.{one-byte}
@@ -35,7 +34,7 @@ enum-known-refusal c = search needs
 returns : tie.Need-returns
 returns c =
     let a = c .before .before .before .before .before .before .args in
-    by-entries elementsSection 0 (a .rule .now) (good (c .before)) refl (c .entries .result) (c .entries .ensures)
+    by-entries elementsSection 0 (a .rule .now) (good (c .before)) (c .entries .result) (c .entries .ensures)
 
 returns-2 : tie.Need-returns-2
 returns-2 c =

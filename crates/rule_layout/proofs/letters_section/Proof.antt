@@ -1,5 +1,4 @@
 -- `rule_layout::letters_section` meets its contract: the count decides, and after a good count the entries. Assumes nothing.
-use mathlib.Core.Path.{refl}
 use native.Mathlib.Omega.{arith}
 use Rattle.formats.specs.Sections.{one-byte}
 use Rattle.formats.proofs.Sections.{CountGood}
@@ -31,7 +30,7 @@ enum-known-refusal c = search needs
 returns : tie.Need-returns
 returns c =
     let a = c .before .before .before .before .before .before .args in
-    by-entries (lettersSection (a .n)) (a .at) (a .rest .now) (good (c .before)) refl (c .entries .result) (c .entries .ensures)
+    by-entries (lettersSection (a .n)) (a .at) (a .rest .now) (good (c .before)) (c .entries .result) (c .entries .ensures)
 
 returns-2 : tie.Need-returns-2
 returns-2 c =

@@ -29,7 +29,7 @@ out : (c : tie.After-known-told)
     (c .before .before .before .before .before .before .args .rest .now)
     (c .before .before .before .before .before .before .args .from)
     (c .before .before .before .before .before .before .args .size)
-    (c .before .before .before .before .before .before .args .bound)
+    (λ i. c .before .before .before .before .before .before .args .bound)
     (c .before .i .given .0 .0)
 out c = found-at (c .before .before .before .first-out .result) (c .before .before .before .first-out .ensures) (c .before .i .given .1)
 

@@ -8,7 +8,7 @@ use Rattle.sections.proofs.greatest.Statement.{statement}
 use Rattle.sections.proofs.greatest.Tie as tie
 
 abbrev Inv-loop : tie.InvT-loop
-Inv-loop s from count top₀ i₀ top i = AllBelow s from i (top + 1) × (i ≤ count)
+Inv-loop s from count top₀ i₀ top i = AllBelow s from i (λ j. top + 1) × (i ≤ count)
 
 abbrev μ-loop : tie.MeasureT-loop
 μ-loop s from count top₀ i₀ top i = count - i

@@ -8,7 +8,7 @@ use Rattle.sections.proofs.scan_out.Statement.{statement}
 use Rattle.sections.proofs.scan_out.Tie as tie
 
 abbrev Inv-loop : tie.InvT-loop
-Inv-loop s from count bound i₀ i = AllBelow s from i bound × (i ≤ count)
+Inv-loop s from count bound i₀ i = AllBelow s from i (λ j. bound) × (i ≤ count)
 
 abbrev μ-loop : tie.MeasureT-loop
 μ-loop s from count bound i₀ i = count - i
