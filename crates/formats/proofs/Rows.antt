@@ -8,6 +8,7 @@ use lib.Dec.{ltb}
 use lib.ListN.{length}
 use Rattle.finite.specs.Select.{selectFrom, select}
 use Rattle.theory.specs.Rules.{Morphism, Marking}
+use Rattle.formats.specs.RuleFile.{markWidth}
 use Rattle.formats.specs.WrittenFile.{isMarked, pairBytes, markNumbers, marksBytes}
 use Rattle.formats.proofs.Pairs.{pairs-length, pairs-size}
 
@@ -25,15 +26,15 @@ numbers-are : (m : Morphism) (marks : Marking) (n : ℕ) → m .size ≡ n
 unfolding markNumbers select isMarked
 numbers-are m marks n e = ap (λ (k : ℕ). selectFrom (k * k) 0 (λ i. ltb 0 (marks (i / k) (i % k))) (λ i. i)) e
 
--- half of the pairs' bytes are as many as the pairs
-half : (m : Morphism) (xs : List ℕ) → length xs ≡ length (pairBytes m xs) / 2
-half m xs = sym (ap (λ (c : ℕ). c / 2) (pairs-length m xs) ∙ mul-div-right (length xs) (omega arith))
+-- as many pairs as their bytes hold
+pairs-count : (m : Morphism) (xs : List ℕ) → length xs ≡ length (pairBytes m xs) / markWidth
+pairs-count m xs = sym (ap (λ (c : ℕ). c / markWidth) (pairs-length m xs) ∙ mul-div-right (length xs) (omega arith))
 
 -- all pairs after their count are the marks' section
 pub section-is : (m : Morphism) (marks : Marking) (n : ℕ) → m .size ≡ n
     → marksBytes m marks
-    ≡ (length (pairsFrom n marks 0 (n * n)) / 2 % 256 ∷ length (pairsFrom n marks 0 (n * n)) / 2 / 256 ∷ pairsFrom n marks 0 (n * n))
+    ≡ (length (pairsFrom n marks 0 (n * n)) / markWidth % 256 ∷ length (pairsFrom n marks 0 (n * n)) / markWidth / 256 ∷ pairsFrom n marks 0 (n * n))
 unfolding marksBytes pairsFrom
 section-is m marks n e =
     ap (λ (xs : List ℕ). length xs % 256 ∷ length xs / 256 ∷ pairBytes m xs) (numbers-are m marks n e)
-    ∙ ap₂ (λ (c : ℕ) (l : List ℕ). c % 256 ∷ c / 256 ∷ l) (half (sized n) _) (pairs-size (sized n) m e _)
+    ∙ ap₂ (λ (c : ℕ) (l : List ℕ). c % 256 ∷ c / 256 ∷ l) (pairs-count (sized n) _) (pairs-size (sized n) m e _)

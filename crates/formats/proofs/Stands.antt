@@ -12,7 +12,7 @@ use lib.Arith.{digits-lt, digits-div, digits-mod}
 use Rattle.theory.specs.Rules.{Morphism, Marking}
 use Rattle.formats.specs.Sections.{twoBytes}
 use Rattle.formats.specs.Table.{productAt, imageAt}
-use Rattle.formats.specs.RuleFile.{elementsOf, lettersAt, lettersOf, marksAt, marksOf, markStart, markCycle, ruleEnd}
+use Rattle.formats.specs.RuleFile.{elementsOf, lettersAt, lettersOf, marksAt, marksOf, markWidth, markStart, markCycle, ruleEnd}
 use Rattle.formats.specs.WrittenFile.{tabulate, elementsBytes, lettersBytes, markNumbers, marksBytes, fileOf}
 use Rattle.formats.proofs.Tabulated.{tabulate-length, tabulate-at}
 use Rattle.formats.proofs.Pairs.{pairs-length, pair-start, pair-cycle}
@@ -31,7 +31,7 @@ module _ (m : Morphism) (marks : Marking) where
   unfolding lettersBytes
   letters-length = omega (arith, tabulate-length 0 (m .letters) (m .image))
 
-  pub marks-length : length (marksBytes m marks) ≡ 2 + 2 * length (markNumbers m marks)
+  pub marks-length : length (marksBytes m marks) ≡ 2 + markWidth * length (markNumbers m marks)
   unfolding marksBytes
   marks-length = omega (arith, pairs-length m (markNumbers m marks))
 
@@ -82,14 +82,14 @@ module _ (m : Morphism) (marks : Marking) where
       ∙ mod-add-div (length (markNumbers m marks)) 256
 
   -- the end of the last section is the end of the file
-  pub file-length : length (fileOf m marks) ≡ 1 + m .size * m .size + (1 + m .letters) + (2 + 2 * length (markNumbers m marks))
+  pub file-length : length (fileOf m marks) ≡ 1 + m .size * m .size + (1 + m .letters) + (2 + markWidth * length (markNumbers m marks))
   unfolding fileOf
   file-length =
       simp length-append (omega (arith, elements-length, letters-length, marks-length))
 
   pub ends-there : ruleEnd (fileOf m marks) ≡ length (fileOf m marks)
   unfolding ruleEnd
-  ends-there = ap₂ (λ (a c : ℕ). a + (2 + 2 * c)) marks-at marks-are ∙ sym file-length
+  ends-there = ap₂ (λ (a c : ℕ). a + (2 + markWidth * c)) marks-at marks-are ∙ sym file-length
 
   -- a byte of the table
   pub table-byte : (i : ℕ) → i < m .size * m .size → getD (fileOf m marks) (1 + i) 0 ≡ m .product (i / m .size) (i % m .size)
@@ -120,8 +120,8 @@ module _ (m : Morphism) (marks : Marking) where
       → markStart (fileOf m marks) (marksAt (fileOf m marks)) j ≡ getD (markNumbers m marks) j 0 / m .size
   unfolding markStart marksBytes
   start-stands j h =
-      from-place (fileOf m marks) _ (marksAt (fileOf m marks)) (2 + 2 * j) marks-from
-      ∙ ap (λ (i : ℕ). getD (marksBytes m marks) i 0) (let e : 2 + 2 * j ≡ suc (suc (2 * j)) = omega arith in e)
+      from-place (fileOf m marks) _ (marksAt (fileOf m marks)) (2 + markWidth * j) marks-from
+      ∙ ap (λ (i : ℕ). getD (marksBytes m marks) i 0) (let e : 2 + markWidth * j ≡ suc (suc (markWidth * j)) = omega arith in e)
       ∙ pair-start m (markNumbers m marks) j h
 
   pub cycle-stands : (j : ℕ) → j < length (markNumbers m marks)
@@ -129,6 +129,6 @@ module _ (m : Morphism) (marks : Marking) where
   unfolding markCycle marksBytes
   cycle-stands j h =
       ap (λ (i : ℕ). getD (fileOf m marks) i 0)
-      (let e : marksAt (fileOf m marks) + (2 + 2 * j) + 1 ≡ marksAt (fileOf m marks) + suc (suc (2 * j + 1)) = omega arith in e)
-      ∙ from-place (fileOf m marks) _ (marksAt (fileOf m marks)) (suc (suc (2 * j + 1))) marks-from
+      (let e : marksAt (fileOf m marks) + (2 + markWidth * j) + 1 ≡ marksAt (fileOf m marks) + suc (suc (markWidth * j + 1)) = omega arith in e)
+      ∙ from-place (fileOf m marks) _ (marksAt (fileOf m marks)) (suc (suc (markWidth * j + 1))) marks-from
       ∙ pair-cycle m (markNumbers m marks) j h

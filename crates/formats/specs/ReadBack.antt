@@ -9,7 +9,7 @@ use Rattle.theory.specs.Words.{Over}
 use Rattle.theory.specs.Rules.{Morphism, Marking}
 use Rattle.formats.specs.Table.{productAt, imageAt}
 use Rattle.formats.specs.RuleFile.{elementsOf, lettersOf, oneIf, markingOf, ruleEnd}
-use Rattle.formats.specs.RuleChecks.{ruleChecks}
+use Rattle.formats.specs.RuleChecks.{ruleChecks, ruleSize}
 use Rattle.formats.specs.WrittenFile.{fileOf}
 
 -- the bytes mean the morphism and the marked pairs
@@ -23,7 +23,7 @@ pub record ReadsBack (m : Morphism) (marks : Marking) (bytes : List ℕ) : Type 
 -- the bytes end with the last section, are no more than the longest file has, and each is a byte
 pub record FileShape (bytes : List ℕ) : Type 0 where
   pub ends : ruleEnd bytes ≡ length bytes
-  pub short : length bytes ≤ 12308
+  pub short : length bytes ≤ ruleSize
   pub small : Over 256 bytes
 
 -- a rule's file stands at the front of a buffer, and the rest of the buffer is as it was; it passes every check of a rule file,

@@ -10,7 +10,7 @@ use Rattle.answer.specs.Checks.{passed, FirstFailure}
 use Rattle.theory.specs.Rules.{Morphism}
 use Rattle.rule_table.specs.Table.{Table}
 use Rattle.formats.specs.Table.{morphismAt}
-use Rattle.formats.specs.RuleFile.{elementsOf, lettersAt, marksAt, marksOf, ruleEnd, morphismOf, markStart, markCycle, marksIn, markingOf}
+use Rattle.formats.specs.RuleFile.{elementsOf, lettersAt, marksAt, marksOf, ruleEnd, morphismOf, markWidth, markStart, markCycle, marksIn, markingOf}
 use Rattle.formats.specs.RuleChecks.{layoutChecks, tableChecks, markChecks, powerChecks}
 use Rattle.rule_layout.specs.declared.Shape.{Shape}
 use Rattle.rule_layout.specs.Answers.{LayoutPassed}
@@ -53,11 +53,11 @@ module _ (bytes : List ℕ) (shape : Shape) (p : LayoutPassed bytes shape) where
       ∙ ap (λ (x : ℕ). 1 + elementsOf bytes * elementsOf bytes + (1 + x)) (p .shape-is .letters)
 
   -- and where it ends
-  pub end-is : 1 + n * n + (1 + k) + (2 + 2 * count) ≡ ruleEnd bytes
+  pub end-is : 1 + n * n + (1 + k) + (2 + markWidth * count) ≡ ruleEnd bytes
   unfolding ruleEnd
-  end-is = ap (λ (x : ℕ). x + (2 + 2 * count)) marks-at-is ∙ ap (λ (x : ℕ). marksAt bytes + (2 + 2 * x)) (p .shape-is .marks)
+  end-is = ap (λ (x : ℕ). x + (2 + markWidth * count)) marks-at-is ∙ ap (λ (x : ℕ). marksAt bytes + (2 + markWidth * x)) (p .shape-is .marks)
 
-  pub end-in : 1 + n * n + (1 + k) + (2 + 2 * count) ≤ length bytes
+  pub end-in : 1 + n * n + (1 + k) + (2 + markWidth * count) ≤ length bytes
   end-in = omega (arith, end-inside bytes all, end-is)
 
   -- the file's table, by the counts that were read

@@ -8,7 +8,7 @@ use Rattle.answer.specs.Checks.{Check, passed, refused, FirstFailure}
 use Rattle.finite.specs.Search.{anyBelow}
 use Rattle.theory.specs.Rules.{Morphism}
 use Rattle.theory.specs.Pairs.{Linked}
-use Rattle.formats.specs.RuleFile.{markStart, markCycle, isMark, oneIf}
+use Rattle.formats.specs.RuleFile.{markWidth, markStart, markCycle, isMark, oneIf}
 use Rattle.rule_marks.specs.declared.Fault.{Fault}
 use Rattle.rule_marks.specs.declared.Fault.the-variants.{Nothing, Refused}
 
@@ -24,7 +24,7 @@ LinkedAnswer m s e false = Linked m s e → ⊥
 
 -- a marks section whose entries are elements, and room for a byte for each pair, none marked yet
 pub record MarksRoom (bytes : List ℕ) (at count n : ℕ) (table : List ℕ) : Type 0 where
-  pub long : at + (2 + 2 * count) ≤ length bytes
+  pub long : at + (2 + markWidth * count) ≤ length bytes
   pub starts : (i : ℕ) → i < count → markStart bytes at i < n
   pub cycles : (i : ℕ) → i < count → markCycle bytes at i < n
   pub room : 4096 ≤ length table

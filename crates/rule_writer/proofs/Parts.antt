@@ -8,6 +8,7 @@ use native.Mathlib.Nat.{zero-add, mul-le-mul, div-add-mod'}
 use lib.ListN.{length, getD, take, drop, set, length-set, length-append}
 use lib.Seq.{length-take-le, take-at}
 use Rattle.theory.specs.Rules.{Morphism}
+use Rattle.formats.specs.RuleChecks.{ruleSize}
 use Rattle.formats.specs.WrittenFile.{elementsBytes, lettersBytes, marksBytes, fileOf}
 use Rattle.rule_writer.specs.Writing.{placed, Written, tableMorphism, tableMarks, CopyNeeds, CountedNeeds, PairsNeeds, MarksNeeds, MarksWritten, RuleNeeds, RuleWritten}
 use Rattle.formats.proofs.Rows.{pairsFrom, section-is}
@@ -128,7 +129,7 @@ module _ {table images marks : List ℕ} {n k : ℕ} {before : List ℕ} (p : Ru
           rest : List ℕ
           rest = lettersBytes m ++ marksBytes m (tableMarks marks)
 
-          short : length file ≤ 12308
+          short : length file ≤ ruleSize
           short =
               file-short m (tableMarks marks)
               (record { some = p .some; small = p .small; letters-some = p .letters-some; letters-small = p .letters-small })

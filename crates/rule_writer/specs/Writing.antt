@@ -7,6 +7,8 @@ use mathlib.Core.List.{List, [], _∷_, _++_}
 use lib.Dec.{ltb}
 use lib.ListN.{length, getD, take, drop}
 use Rattle.theory.specs.Rules.{Morphism, Marking}
+use Rattle.formats.specs.RuleFile.{markWidth}
+use Rattle.formats.specs.RuleChecks.{ruleSize}
 use Rattle.formats.specs.WrittenFile.{marksBytes, fileOf}
 
 -- a buffer with the bytes put in place of its own from a place on
@@ -69,7 +71,7 @@ pub record PairsNeeds (marks : List ℕ) (n : ℕ) (out : List ℕ) (at : ℕ) :
 -- a table of marks, and room for the longest marks' section of n elements
 pub record MarksNeeds (marks : List ℕ) (n : ℕ) (out : List ℕ) (at : ℕ) : Type 0 where
   pub table : MarksTable marks n
-  pub room : at + (2 + 2 * (n * n)) ≤ length out
+  pub room : at + (2 + markWidth * (n * n)) ≤ length out
 
 -- the marks' section of any morphism with n elements was written
 pub record MarksWritten (marks : List ℕ) (n : ℕ) (before : List ℕ) (at : ℕ) (after : List ℕ) (end : ℕ) : Type 0 where
@@ -84,7 +86,7 @@ pub record RuleNeeds (table images marks : List ℕ) (n k : ℕ) (out : List ℕ
   pub table-long : n * n ≤ length table
   pub images-long : k ≤ length images
   pub marks-long : 4096 ≤ length marks
-  pub room : 12308 ≤ length out
+  pub room : ruleSize ≤ length out
 
 -- the rule of the tables was written to the front of the buffer, `end` bytes long
 pub record RuleWritten (table images marks : List ℕ) (n k : ℕ) (before after : List ℕ) (end : ℕ) : Type 0 where

@@ -6,7 +6,7 @@ use mathlib.Core.List.{List}
 use native.Mathlib.Omega.{arith}
 use lib.ListN.{length, drop}
 use Rattle.answer.specs.Checks.{passed, FirstFailure}
-use Rattle.formats.specs.RuleFile.{morphismOf, marksAt, marksOf}
+use Rattle.formats.specs.RuleFile.{morphismOf, markWidth, marksAt, marksOf}
 use Rattle.formats.specs.RuleChecks.{tableChecks, markChecks}
 use Rattle.rule_check.proofs.Faults.{no-fault, fault-refused, trailing, table-refuses, marks-refuse, powers-decide}
 use Rattle.rule_check.proofs.Content.{square-small, k-small, count-small, end-is, end-in, table-is, marks-room, of-table, of-marks, of-laid, laid-said, kept-said}
@@ -59,7 +59,7 @@ enum-known-refusal c = search needs
 -- nothing follows the last section
 follows : (c : tie.Else1)
     → length (drop (1 + c .before .before .before .before .args .shape .elements * c .before .before .before .before .args .shape .elements
-    + (1 + c .before .before .before .before .args .shape .letters) + (2 + 2 * c .before .before .before .before .args .shape .marks)) (c .before .before .before .before .args .rule .now)) ≤ 0
+    + (1 + c .before .before .before .before .args .shape .letters) + (2 + markWidth * c .before .before .before .before .args .shape .marks)) (c .before .before .before .before .args .rule .now)) ≤ 0
 follows c = subst (λ (l : List ℕ). length l ≤ 0) (c .before .rest-after .ensures) (c .if1 .left)
 
 -- the table is good
