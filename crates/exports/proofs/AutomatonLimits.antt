@@ -1,15 +1,14 @@
 -- Where the refusals of an automaton file lie, as those of a rule file. Assumes nothing.
 use Prim.Native.Nat.{ℕ, zero, suc, _+_, _≤_}
+use mathlib.Core.Path.{subst}
 use mathlib.Core.List.{List, [], _∷_, _++_}
 use native.Mathlib.Omega.{arith}
-use lib.ListN.{drop}
 use Rattle.answer.specs.Checks.{passed, FirstFailure}
 use Rattle.answer.proofs.Limits.{Limited, limited-nil, limited-cons, limited-append}
-use Rattle.formats.specs.Sections.{sectionChecks}
-use Rattle.formats.proofs.Sections.{passed-good}
-use Rattle.sections.proofs.Limits.{section-limited}
-use Rattle.formats.specs.RuleChecks.{TrailingAt}
-use Rattle.formats.specs.AutomatonFile.{lettersAt, transitionsAt, transitionsOf, transitionAt, automatonEnd, statesSection, lettersSection}
+use Rattle.formats.proofs.AutomatonSections.{automatonSections, automaton-list}
+use Rattle.sections.proofs.Limits.{list-limited}
+use Rattle.formats.specs.RuleChecks.{TrailingAt, ruleSize}
+use Rattle.formats.specs.AutomatonFile.{lettersAt, transitionsAt, transitionsOf, transitionAt, automatonEnd}
 use Rattle.formats.specs.AutomatonChecks.{RepeatedAt, repeatedChecks, layoutChecks, contentChecks, automatonChecks, readChecks}
 use Rattle.automaton_file.proofs.Passed.{good-sections}
 use Rattle.promises.specs.Automaton.{TooManyMatricesAt, matricesCheck}
@@ -18,18 +17,15 @@ use Rattle.exports.proofs.Limits.{Near, near, at-zero, buffer-limited}
 module _ (bytes : List ℕ) where
   -- 1 to 3
   layout-limited : Limited Near (layoutChecks 1 bytes)
-  unfolding lettersAt transitionsAt
   layout-limited =
-      limited-append (sectionChecks statesSection 1 0 bytes)
-      (section-limited statesSection 1 0 bytes (λ m place h l. near (omega arith) (omega arith)))
-      (λ states.
-      let m-small = passed-good statesSection 1 0 bytes states .within in
-      limited-append (sectionChecks lettersSection 1 (lettersAt bytes) (drop (lettersAt bytes) bytes))
-      (section-limited lettersSection 1 (lettersAt bytes) _ (λ k place h l. near (omega arith) (omega arith)))
-      (λ _. section-limited _ 1 (transitionsAt bytes) _ (λ c place h l. near (omega arith) (omega arith))))
+      subst (Limited Near) (automaton-list 1 bytes)
+      (list-limited automatonSections 1 0 bytes (
+        λ m place h l. near (omega arith) (omega arith),
+        λ m small. (λ k place h l. near (omega arith) (omega arith), λ k few c place h l. near (omega arith) (omega arith)),
+      ))
 
   -- 8
-  repeated-limited : (i count : ℕ) → transitionAt bytes (i + count) ≤ 12308 → Limited Near (repeatedChecks 1 bytes i count)
+  repeated-limited : (i count : ℕ) → transitionAt bytes (i + count) ≤ ruleSize → Limited Near (repeatedChecks 1 bytes i count)
   unfolding repeatedChecks transitionAt
   repeated-limited i zero l = limited-nil
   repeated-limited i (suc count) l =

@@ -1,12 +1,12 @@
 -- Where the refusals of the exported calls lie, for inputs of any length: those of a file no further in than the longest file reaches,
 -- since its counts are looked at first, and those of a word within the longest word. Assumes nothing.
 use Prim.Native.Nat.{ℕ, zero, suc, _+_, _*_, _≤_, _<_}
-use mathlib.Core.Path.{_≡_, refl}
+use mathlib.Core.Path.{_≡_, refl, subst}
 use mathlib.Core.Logic.{inr}
 use mathlib.Core.List.{List, _∷_}
 use native.Mathlib.Omega.{arith}
 use native.Mathlib.Nat.{mul-le-mul}
-use lib.ListN.{length, drop}
+use lib.ListN.{length}
 use Rattle.answer.specs.declared.Refusal.{Refusal}
 use Rattle.answer.specs.Refusals.{numberOf}
 use Rattle.answer.specs.Checks.{Check, passed, refused, FirstFailure}
@@ -15,10 +15,10 @@ use Rattle.theory.specs.Rules.{Morphism}
 use Rattle.formats.specs.TableChecks.{NotAssociativeAt, UnreachedAt, NoIdempotentPowerAt}
 use Rattle.formats.specs.Sections.{twoBytes, sectionChecks}
 use Rattle.formats.proofs.Sections.{passed-good}
-use Rattle.sections.proofs.Limits.{section-limited}
-use Rattle.formats.specs.RuleFile.{elementsOf, lettersAt, lettersOf, marksAt, marksOf, ruleEnd, morphismOf, elementsSection, lettersSection, marksSection}
-use Rattle.formats.specs.RuleChecks.{TrailingAt, UnlinkedAt, RepeatedAt, ShortAt, markChecks, layoutChecks, tableChecks, contentChecks, ruleChecks, secondMarksChecks, bufferCheck}
-use Rattle.formats.proofs.SectionList.{first-byte}
+use Rattle.sections.proofs.Limits.{section-limited, list-limited}
+use Rattle.formats.specs.RuleFile.{markWidth, elementsOf, lettersAt, marksAt, marksOf, ruleEnd, morphismOf, marksSection}
+use Rattle.formats.specs.RuleChecks.{TrailingAt, UnlinkedAt, RepeatedAt, ShortAt, markChecks, layoutChecks, tableChecks, contentChecks, ruleChecks, secondMarksChecks, bufferCheck, ruleSize}
+use Rattle.formats.proofs.RuleSections.{ruleSections, rule-list}
 use Rattle.formats.specs.Calls.{checkedChecks}
 use Rattle.rule_check.proofs.Passed.{size-small, letters-small, marks-small}
 use Rattle.formats.specs.WordChecks.{longestWord, LengthOutAt, UnknownLetterAt, lassoChecks}
@@ -59,7 +59,7 @@ table-limited m small =
     (λ _. limited-cons (λ place (f : UnreachedAt m place). near (omega arith) (omega (arith, f .inside))) (λ _. limited-nil))
 
 -- 7, 8
-marks-limited : (input : ℕ) (m : Morphism) (bytes : List ℕ) (at i count : ℕ) → input ≤ 2 → at + (2 + 2 * (i + count)) ≤ 12308
+marks-limited : (input : ℕ) (m : Morphism) (bytes : List ℕ) (at i count : ℕ) → input ≤ 2 → at + (2 + markWidth * (i + count)) ≤ ruleSize
     → Limited Near (markChecks input m bytes at i count)
 unfolding markChecks
 marks-limited input m bytes at i zero known l = limited-nil
@@ -71,18 +71,15 @@ marks-limited input m bytes at i (suc count) known l =
 module _ (bytes : List ℕ) where
   -- 1 to 3
   layout-limited : Limited Near (layoutChecks 1 bytes)
-  unfolding lettersAt marksAt lettersOf
   layout-limited =
-      limited-append (sectionChecks elementsSection 1 0 bytes)
-      (section-limited elementsSection 1 0 bytes (λ n place h l. near (omega arith) (omega (arith, mul-le-mul h h))))
-      (λ elements.
-      let n-small = passed-good elementsSection 1 0 bytes elements .within in
-      let square : elementsOf bytes * elementsOf bytes ≤ 64 * 64 = mul-le-mul n-small n-small in
-      limited-append (sectionChecks (lettersSection (elementsOf bytes)) 1 (lettersAt bytes) (drop (lettersAt bytes) bytes))
-      (section-limited _ 1 (lettersAt bytes) _ (λ k place h l. near (omega arith) (omega arith)))
-      (λ letters.
-      let k-small = passed-good (lettersSection (elementsOf bytes)) 1 (lettersAt bytes) (drop (lettersAt bytes) bytes) letters .within in
-      section-limited _ 1 (marksAt bytes) _ (λ c place h l. near (omega arith) (omega (arith, first-byte bytes (lettersAt bytes))))))
+      subst (Limited Near) (rule-list 1 bytes)
+      (list-limited ruleSections 1 0 bytes (
+        λ n place h l. near (omega arith) (omega (arith, mul-le-mul h h)),
+        λ n small. (
+          λ k place h l. near (omega arith) (omega (arith, mul-le-mul small small)),
+          λ k few c place h l. near (omega arith) (omega (arith, mul-le-mul small small)),
+        ),
+      ))
 
   -- 4, 5, 6, 7 and 8, 9
   content-limited : FirstFailure (layoutChecks 1 bytes) passed → Limited Near (contentChecks 1 bytes)

@@ -6,12 +6,12 @@ use mathlib.Core.List.{List, []}
 use native.Mathlib.Omega.{arith}
 use borrow.Author.Tests.{le-leb, lt-leb, lt-ltb, le-ltb}
 use lib.Dec.{leb}
-use lib.ListN.{length, take, drop, length-drop}
-use lib.Seq.{take-all}
+use lib.ListN.{length, take, drop}
 use denote.Ref.{RefT}
 use denote.Slice.{slice-vals}
 use Rattle.promises.specs.Stretch.{wordFits, unread, stretchOf, Pointer, unreadPlace, stretchPlace}
 use Rattle.formats.specs.WordChecks.{longestWord}
+use Rattle.formats.proofs.SectionList.{rest-of}
 
 -- a length that refusal 11 names
 pub data Unfit (w : List ℕ) : Type 0 where
@@ -43,10 +43,6 @@ pub record Fit (w : List ℕ) : Type 0 where
 
 fit : {w : List ℕ} → Fit w → wordFits w ≡ true
 fit {w} f = simp (le-leb 1 (length w) (f .some), le-leb (length w) longestWord (f .short))
-
--- the part from a place to the end, as the code takes it
-rest-of : (w : List ℕ) (at : ℕ) → take (length w - at) (drop at w) ≡ drop at w
-rest-of w at = take-all (length w - at) (drop at w) (omega (arith, length-drop at w))
 
 module _ {u v : List ℕ} (fu : Fit u) (fv : Fit v) (at : ℕ) where
   inside : stretchOf u v at ≡ unread u v at
