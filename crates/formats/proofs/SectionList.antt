@@ -1,6 +1,6 @@
 -- Sections one after the other: each begins where the one before ends, and the counts before it say what it holds. Assumes nothing.
 use Prim.Native.Nat.{ℕ, _+_, _*_, _-_, _≤_, _<_}
-use mathlib.Core.Path.{_≡_, refl, sym, ap, ap₂, _∙_, subst}
+use mathlib.Core.Path.{_≡_, ap, ap₂, _∙_, subst}
 use mathlib.Core.List.{List, _++_}
 use native.Mathlib.Omega.{arith}
 use native.Mathlib.Nat.{add-zero, zero-add}
@@ -9,7 +9,7 @@ use lib.Seq.{take-all, getD-drop}
 use Rattle.answer.specs.Checks.{Check, passed, FirstFailure}
 use Rattle.answer.proofs.Order.{AllSingle, single-append, passed-before, passed-first, passed-last}
 use Rattle.formats.specs.Sections.{CountWidth, one-byte, two-byte, countBytes, countAt, twoBytes, Section, sectionChecks}
-use Rattle.formats.proofs.Sections.{SectionGood, passed-good, good-passes, section-single}
+use Rattle.formats.proofs.Sections.{passed-good, good-passes, section-single}
 
 -- a list of sections, each given the counts before it
 pub data SectionList : Type 0 where

@@ -1,6 +1,6 @@
 -- One section that passes its checks, and that each of them fails at one place at most. Assumes nothing.
 use Prim.Native.Nat.{ℕ, _+_, _≤_, _<_, zero, suc}
-use mathlib.Core.Path.{_≡_, refl, sym, subst}
+use mathlib.Core.Path.{_≡_, refl, subst}
 use mathlib.Core.List.{List}
 use lib.ListN.{length, getD}
 use mathlib.Core.Logic.{_⊎_, inl, inr, ⊎-elim}
