@@ -1,10 +1,9 @@
 -- The rule while it is laid out in scratch behind the list of matrices: what each byte is to be, and which bytes stay.
 -- Assumes nothing.
 use Prim.Native.Nat.{ℕ, _+_, _*_, _≤_, _<_}
-use mathlib.Core.Path.{_≡_}
 use mathlib.Core.Bool.{false}
-use mathlib.Core.List.{List, _++_}
-use lib.ListN.{length, getD, drop}
+use mathlib.Core.List.{List}
+use lib.ListN.{length, getD}
 use Rattle.theory.specs.Rules.{Morphism, Marking}
 use Rattle.theory.specs.Pairs.{Linked}
 use Rattle.buchi.specs.Automata.{Automaton}
@@ -13,9 +12,8 @@ use Rattle.buchi.specs.Rule.{Recurs}
 use Rattle.buchi.proofs.Products.{product}
 use Rattle.automaton_matrices.specs.Bytes.{initialAt, finalAt}
 use Rattle.automaton_matrix_search.specs.Lists.{matrixAt, nextAt, parentAt, letterAt, MatrixList, KeptBelow, Recorded}
-use Rattle.formats.specs.WrittenFile.{fileOf}
 use Rattle.scratch.specs.Map.{laidMarksBase, laidProductsBase}
-use Rattle.formats.specs.RuleChecks.{ruleSize, scratchSize}
+use Rattle.formats.specs.RuleChecks.{scratchSize}
 
 -- ---- bytes that stay, and bytes that are filled
 

@@ -7,7 +7,7 @@
 use Prim.Native.Nat.{ℕ, _+_, _*_, _≤_, _<_}
 use mathlib.Core.Path.{_≡_}
 use mathlib.Core.List.{List}
-use lib.ListN.{length, getD}
+use lib.ListN.{getD}
 use Rattle.finite.proofs.Search.{bit}
 use Rattle.theory.specs.Rules.{Morphism}
 use Rattle.theory.proofs.Strength.{settled-start, settled-cycle}

@@ -1,27 +1,20 @@
 -- The tables of the blocks, once laid out, are those of the quotient by the blocks with its saturated marks. Assumes nothing.
-use Prim.Native.Nat.{ℕ, _+_, _*_, _-_, _<_}
-use mathlib.Core.Path.{_≡_, refl, sym, ap, ap₂, subst, _∙_}
+use Prim.Native.Nat.{ℕ, _+_, _*_, _<_}
+use mathlib.Core.Path.{_≡_, refl, sym, ap, ap₂, _∙_}
 use mathlib.Core.Bool.{Bool, true, false, cond, _&&_}
-use mathlib.Core.List.{List, _++_}
+use mathlib.Core.List.{List}
 use native.Mathlib.Omega.{arith}
-use native.Mathlib.Nat.{mul-le-mul}
 use lib.Dec.{eqb, ltb}
-use lib.ListN.{length, getD, take, drop, length-drop}
-use lib.Seq.{getD-drop}
+use lib.ListN.{getD}
 use borrow.Author.Tests.{lt-ltb}
 use Rattle.finite.proofs.Search.{bit}
-use Rattle.theory.specs.Rules.{Morphism, Marking}
+use Rattle.theory.specs.Rules.{Morphism}
 use Rattle.theory.proofs.Closure.{linked-test}
 use Rattle.rule_table.specs.Table.{Table}
 use Rattle.formats.specs.Table.{morphismAt}
-use Rattle.formats.proofs.SectionList.{rest-of}
 use Rattle.minimality.proofs.Quotient.{quotient, quotient-acc}
 use Rattle.minimality.proofs.Saturation.{saturated}
 use Rattle.reduce_first_round.specs.Map.{outcomeAt}
-use Rattle.formats.specs.WrittenFile.{fileOf}
-use Rattle.rule_writer.specs.Writing.{tableMorphism, tableMarks, RuleNeeds, RuleWritten}
-use Rattle.formats.proofs.Agree.{Agree}
-use Rattle.formats.proofs.Same.{SameMarks, file-same}
 use Rattle.reduce_numbering.specs.Steps.{numberAt, leaderAt}
 use Rattle.reduce_numbering.specs.Numbering.{NumberedAs}
 use Rattle.reduce_table.specs.Layout.{BlocksNeeds, blockProduct, blockImage, laidProduct, blockOutcome, blockMark, Filled, Grid}

@@ -1,10 +1,9 @@
 -- What is asked for and what is written on the way from the blocks of a rule to the file of its reduction. Assumes nothing.
-use Prim.Native.Nat.{ℕ, _+_, _*_, _≤_, _<_}
+use Prim.Native.Nat.{ℕ, _≤_, _<_}
 use mathlib.Core.Path.{_≡_}
 use mathlib.Core.List.{List}
-use lib.ListN.{length, getD}
-use lib.Dec.{ltb}
-use Rattle.theory.specs.Rules.{Morphism, Marking, Lawful, AllReached}
+use lib.ListN.{length}
+use Rattle.theory.specs.Rules.{Morphism, Lawful, AllReached}
 use Rattle.formats.specs.FirstWords.{ByFirstWords}
 use Rattle.minimality.proofs.Quotient.{Numbering, quotient, quotient-acc}
 use Rattle.minimality.proofs.Saturation.{saturated}

@@ -11,7 +11,6 @@ use lib.ListN.{length, getD, set}
 use lib.Seq.{getD-set-same, getD-set-other}
 use Rattle.scratch.proofs.Unchanged.{unchanged-none, unchanged-both, unchanged-wider, unchanged-set}
 use Rattle.finite.proofs.Numbers.{row-more}
-
 use Rattle.reduce_table.specs.Layout.{Filled, Grid}
 
 -- a pair of at most 64 blocks has its place among 4,096

@@ -8,7 +8,7 @@ use lib.Dec.{ltb}
 use lib.ListN.{length, getD, take, drop, length-drop}
 use lib.Seq.{getD-drop}
 use Rattle.theory.specs.Rules.{Morphism, Marking}
-use Rattle.rule_layout.proofs.Rows.{rest-of}
+use Rattle.formats.proofs.SectionList.{rest-of}
 use Rattle.scratch.specs.Map.{laidProductsBase, laidMarksBase}
 use Rattle.formats.specs.WrittenFile.{fileOf}
 use Rattle.rule_writer.specs.Writing.{tableMorphism, tableMarks, RuleNeeds, RuleWritten}

@@ -1,6 +1,6 @@
 -- Linked pairs and conjugacy: an equivalence, and what a turn of a cycle does to a linked pair. Assumes nothing.
 use Prim.Native.Nat.{ℕ, _<_}
-use mathlib.Core.Path.{_≡_, sym, ap, _∙_}
+use mathlib.Core.Path.{_≡_, refl, sym, ap, _∙_}
 use Rattle.theory.specs.Rules.{Morphism, Lawful}
 use Rattle.theory.specs.Pairs.{Idempotent, Linked, Conjugate}
 use Rattle.theory.proofs.Powers.{Semigroup}

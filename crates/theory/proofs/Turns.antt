@@ -1,11 +1,11 @@
 -- A cycle whose value is an idempotent e, cut in two: x is the value of its beginning and y of its end, so x·y = e. After
 -- the cut one turn has the value f = y·x; its square is f's idempotent power. Assumes nothing.
-use Prim.Native.Nat.{ℕ, _<_, zero, suc}
+use Prim.Native.Nat.{ℕ, _<_}
 use mathlib.Core.Path.{_≡_, refl, sym, ap, _∙_, subst}
 use Rattle.theory.specs.Rules.{Morphism, Lawful, Value, none, element, join}
-use Rattle.theory.specs.Pairs.{Linked, Conjugate}
+use Rattle.theory.specs.Pairs.{Idempotent, Linked, Conjugate}
 use Rattle.theory.proofs.Values.{Inside, inside-none, inside-element, element-same}
-use Rattle.theory.proofs.Powers.{times, idempotent-of, idempotent-is, Semigroup}
+use Rattle.theory.proofs.Powers.{times, idempotent-of, idempotent-is}
 use Rattle.theory.proofs.Conjugacy.{semigroup, middle, conjugate-by}
 
 -- the element y·x, where y may be none

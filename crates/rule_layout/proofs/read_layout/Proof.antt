@@ -4,11 +4,8 @@ use Prim.Native.Nat.{ℕ, _+_, _*_, _≤_}
 use mathlib.Core.Path.{refl}
 use mathlib.Core.List.{List}
 use native.Mathlib.Omega.{arith}
-use lib.ListN.{length, take, drop, length-drop}
-use Rattle.formats.specs.RuleFile.{elementsOf, lettersAt, marksAt, elementsSection, lettersSection}
-use Rattle.rule_layout.specs.Answers.{SectionPassed}
-use Rattle.rule_layout.proofs.Rows.{rest-of, elements-read, elements-refused, elements-long, square-small, letters-rest, letters-read, letters-refused, letters-small, letters-long, marks-at, marks-rest, marks-refused, layout-read}
 use native.Mathlib.Nat.{zero-add}
+use lib.ListN.{length}
 use borrow.Author.Needs.{needs}
 use Rattle.formats.specs.RuleFile.{elementsSection, lettersSection, marksSection}
 use Rattle.formats.specs.RuleChecks.{layoutChecks}
