@@ -1,3 +1,3 @@
-pub mod Entries
 pub mod Rows
+pub mod Entries
 pub mod Products

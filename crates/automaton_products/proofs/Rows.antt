@@ -13,7 +13,7 @@ use Rattle.automaton_products.specs.Arrays.{entryIn, MatrixShape, RowOf}
 
 -- ---- a row
 
-zeros-at : (k q : ℕ) → _≡_ {A = ℕ} (getD (replicate k 0) q 0) 0
+pub zeros-at : (k q : ℕ) → _≡_ {A = ℕ} (getD (replicate k 0) q 0) 0
 zeros-at zero q = refl
 zeros-at (suc k) zero = refl
 zeros-at (suc k) (suc q) = zeros-at k q

@@ -28,29 +28,22 @@ pub fn through(x: u8, y: u8) -> u8
     greater(x, y)
 }
 
-// An entry of the product, from a row of the left factor and a column of the right one.
-pub fn product_entry(n: usize, row: &[u8; 6], right: &[[u8; 6]; 6], q: usize) -> u8
-    requires { ⌜ (n ≤ 6) × (q < 6) ⌝ }
-    ensures { λ r. ⌜ r ≡ rowProduct n (now (row .entry)) (now (right .entry)) q ⌝ }
-{
-    let mut best = 0u8;
-    for r in 0..n {
-        let x = row[r];
-        let y = right[r][q];
-        let z = through(x, y);
-        best = greater(z, best);
-    }
-    best
-}
-
-// A row of the product, from that row of the left factor.
+// A row of the product, from that row of the left factor, state by state. A state to which no path leads is left out.
 pub fn product_row(n: usize, row: &[u8; 6], right: &[[u8; 6]; 6]) -> [u8; 6]
     requires { ⌜ n ≤ 6 ⌝ }
     ensures { λ r. ⌜ RowOf (rowProduct n (now (row .entry)) (now (right .entry))) n r ⌝ }
 {
     let mut out = [0u8; 6];
-    for q in 0..n {
-        out[q] = product_entry(n, row, right, q);
+    for r in 0..n {
+        let x = row[r];
+        if x != 0 {
+            for q in 0..n {
+                let y = right[r][q];
+                let z = through(x, y);
+                let best = out[q];
+                out[q] = greater(z, best);
+            }
+        }
     }
     out
 }
