@@ -1,7 +1,7 @@
 // The product of two matrices of six rows of six entries, by value: an entry is the greatest of those of all pairs (p, r) and (r, q)
 // with neither 0.
 ghost use mathlib.Core.Path.{_≡_};
-ghost use Prim.Native.Nat.{max, _≤_, _<_};
+ghost use Prim.Native.Nat.{max, _≤_};
 ghost use Rattle.buchi.proofs.Products.{through};
 ghost use Rattle.automaton_products.specs.Arrays.{rowProduct, MatrixShape, RowOf, IsProduct};
 
