@@ -94,7 +94,7 @@ module _ {bytes : List ℕ} {n k : ℕ} {out scratch listed : List ℕ} (r : Rea
               written =
                   written-rule (laidRule laid count k) (laidMarks laid)
                   (record { some = all .some; small = all .list .few; letters-some = read-letters r; letters-small = read-place r .few-letters })
-                  law (marked-linked law elements marking) (elements-reached law elements) (file .ends) (file .holds);
+                  law (marked-linked law elements marking) (elements-reached law elements) file;
             };
             scratch = z ∙ ap (λ (c : ℕ). replicate c 0) same-length;
           }

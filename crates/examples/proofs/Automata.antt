@@ -269,7 +269,7 @@ module _ (before entry : List ℕ) (long : ruleSize ≤ length before) (room : s
         all-marked = rule-marks-accepted M10-lawful three marking;
         written =
             written-rule M10-table marks (record { some = omega arith; small = omega arith; letters-some = omega arith; letters-small = omega arith })
-            M10-lawful (marked-linked M10-lawful three marking) M10-reached refl refl;
+            M10-lawful (marked-linked M10-lawful three marking) M10-reached (record { holds = refl; counts = refl });
       };
       scratch = refl;
     };
@@ -282,7 +282,7 @@ module _ (before entry : List ℕ) (long : ruleSize ≤ length before) (room : s
           end = end;
           answer-is = refl;
           file = written-file made;
-          stands = record { end-is = made .written .counts; out-is = made .written .holds };
+          stands = made .written .front;
           checked = checks-to (made .written .passes 1);
           elements = made .written .reads-back .elements ∙ made-elements made;
           strong = file-strong made;

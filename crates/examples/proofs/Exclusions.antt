@@ -106,7 +106,7 @@ module _ (before entry : List ℕ) (long : ruleSize ≤ length before) (room : s
   exit = replicate (length entry) 0
 
   copy : HandsBack W-all before after entry exit (Is-rule 16)
-  copy = record { end = 16; answer-is = refl; stands = record { end-is = refl; out-is = refl }; scratch-is = refl }
+  copy = record { end = 16; answer-is = refl; stands = record { holds = refl; counts = refl }; scratch-is = refl }
 
   reduced : HandsBack one-element before after entry exit (Is-rule 16)
   reduced = examples .m4 .1 .exactly before after entry exit (Is-rule 16) long room .0 (k .exactly before after entry exit (Is-rule 16) long room .1 copy)
@@ -115,7 +115,7 @@ module _ (before entry : List ℕ) (long : ruleSize ≤ length before) (room : s
   not-copied =
       let e = reduced .answer-is in
       let f : 16 ≡ reduced .end = cc in
-      omega (arith, reduced .stands .end-is)
+      omega (arith, reduced .stands .counts)
 
 pub copied-file : ¬ ReducesToBytes W-all W-all
 copied-file =

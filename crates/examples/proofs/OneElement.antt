@@ -3,9 +3,8 @@
 use Prim.Native.Nat.{ℕ, zero, suc, _<_}
 use native.Mathlib.Omega.{arith}
 use mathlib.Core.Path.{_≡_, refl, sym, subst, ap}
-use mathlib.Core.List.{List, [], _∷_, _++_}
+use mathlib.Core.List.{List, [], _∷_}
 use lib.Dec.{ltb}
-use lib.ListN.{length, drop}
 use Rattle.finite.proofs.Tests.{T-true}
 use Rattle.finite.proofs.FirstWords.{Sooner, sooner-parent, sooner-letter}
 use Rattle.finite.proofs.Discovery.{Discovery}
@@ -23,6 +22,7 @@ use Rattle.formats.specs.ReadBack.{WrittenRule}
 use Rattle.formats.proofs.Agree.{Agree}
 use Rattle.formats.proofs.Same.{SameMarks, file-same}
 use Rattle.formats.proofs.ReadBack.{written-rule}
+use Rattle.formats.specs.Front.{AtFront}
 use Rattle.promises.proofs.SameReductions.{reductions-size}
 use Rattle.examples.proofs.Reductions.{same-self}
 
@@ -101,8 +101,7 @@ module _ (k : ℕ) (some : 0 < k) (few : k < 17) where
   one-linked : LinkedOnly (one k) (marked all-marked)
   one-linked = record { linked = λ s e hs he t. one-marks k some .marks s e hs he .0 t .linked }
 
-  pub one-written : {before after : List ℕ} {r : ℕ} → r ≡ length (fileOf (one k) all-marked)
-      → after ≡ fileOf (one k) all-marked ++ drop (length (fileOf (one k) all-marked)) before → WrittenRule (one k) all-marked before after r
+  pub one-written : {before after : List ℕ} {r : ℕ} → AtFront (fileOf (one k) all-marked) before after r → WrittenRule (one k) all-marked before after r
   one-written =
       written-rule (one k) all-marked
       (record { some = omega arith; small = omega arith; letters-some = omega arith; letters-small = omega arith })

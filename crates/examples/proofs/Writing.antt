@@ -17,12 +17,14 @@ use Rattle.formats.proofs.Buffers.{buffer-long}
 use Rattle.formats.specs.RuleChecks.{ruleSize, scratchSize}
 use Rattle.formats.specs.Calls.{checkedChecks, afterCall, scratchLeft}
 use Rattle.formats.specs.WrittenFile.{tabulate, elementsBytes, lettersBytes, isMarked, markNumbers, pairBytes, marksBytes, fileOf}
+use Rattle.formats.specs.Front.{AtFront}
+use Rattle.formats.proofs.Front.{front-same}
 use Rattle.promises.specs.declared.Reduced.{Reduced}
 use Rattle.promises.specs.declared.Reduced.the-variants.{Rule as Is-rule, Refused}
 use Rattle.promises.specs.Reduce.{ruleOf, reduceChecks, reducedVerdict, ReducedTo, ReducedAnswer, ReducePromise}
 use Rattle.promises.proofs.OneStrength.{strong-rule-single}
 use Rattle.examples.specs.Files.{W-all, one-element}
-use Rattle.examples.specs.Examples.{StandsIn, HandsBack, ReducesToBytes}
+use Rattle.examples.specs.Examples.{HandsBack, ReducesToBytes}
 use Rattle.examples.proofs.Reading.{reading}
 use Rattle.examples.proofs.Rules.{W-all-passes, W-all-good, W-all-strong}
 use Rattle.examples.proofs.OneElement.{all-marked, one-file, one-written, one-by-first-words}
@@ -63,21 +65,21 @@ module _ (before after entry exit : List ℕ) (long : ruleSize ≤ length before
       record {
         end = end;
         answer-is = refl;
-        stands = subst (λ (file : List ℕ). StandsIn file before after end) b (record { end-is = to .written .counts; out-is = to .written .holds });
+        stands = front-same b (to .written .front);
         scratch-is = z ∙ zeros;
       }
   allowed (Refused r i place) to e z = absurd (let z : _≡_ {A = ℕ} 0 1 = cc in let w : ⊥ = omega arith in w)
 
   -- ---- and that it allows this
 
-  written : {end : ℕ} → StandsIn (fileOf (one 2) all-marked) before after end → ReducedTo W-all before after end
+  written : {end : ℕ} → AtFront (fileOf (one 2) all-marked) before after end → ReducedTo W-all before after end
   unfolding reading
   written k = record {
     lawful = W-all-good .lawful;
     reduced = one-rule 2;
     reduction = every-reduction (ruleOf W-all (W-all-good .lawful)) (omega arith) every;
     numbered = one-by-first-words 2 (omega arith) (omega arith);
-    written = one-written 2 (omega arith) (omega arith) (k .end-is) (k .out-is);
+    written = one-written 2 (omega arith) (omega arith) k;
   }
 
   promised : {answer : Reduced} → HandsBack one-element before after entry exit answer → ReducePromise W-all before after entry exit answer
@@ -85,7 +87,7 @@ module _ (before after entry exit : List ℕ) (long : ruleSize ≤ length before
       subst (ReducePromise W-all before after entry exit) (sym (k .answer-is))
       (record {
         refusal = all-pass;
-        answered = written (subst (λ (file : List ℕ). StandsIn file before after (k .end)) (sym one-bytes) (k .stands));
+        answered = written (front-same (sym one-bytes) (k .stands));
         scratch = k .scratch-is ∙ sym zeros;
       })
 

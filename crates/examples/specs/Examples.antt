@@ -3,9 +3,9 @@
 use Prim.Native.Nat.{ℕ, _≤_, _<_}
 use mathlib.Core.Path.{_≡_}
 use mathlib.Core.Logic.{_↔_}
-use mathlib.Core.List.{List, [], _∷_, _++_}
+use mathlib.Core.List.{List, [], _∷_}
 use lib.Dec.{T}
-use lib.ListN.{length, drop, replicate}
+use lib.ListN.{length, replicate}
 use Rattle.answer.specs.Checks.{Verdict, passed, numbered, FirstFailure}
 use Rattle.theory.specs.Words.{Lasso}
 use Rattle.theory.specs.Rules.{Rule, Lawful, element, value}
@@ -14,6 +14,7 @@ use Rattle.theory.specs.Pairs.{Linked, Conjugate, ClassCounts}
 use Rattle.theory.specs.Smallest.{Reduction}
 use Rattle.formats.specs.RuleFile.{elementsOf, lettersOf, morphismOf, pairsOf}
 use Rattle.formats.specs.RuleChecks.{ruleChecks, ruleSize, scratchSize}
+use Rattle.formats.specs.Front.{AtFront}
 use Rattle.promises.specs.declared.Reduced.{Reduced}
 use Rattle.promises.specs.declared.Reduced.the-variants.{Rule as Is-rule}
 use Rattle.promises.specs.Reduce.{ruleOf, ReducePromise}
@@ -76,16 +77,11 @@ pub record ReducesTo (bytes : List ℕ) (n : ℕ) : Type 0 where
   pub lawful : Lawful (morphismOf bytes)
   pub reduces : (law : Lawful (morphismOf bytes)) → RuleReducesTo (ruleOf bytes law) n
 
--- a file stands at the front of the buffer out, and the rest of out is as it was
-pub record StandsIn (file before after : List ℕ) (end : ℕ) : Type 0 where
-  pub end-is : end ≡ length file
-  pub out-is : after ≡ file ++ drop (length file) before
-
 -- what a call hands back that reduces to the file: its length, out with the file at its front, and zeros in scratch
 pub record HandsBack (file before after entry exit : List ℕ) (answer : Reduced) : Type 0 where
   pub end : ℕ
   pub answer-is : answer ≡ Is-rule end
-  pub stands : StandsIn file before after end
+  pub stands : AtFront file before after end
   pub scratch-is : exit ≡ replicate (length entry) 0
 
 -- with buffers that are long enough, the call's promise allows this and nothing else
@@ -105,7 +101,7 @@ pub record TranslatedTo (n c : ℕ) (before after : List ℕ) (answer : Translat
   pub end : ℕ
   pub answer-is : answer ≡ Is-translated end
   pub file : List ℕ
-  pub stands : StandsIn file before after end
+  pub stands : AtFront file before after end
   pub checked : ChecksTo file passed
   pub elements : elementsOf file ≡ n
   pub strong : FileStrong file

@@ -60,7 +60,7 @@ bit-fits h = record { first = omega arith; second = omega arith; third = omega a
 
 -- the length of a written rule
 written-fits : {m : Morphism} {marks : Marking} {entry exit : List ℕ} {r : ℕ} → WrittenRule m marks entry exit r → FieldsFit r 0 0
-written-fits w = record { first = omega (arith, w .counts, w .shape .short); second = omega arith; third = omega arith }
+written-fits w = record { first = omega (arith, w .front .counts, w .shape .short); second = omega arith; third = omega arith }
 
 -- the checks of the calls that write a rule, and of those that get a monitor
 strong-rule-limited : {out : List ℕ} (bytes entry : List ℕ) → Limited Near (bufferCheck ruleSize out ∷ (checkedChecks 1 bytes entry ++ (weakCheck 1 bytes ∷ [])))

@@ -1,10 +1,10 @@
 -- What is written reads back: the file of a lawful rule whose elements are all reached and whose marks are linked passes every
 -- check, and the bytes mean the rule that was written. Assumes nothing.
 use Prim.Native.Nat.{ℕ, zero, suc, _+_, _≤_, _<_}
-use mathlib.Core.Path.{_≡_, sym, ap, subst₂, _∙_}
-use mathlib.Core.List.{List, _++_}
+use mathlib.Core.Path.{sym, ap, subst₂, _∙_}
+use mathlib.Core.List.{List}
 use native.Mathlib.Omega.{arith}
-use lib.ListN.{length, drop}
+use lib.ListN.{length}
 use Rattle.answer.specs.Checks.{passed, FirstFailure}
 use Rattle.answer.proofs.Order.{first-passes, none-left, passed-before}
 use Rattle.theory.specs.Rules.{Morphism, Marking, Lawful, AllReached, marked, level}
@@ -20,6 +20,7 @@ use Rattle.formats.proofs.Agree.{Agree, agree-lawful, agree-linked, agr
 use Rattle.formats.proofs.Stands.{elements-are, letters-are, letters-from, marks-from, marks-are, ends-there, product-stands, image-stands, start-stands, cycle-stands}
 use Rattle.formats.proofs.Marks.{number-marked, marking-stands, marks-apart}
 use Rattle.formats.proofs.GoodSections.{NamesElements, lawful-names, elements-pass, letters-pass, marks-pass, file-short, file-over}
+use Rattle.formats.specs.Front.{AtFront}
 
 module _ (m : Morphism) (marks : Marking) where
   -- a written rule reads back
@@ -100,11 +101,9 @@ module _ (m : Morphism) (marks : Marking) (fits : FitsFormat m) (law : Lawful m)
       (first-passes (record { nowhere = λ place f. f .unsettled (lawful-settles (agree-lawful agrees law) (f .inside)) }) none-left)))))
 
   -- so a written rule keeps what its file promises
-  pub written-rule : {entry exit : List ℕ} {r : ℕ} → AllReached m → r ≡ length (fileOf m marks)
-      → exit ≡ fileOf m marks ++ drop (length (fileOf m marks)) entry → WrittenRule m marks entry exit r
-  written-rule reached e h = record {
-    holds = h;
-    counts = e;
+  pub written-rule : {entry exit : List ℕ} {r : ℕ} → AllReached m → AtFront (fileOf m marks) entry exit r → WrittenRule m marks entry exit r
+  written-rule reached w = record {
+    front = w;
     passes = file-passes reached;
     reads-back = reads-back m marks;
     shape = file-shape m marks fits (lawful-names law);

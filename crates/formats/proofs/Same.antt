@@ -5,10 +5,9 @@ use mathlib.Core.List.{List, _∷_, _++_}
 use native.Mathlib.Omega.{arith}
 use native.Mathlib.Nat.{mod-lt, div-lt-iff-lt-mul}
 use lib.Dec.{ltb}
-use lib.ListN.{length, drop}
+use lib.ListN.{length}
 use Rattle.theory.specs.Rules.{Morphism, Marking}
 use Rattle.formats.specs.WrittenFile.{tabulate, elementsBytes, lettersBytes, isMarked, pairBytes, marksBytes, fileOf}
-use Rattle.formats.specs.ReadBack.{WrittenRule}
 use Rattle.formats.proofs.Rows.{sized, pairsFrom, section-is}
 use Rattle.formats.proofs.Agree.{Agree}
 use Rattle.formats.proofs.Tabulated.{tabulate-same}
@@ -63,12 +62,3 @@ module _ {m m′ : Morphism} (agree : Agree m m′) where
   unfolding fileOf
   file-same {marks} {marks′} h =
       ap₂ _++_ elements-same (ap₂ _++_ letters-same (marks-same m m′ marks marks′ (agree .same-size) h))
-
--- two rules that are written as one file leave the buffer alike
-module _ {m m′ : Morphism} {marks marks′ : Marking} {before after after′ : List ℕ} {r r′ : ℕ} (a : WrittenRule m marks before after r)
-    (b : WrittenRule m′ marks′ before after′ r′) (e : fileOf m′ marks′ ≡ fileOf m marks) where
-  pub one-length : r ≡ r′
-  one-length = a .counts ∙ ap length (sym e) ∙ sym (b .counts)
-
-  pub one-buffer : after ≡ after′
-  one-buffer = a .holds ∙ ap (λ (file : List ℕ). file ++ drop (length file) before) (sym e) ∙ sym (b .holds)

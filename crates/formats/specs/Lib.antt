@@ -5,6 +5,7 @@ pub mod AutomatonChecks
 pub mod Calls
 pub mod WrittenFile
 pub mod FirstWords
+pub mod Front
 pub mod ReadBack
 pub mod Sections
 pub mod Table

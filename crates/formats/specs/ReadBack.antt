@@ -1,9 +1,9 @@
 -- What it is for bytes to read back as a rule. Assumes nothing.
 use Prim.Native.Nat.{ℕ, _≤_, _<_}
 use mathlib.Core.Path.{_≡_}
-use mathlib.Core.List.{List, _++_}
+use mathlib.Core.List.{List}
 use lib.Dec.{ltb}
-use lib.ListN.{length, drop}
+use lib.ListN.{length}
 use Rattle.answer.specs.Checks.{passed, FirstFailure}
 use Rattle.theory.specs.Words.{Over}
 use Rattle.theory.specs.Rules.{Morphism, Marking}
@@ -11,6 +11,7 @@ use Rattle.formats.specs.Table.{productAt, imageAt}
 use Rattle.formats.specs.RuleFile.{elementsOf, lettersOf, oneIf, markingOf, ruleEnd}
 use Rattle.formats.specs.RuleChecks.{ruleChecks, ruleSize}
 use Rattle.formats.specs.WrittenFile.{fileOf}
+use Rattle.formats.specs.Front.{AtFront}
 
 -- the bytes mean the morphism and the marked pairs
 pub record ReadsBack (m : Morphism) (marks : Marking) (bytes : List ℕ) : Type 0 where
@@ -29,8 +30,7 @@ pub record FileShape (bytes : List ℕ) : Type 0 where
 -- a rule's file stands at the front of a buffer, and the rest of the buffer is as it was; it passes every check of a rule file,
 -- and means the rule
 pub record WrittenRule (m : Morphism) (marks : Marking) (entry exit : List ℕ) (r : ℕ) : Type 0 where
-  pub holds : exit ≡ fileOf m marks ++ drop (length (fileOf m marks)) entry
-  pub counts : r ≡ length (fileOf m marks)
+  pub front : AtFront (fileOf m marks) entry exit r
   pub passes : (input : ℕ) → FirstFailure (ruleChecks input (fileOf m marks)) passed
   pub reads-back : ReadsBack m marks (fileOf m marks)
   pub shape : FileShape (fileOf m marks)

@@ -12,7 +12,7 @@ use Rattle.rule_reach.specs.Reach.{placeAt, Empty, WordOrder}
 use Rattle.rule_reach.proofs.Words.{wordAt, found-word, reached-found}
 use Rattle.scratch.specs.Map.{pairsFrom}
 use Rattle.mark_spelling.specs.Spelling.{SpellNeeds}
-use Rattle.promises.specs.Inclusion.{WordWritten}
+use Rattle.formats.specs.Front.{AtFront}
 use Rattle.mark_spelling.proofs.Entries.{spell-place}
 use Rattle.mark_search.specs.Search.{MarkingAt, EscapeNeeds, EscapeAnswer, EscapedAt, Escaped}
 use Rattle.mark_search.specs.declared.Escape.{Escape}
@@ -31,7 +31,7 @@ module _ {bytes : List ℕ} {n k : ℕ} {before queue : List ℕ} {count s : ℕ
   pub start-place : SpellNeeds queue n s out
   start-place = spell-place order (omega (arith, blank .room, order .same-length)) (table .small) (place .inside) found (omega (arith, table .small, place .room))
 
-  pub start-written : {exit : List ℕ} {r : ℕ} → WordWritten (wordAt queue (placeAt queue s)) out exit r → StartWritten (morphismAt bytes n k) s out exit r
+  pub start-written : {exit : List ℕ} {r : ℕ} → AtFront (wordAt queue (placeAt queue s)) out exit r → StartWritten (morphismAt bytes n k) s out exit r
   start-written w =
       let f = found-word order (place .lawful) (place .inside) found in
       record { found = record { word = wordAt queue (placeAt queue s); over = f .over; its-value = f .its-value; short = f .short }; written = w }

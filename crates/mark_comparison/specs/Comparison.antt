@@ -7,7 +7,8 @@ use Rattle.theory.specs.Rules.{Morphism, Lawful, Pairs, AllReached}
 use Rattle.theory.specs.Pairs.{LinkedOnly}
 use Rattle.theory.proofs.ShortWords.{ShortWord}
 use Rattle.mark_search.specs.Search.{MarkingAt}
-use Rattle.promises.specs.Inclusion.{WordWritten, InclusionAnswer}
+use Rattle.formats.specs.Front.{AtFront}
+use Rattle.promises.specs.Inclusion.{InclusionAnswer}
 use Rattle.promises.specs.declared.Inclusion.{Inclusion}
 use Rattle.promises.specs.declared.Inclusion.the-variants.{Included as Is-included, NotIncluded}
 use Rattle.scratch.specs.Map.{secondBase}
@@ -23,7 +24,7 @@ pub record StartNeeds (m : Morphism) (s : ℕ) (out : List ℕ) : Type 0 where
 -- a word of s with no more letters than there are elements stands at the front of the buffer
 pub record StartWritten (m : Morphism) (s : ℕ) (entry exit : List ℕ) (r : ℕ) : Type 0 where
   pub found : ShortWord m s
-  pub written : WordWritten (found .word) entry exit r
+  pub written : AtFront (found .word) entry exit r
 
 -- a lawful table whose elements are all reached, and room, whatever stands behind both tables of marks
 pub record CompareNeeds (m : Morphism) (scratch : List ℕ) : Type 0 where

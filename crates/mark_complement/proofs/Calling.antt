@@ -22,13 +22,14 @@ use Rattle.rule_check.proofs.Left.{short-left, long-left}
 use Rattle.rule_check.proofs.Calls.{called-good, zeros-left, checked-length, shape-morphism}
 use Rattle.formats.specs.ReadBack.{WrittenRule}
 use Rattle.formats.proofs.ReadBack.{written-rule}
+use Rattle.formats.specs.Front.{AtFront}
 use Rattle.scratch.specs.Map.{pairsFrom}
 use Rattle.mark_strong.specs.Deciding.{StrongIf, Decided}
 use Rattle.promises.specs.Weak.{weakCheck}
 use Rattle.mark_strong.proofs.Calling.{checked-table, checked-lawful, checked-reached, checked-linked, marks-stand, checked-room, decided-file}
 use Rattle.promises.specs.Complement.{ComplementMarks, ComplementPromise}
 use Rattle.mark_complement_marks.specs.Complement.{ComplementLaid}
-use Rattle.mark_complement.specs.Promise.{WriteNeeds, secondMarking, TablesWritten}
+use Rattle.mark_complement.specs.Promise.{WriteNeeds, secondMarking, secondFile}
 use Rattle.promises.specs.declared.Complemented.the-variants.{Rule, Refused}
 use Rattle.mark_complement.proofs.Complements.{laid-complement}
 
@@ -95,15 +96,15 @@ module _ (bytes out entry : List ℕ) where
               laid-complement (checked-lawful 1 bytes entry p) (checked-reached 1 bytes entry p) (checked-linked 1 bytes entry p) strong
               (λ s c hs hc. sym (d .closure (pairsOf bytes) (checked-linked 1 bytes entry p) (marks-stand 1 bytes entry p) .same s c hs hc)) l
 
-          written : {exit : List ℕ} {r : ℕ} → TablesWritten m laid out exit r → WrittenRule m (secondMarking laid) out exit r
+          written : {exit : List ℕ} {r : ℕ} → AtFront (secondFile m laid) out exit r → WrittenRule m (secondMarking laid) out exit r
           written w =
               let t = checked-table 1 bytes entry p in
               written-rule m (secondMarking laid)
               (record { some = t .some; small = t .small; letters-some = write-place .letters-some; letters-small = t .letters-small })
-              (checked-lawful 1 bytes entry p) (second-marks .linked) (checked-reached 1 bytes entry p) (w .counts) (w .holds)
+              (checked-lawful 1 bytes entry p) (second-marks .linked) (checked-reached 1 bytes entry p) w
 
           -- its file was written
-          pub complement-written : {exit end : List ℕ} {r : ℕ} → TablesWritten m laid out exit r → end ≡ replicate (length laid) 0
+          pub complement-written : {exit end : List ℕ} {r : ℕ} → AtFront (secondFile m laid) out exit r → end ≡ replicate (length laid) 0
               → ComplementPromise bytes out exit entry end (Rule r)
           complement-written {exit} {end} {r} w z = record {
             refusal = buffer-long long (passed-before _ _ (p .refusal)

@@ -1,8 +1,8 @@
 -- The file that is written with a second table of marks: the rule's own products and images, read where they stand.
 -- Assumes nothing.
 use Prim.Native.Nat.{ℕ, _+_, _*_, _-_, _≤_}
-use mathlib.Core.Path.{_≡_, refl, ap, _∙_}
-use mathlib.Core.List.{List, _++_}
+use mathlib.Core.Path.{_≡_, refl, ap}
+use mathlib.Core.List.{List}
 use native.Mathlib.Omega.{arith}
 use lib.Arith.{digits-lt}
 use lib.Dec.{ltb}
@@ -10,11 +10,13 @@ use lib.ListN.{length, take, drop}
 use Rattle.rule_table.specs.Table.{Table}
 use Rattle.formats.specs.Table.{productAt, imageAt, morphismAt}
 use Rattle.formats.specs.WrittenFile.{fileOf}
-use Rattle.rule_writer.specs.Writing.{tableMorphism, tableMarks, RuleNeeds, RuleWritten}
+use Rattle.rule_writer.specs.Writing.{tableMorphism, tableMarks, RuleNeeds, tableFile}
 use Rattle.formats.proofs.Agree.{Agree}
 use Rattle.formats.proofs.Same.{SameMarks, file-same}
+use Rattle.formats.specs.Front.{AtFront}
+use Rattle.formats.proofs.Front.{front-same}
 use Rattle.scratch.proofs.Parts.{part-length, part-byte}
-use Rattle.mark_complement.specs.Promise.{WriteNeeds, secondMarking, TablesWritten}
+use Rattle.mark_complement.specs.Promise.{WriteNeeds, secondMarking, secondFile}
 
 module _ {rule : List ℕ} {n k : ℕ} (table : Table rule n k) {scratch out : List ℕ} (place : WriteNeeds k scratch out) where
   abbrev products : List ℕ
@@ -67,9 +69,6 @@ module _ {rule : List ℕ} {n k : ℕ} (table : Table rule n k) {scratch out : L
   same-file = file-same agree same-marks
 
   pub tables-written : {exit : List ℕ} {r : ℕ}
-      → RuleWritten (take (length rule - 1) (drop 1 rule)) (take (length rule - (2 + n * n)) (drop (2 + n * n) rule)) (take (length scratch - 4096) (drop 4096 scratch)) n k out exit r
-      → TablesWritten (morphismAt rule n k) scratch out exit r
-  tables-written w = record {
-    holds = w .holds ∙ ap (λ (f : List ℕ). f ++ drop (length f) out) same-file;
-    counts = w .ends ∙ ap length same-file;
-  }
+      → AtFront (tableFile (take (length rule - 1) (drop 1 rule)) (take (length rule - (2 + n * n)) (drop (2 + n * n) rule)) (take (length scratch - 4096) (drop 4096 scratch)) n k) out exit r
+      → AtFront (secondFile (morphismAt rule n k) scratch) out exit r
+  tables-written = front-same same-file

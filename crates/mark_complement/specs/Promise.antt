@@ -1,8 +1,7 @@
 -- What the call for the complement promises. Assumes nothing.
 use Prim.Native.Nat.{ℕ, _+_, _*_, _≤_}
-use mathlib.Core.Path.{_≡_}
-use mathlib.Core.List.{List, _++_}
-use lib.ListN.{length, getD, drop}
+use mathlib.Core.List.{List}
+use lib.ListN.{length, getD}
 use Rattle.theory.specs.Rules.{Morphism, Marking}
 use Rattle.formats.specs.RuleChecks.{ruleSize}
 use Rattle.formats.specs.WrittenFile.{fileOf}
@@ -18,7 +17,6 @@ pub record WriteNeeds (k : ℕ) (scratch out : List ℕ) : Type 0 where
 abbrev pub secondMarking : List ℕ → Marking
 secondMarking scratch s e = getD scratch (secondBase + (s * 64 + e)) 0
 
--- the rule with the marks of the second table was written to the front of the buffer
-pub record TablesWritten (m : Morphism) (scratch entry exit : List ℕ) (r : ℕ) : Type 0 where
-  pub holds : exit ≡ fileOf m (secondMarking scratch) ++ drop (length (fileOf m (secondMarking scratch))) entry
-  pub counts : r ≡ length (fileOf m (secondMarking scratch))
+-- the file of the rule with the marks of the second table
+abbrev pub secondFile : Morphism → List ℕ → List ℕ
+secondFile m scratch = fileOf m (secondMarking scratch)

@@ -12,14 +12,15 @@ use scratch::SECOND_BASE;
 use sections::zero;
 ghost use Rattle.rule_table.specs.Table.{Table};
 ghost use Rattle.formats.specs.Table.{morphismAt};
-ghost use Rattle.mark_complement.specs.Promise.{WriteNeeds, TablesWritten};
+ghost use Rattle.formats.specs.Front.{AtFront};
+ghost use Rattle.mark_complement.specs.Promise.{WriteNeeds, secondFile};
 ghost use Rattle.promises.specs.Complement.{ComplementPromise};
 
 // Writes the rule with the marks of the second table, and answers how many bytes it has.
 fn write_marked(rule: &[u8], n: usize, k: usize, scratch: &[u8], out: &mut [u8]) -> usize
     requires { ⌜ Table (now rule) n k ⌝ }
     requires { ⌜ WriteNeeds k (now scratch) (now out) ⌝ }
-    ensures { λ r. ⌜ TablesWritten (morphismAt (now (rule .entry)) n k) (now (scratch .entry)) (now (out .entry)) (now (out .exit)) r ⌝ }
+    ensures { λ r. ⌜ AtFront (secondFile (morphismAt (now (rule .entry)) n k) (now (scratch .entry))) (now (out .entry)) (now (out .exit)) r ⌝ }
 {
     let table = &rule[1..];
     let images = &rule[2 + n * n..];

@@ -4,7 +4,7 @@ use Prim.Native.Nat.{ℕ, _≤_, _<_}
 use mathlib.Core.Path.{_≡_}
 use mathlib.Core.List.{List, [], _∷_}
 use lib.ListN.{length}
-use Rattle.promises.specs.Inclusion.{WordWritten}
+use Rattle.formats.specs.Front.{AtFront}
 use Rattle.mark_search_list.specs.Queue.{backAt, letterAt, parentAt}
 use Rattle.formats.specs.RuleChecks.{scratchSize}
 
@@ -25,4 +25,4 @@ pub record CycleWritten (n : ℕ) (scratch : List ℕ) (i : ℕ) (entry exit : L
   pub word : List ℕ
   pub spells : Spells n scratch i word
   pub short : length word ≤ i
-  pub written : WordWritten word entry exit r
+  pub written : AtFront word entry exit r

@@ -9,7 +9,7 @@ use lib.Seq.{length-take-le, take-suc, set-at}
 use Rattle.finite.proofs.Shortlex.{snoc, length-snoc}
 use Rattle.rule_reach.proofs.Words.{wordAt}
 use Rattle.mark_spelling.specs.Spelling.{EntryNeeds}
-use Rattle.promises.specs.Inclusion.{WordWritten}
+use Rattle.formats.specs.Front.{AtFront}
 use Rattle.mark_spelling.proofs.Entries.{entry-first, entry-step}
 
 -- the word is its front, of `left` letters, and the rest, which was written behind the room for the front
@@ -57,7 +57,7 @@ module _ {word front entry now : List ℕ} {left : ℕ} (w : RestWritten word fr
       opened l = rw (take-suc entry (length less) 0 l) (append-assoc (take (length less) entry) (getD entry (length less) 0 ∷ []) (w .rest ++ drop (length word) entry))
 
   -- the whole word was written
-  pub rest-all : {letters : ℕ} → front ≡ [] → letters ≡ length word → WordWritten word entry now letters
+  pub rest-all : {letters : ℕ} → front ≡ [] → letters ≡ length word → AtFront word entry now letters
   rest-all e d =
       let z : left ≡ 0 = omega (arith, w .counts, ap length e) in
       let f : word ≡ w .rest = w .whole ∙ ap (λ (l : List ℕ). l ++ w .rest) e in
@@ -100,5 +100,5 @@ module _ {queue : List ℕ} {at place : ℕ} {entry now : List ℕ} {left : ℕ}
       record { here = t .parent-place; rest-written = rest-more (s .rest-written) _ _ (t .spelled) (s .long); long = s .long }
 
   -- all letters were written
-  pub spelling-all : {letters : ℕ} → place ≤ 0 → letters ≡ length (wordAt queue at) → WordWritten (wordAt queue at) entry now letters
+  pub spelling-all : {letters : ℕ} → place ≤ 0 → letters ≡ length (wordAt queue at) → AtFront (wordAt queue at) entry now letters
   spelling-all h e = rest-all (s .rest-written) (entry-first (s .here) (omega arith)) e

@@ -7,7 +7,7 @@ ghost use lib.ListN.{length};
 ghost use Rattle.rule_reach.specs.Reach.{placeAt};
 ghost use Rattle.rule_reach.proofs.Words.{wordAt};
 ghost use Rattle.mark_spelling.specs.Spelling.{EntryNeeds, SpellNeeds};
-ghost use Rattle.promises.specs.Inclusion.{WordWritten};
+ghost use Rattle.formats.specs.Front.{AtFront};
 
 // How many letters the word of an entry has.
 fn count_letters(queue: &[u8], at: usize) -> usize
@@ -29,7 +29,7 @@ fn write_letters(queue: &[u8], at: usize, letters: usize, out: &mut [u8])
     requires { ⌜ EntryNeeds (now queue) at ⌝ }
     requires { ⌜ letters ≡ length (wordAt (now queue) at) ⌝ }
     requires { ⌜ letters ≤ length (now out) ⌝ }
-    ensures { λ r. ⌜ WordWritten (wordAt (now (queue .entry)) at) (now (out .entry)) (now (out .exit)) letters ⌝ }
+    ensures { λ r. ⌜ AtFront (wordAt (now (queue .entry)) at) (now (out .entry)) (now (out .exit)) letters ⌝ }
 {
     let mut place = at;
     let mut left = letters;
@@ -44,7 +44,7 @@ fn write_letters(queue: &[u8], at: usize, letters: usize, out: &mut [u8])
 // Writes the first word of an element to the front of `out`; answers how many letters it has.
 pub fn write_first_word(queue: &[u8], n: usize, s: usize, out: &mut [u8]) -> usize
     requires { ⌜ SpellNeeds (now queue) n s (now out) ⌝ }
-    ensures { λ r. ⌜ WordWritten (wordAt (now (queue .entry)) (placeAt (now (queue .entry)) s)) (now (out .entry)) (now (out .exit)) r ⌝ }
+    ensures { λ r. ⌜ AtFront (wordAt (now (queue .entry)) (placeAt (now (queue .entry)) s)) (now (out .entry)) (now (out .exit)) r ⌝ }
 {
     let at = queue[192 + s] as usize;
     let letters = count_letters(queue, at);

@@ -12,7 +12,8 @@ use Rattle.formats.specs.RuleFile.{morphismOf}
 use Rattle.promises.proofs.OneStrength.{strong-rule-single}
 use Rattle.formats.specs.WrittenFile.{fileOf}
 use Rattle.formats.proofs.Agree.{Agree}
-use Rattle.formats.proofs.Same.{SameMarks, file-same, one-length, one-buffer}
+use Rattle.formats.proofs.Same.{SameMarks, file-same}
+use Rattle.formats.proofs.Front.{one-length, one-buffer}
 use Rattle.promises.specs.declared.Complemented.{Complemented}
 use Rattle.promises.specs.declared.Complemented.the-variants.{Rule, Refused}
 use Rattle.promises.specs.Complement.{complementVerdict, ComplementWritten, ComplementAnswer, ComplementPromise}
@@ -37,7 +38,7 @@ module _ {bytes before after after′ : List ℕ} {r r′ : ℕ} (a : Complement
 module _ (bytes before : List ℕ) {after after′ : List ℕ} where
   same-answer : (a b : Complemented) → ComplementAnswer bytes before after a → ComplementAnswer bytes before after′ b → complementVerdict a ≡ complementVerdict b
       → (a ≡ b) × (after ≡ after′)
-  same-answer (Rule r) (Rule r′) p q e = (ap Rule (one-length (p .written) (q .written) (one-file p q)), one-buffer (p .written) (q .written) (one-file p q))
+  same-answer (Rule r) (Rule r′) p q e = (ap Rule (one-length (p .written .front) (q .written .front) (one-file p q)), one-buffer (p .written .front) (q .written .front) (one-file p q))
   same-answer (Rule r) (Refused k i place) p q e = absurd (not-passed (sym e))
   same-answer (Refused k i place) (Rule r) p q e = absurd (not-passed e)
   same-answer (Refused k i place) (Refused k′ i′ place′) p q e = (same-refusal Refused k k′ i i′ place place′ e, p ∙ sym q)

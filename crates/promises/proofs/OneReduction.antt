@@ -8,7 +8,7 @@ use Rattle.answer.proofs.Verdicts.{same-refusal, not-passed}
 use Rattle.theory.specs.Smallest.{SameLassos}
 use Rattle.promises.proofs.OneStrength.{strong-rule-single}
 use Rattle.formats.specs.WrittenFile.{fileOf}
-use Rattle.formats.proofs.Same.{one-length, one-buffer}
+use Rattle.formats.proofs.Front.{one-length, one-buffer}
 use Rattle.promises.specs.declared.Reduced.{Reduced}
 use Rattle.promises.specs.declared.Reduced.the-variants.{Rule as Is-rule, Refused}
 use Rattle.promises.specs.Reduce.{reducedVerdict, ruleOf, ReducedTo, ReducedAnswer, ReducePromise}
@@ -25,7 +25,7 @@ module _ {bytes before after after′ : List ℕ} {r r′ : ℕ} (a : ReducedTo 
 module _ (bytes before : List ℕ) {after after′ : List ℕ} where
   same-answer : (a b : Reduced) → ReducedAnswer bytes before after a → ReducedAnswer bytes before after′ b → reducedVerdict a ≡ reducedVerdict b
       → (a ≡ b) × (after ≡ after′)
-  same-answer (Is-rule r) (Is-rule r′) p q e = (ap Is-rule (one-length (p .written) (q .written) (same-file p q)), one-buffer (p .written) (q .written) (same-file p q))
+  same-answer (Is-rule r) (Is-rule r′) p q e = (ap Is-rule (one-length (p .written .front) (q .written .front) (same-file p q)), one-buffer (p .written .front) (q .written .front) (same-file p q))
   same-answer (Is-rule r) (Refused k i place) p q e = absurd (not-passed (sym e))
   same-answer (Refused k i place) (Is-rule r) p q e = absurd (not-passed e)
   same-answer (Refused k i place) (Refused k′ i′ place′) p q e = (same-refusal Refused k k′ i i′ place place′ e, p ∙ sym q)

@@ -16,7 +16,7 @@ use Rattle.buchi.proofs.Numberings.{matrices-renumbered}
 use Rattle.formats.proofs.Buffers.{buffer-single}
 use Rattle.formats.proofs.AutomatonVerdict.{read-single}
 use Rattle.formats.specs.WrittenFile.{fileOf}
-use Rattle.formats.proofs.Same.{one-length, one-buffer}
+use Rattle.formats.proofs.Front.{one-length, one-buffer}
 use Rattle.formats.proofs.OneFile.{one-file}
 use Rattle.promises.specs.Automaton.{RuleOf, RuleAnswer, ruleVerdict, translateChecks, RulePromise, TooManyMatricesAt}
 use Rattle.promises.specs.declared.Translated.{Translated}
@@ -67,7 +67,7 @@ module _ {bytes before after after′ : List ℕ} {r r′ : ℕ} (a : RuleOf byt
 module _ (bytes before : List ℕ) {after after′ : List ℕ} where
   same-answer : (a b : Translated) → RuleAnswer bytes before after a → RuleAnswer bytes before after′ b → ruleVerdict a ≡ ruleVerdict b
       → (a ≡ b) × (after ≡ after′)
-  same-answer (Rule r) (Rule r′) p q e = (ap Rule (one-length (p .written) (q .written) (same-file p q)), one-buffer (p .written) (q .written) (same-file p q))
+  same-answer (Rule r) (Rule r′) p q e = (ap Rule (one-length (p .written .front) (q .written .front) (same-file p q)), one-buffer (p .written .front) (q .written .front) (same-file p q))
   same-answer (Rule r) (Refused k i place) p q e = absurd (not-passed (sym e))
   same-answer (Refused k i place) (Rule r) p q e = absurd (not-passed e)
   same-answer (Refused k i place) (Refused k′ i′ place′) p q e = (same-refusal Refused k k′ i i′ place place′ e, p ∙ sym q)

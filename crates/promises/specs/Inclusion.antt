@@ -2,7 +2,7 @@
 use Prim.Native.Nat.{ℕ}
 use mathlib.Core.Path.{_≡_}
 use mathlib.Core.List.{List, _++_, _∷_}
-use lib.ListN.{length, drop}
+use lib.ListN.{length}
 use mathlib.Core.Bool.{cond}
 use lib.Dec.{ltb}
 use Rattle.theory.specs.Rules.{Morphism, Pairs, marked}
@@ -10,14 +10,10 @@ use Rattle.theory.specs.Inclusion.{Included, Witness}
 use Rattle.promises.specs.declared.Inclusion.{Inclusion}
 use Rattle.promises.specs.declared.Inclusion.the-variants.{Included as Is-included, NotIncluded, Refused}
 use Rattle.answer.specs.Checks.{Check, Verdict, passed, refused, FirstFailure}
+use Rattle.formats.specs.Front.{AtFront}
 use Rattle.formats.specs.RuleFile.{morphismOf, pairsOf, marksIn}
 use Rattle.formats.specs.RuleChecks.{bufferCheck, secondMarksChecks}
 use Rattle.formats.specs.Calls.{checkedChecks, scratchLeft}
-
--- a word stands at the front of a buffer, the rest is as it was, and r is the number of its letters
-pub record WordWritten (word entry exit : List ℕ) (r : ℕ) : Type 0 where
-  pub holds : exit ≡ word ++ drop (length word) entry
-  pub counts : r ≡ length word
 
 -- "Otherwise u of at most n letters and v of at most (n+1)·(n+1) − 1 letters, accepted under the first and not under the second",
 -- at the front of their buffers
@@ -25,8 +21,8 @@ pub record Apart (m : Morphism) (P P′ : Pairs) (u-entry u-exit v-entry v-exit 
   pub start : List ℕ
   pub cycle : List ℕ
   pub witness : Witness m P P′ start cycle
-  pub start-written : WordWritten start u-entry u-exit u
-  pub cycle-written : WordWritten cycle v-entry v-exit v
+  pub start-written : AtFront start u-entry u-exit u
+  pub cycle-written : AtFront cycle v-entry v-exit v
 
 -- "Yes exactly if each lasso accepted under the first marking is accepted under the second"; then both buffers keep every byte
 pub record Within (m : Morphism) (P P′ : Pairs) (u-entry u-exit v-entry v-exit : List ℕ) : Type 0 where

@@ -28,10 +28,11 @@ use Rattle.formats.proofs.Agree.{Agree}
 use Rattle.formats.proofs.Same.{SameMarks, file-same}
 use Rattle.formats.proofs.ReadBack.{written-rule}
 use Rattle.formats.specs.ReadBack.{WrittenRule}
-use Rattle.rule_laid.specs.Laid.{FileWritten}
+use Rattle.formats.specs.WrittenFile.{fileOf}
+use Rattle.formats.specs.Front.{AtFront}
 use Rattle.reduce_rule.specs.Steps.{QuotientNeeds, QuotientWritten, ReduceNeeds, ReducedWritten}
 use Rattle.reduce_call.proofs.Order.{quotient-by-first-words}
-use Rattle.rule_laid.proofs.Laid.{written-same}
+use Rattle.formats.proofs.Front.{front-same}
 
 -- from the blocks of the last round to the file
 module _ {m : Morphism} {entry settled numbered out : List ℕ} {i c : ℕ} (small : m .size ≤ 64)
@@ -99,10 +100,10 @@ module _ {m : Morphism} (law : Lawful m) {f g : ℕ → ℕ → ℕ} (agree : (s
   carried-marks b = record { same = λ i j hi hj. ap (λ (x : ℕ). ltb 0 (saturated (quotient b) (λ (u v : ℕ). x) i j)) (carried-acc b i j hi hj) }
 
   pub carried-written : {c : ℕ} (b : Numbering m f c) {before after : List ℕ} {end : ℕ}
-      → FileWritten (quotient b) (saturated (quotient b) (quotient-acc b)) before after end
-      → FileWritten (quotient (numbering-carry b)) (saturated (quotient (numbering-carry b)) (quotient-acc (numbering-carry b))) before after end
+      → AtFront (fileOf (quotient b) (saturated (quotient b) (quotient-acc b))) before after end
+      → AtFront (fileOf (quotient (numbering-carry b)) (saturated (quotient (numbering-carry b)) (quotient-acc (numbering-carry b)))) before after end
   unfolding numbering-carry quotient
-  carried-written b w = written-same (file-same (carried-agree b) (carried-marks b)) w
+  carried-written b w = front-same (file-same (carried-agree b) (carried-marks b)) w
 
   -- so the first words are the same
   pub carried-order : {c : ℕ} (b : Numbering m f c) → ByFirstWords (quotient b) → ByFirstWords (quotient (numbering-carry b))
@@ -143,5 +144,5 @@ module _ (r : Rule) (small : r .morphism .size ≤ 64) (letters-some : 1 ≤ r .
     written =
         let f = carried-written (r .lawful) outcomes-agree (w .numbering) (w .written) in
         written-rule (quotient by-acceptance) _ fits (quotient-lawful (r .lawful) by-acceptance)
-        (reduced-linked r reached linked strong by-acceptance) (quotient-reached (r .lawful) by-acceptance reached) (f .ends) (f .holds);
+        (reduced-linked r reached linked strong by-acceptance) (quotient-reached (r .lawful) by-acceptance reached) f;
   }

@@ -10,7 +10,8 @@ use Rattle.minimality.proofs.Saturation.{saturated}
 use Rattle.reduce_first_round.specs.Map.{outcomeOf, outcomeAt}
 use Rattle.reduce_numbering.specs.Numbering.{NumberedAs}
 use Rattle.reduce_table.specs.Layout.{BlocksNeeds}
-use Rattle.rule_laid.specs.Laid.{FileWritten}
+use Rattle.formats.specs.WrittenFile.{fileOf}
+use Rattle.formats.specs.Front.{AtFront}
 use Rattle.formats.specs.RuleChecks.{ruleSize, scratchSize}
 
 -- c blocks whose leaders are elements, and room
@@ -25,7 +26,7 @@ pub record QuotientWritten (m : Morphism) (c : ℕ) (entry exit before after : L
   pub same-length : length exit ≡ length entry
   pub written : (acc : ℕ → ℕ → ℕ) (b : NumberedAs m acc c entry)
       → ((s z : ℕ) → s < m .size → z < m .size → outcomeAt entry s z ≡ acc s z)
-      → FileWritten (quotient (b .numbering)) (saturated (quotient (b .numbering)) (quotient-acc (b .numbering))) before after end
+      → AtFront (fileOf (quotient (b .numbering)) (saturated (quotient (b .numbering)) (quotient-acc (b .numbering)))) before after end
 
 -- a lawful table whose elements are all reached, and room
 pub record ReduceNeeds (m : Morphism) (scratch out : List ℕ) : Type 0 where
@@ -43,4 +44,4 @@ pub record ReducedWritten (m : Morphism) (entry exit before after : List ℕ) (e
   pub few : count ≤ m .size
   pub numbering : Numbering m (outcomeOf m entry) count
   pub in-order : ByFirstWords (quotient numbering)
-  pub written : FileWritten (quotient numbering) (saturated (quotient numbering) (quotient-acc numbering)) before after end
+  pub written : AtFront (fileOf (quotient numbering) (saturated (quotient numbering) (quotient-acc numbering))) before after end

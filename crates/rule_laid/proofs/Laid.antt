@@ -1,7 +1,7 @@
 -- What stands in parts of scratch is written as the file of every rule that it agrees with. Assumes nothing.
 use Prim.Native.Nat.{ℕ, _+_, _*_, _-_, _<_}
 use mathlib.Core.Path.{_≡_, sym, ap, subst, _∙_}
-use mathlib.Core.List.{List, _++_}
+use mathlib.Core.List.{List}
 use native.Mathlib.Omega.{arith}
 use native.Mathlib.Nat.{mul-le-mul}
 use lib.Dec.{ltb}
@@ -10,19 +10,12 @@ use lib.Seq.{getD-drop}
 use Rattle.theory.specs.Rules.{Morphism, Marking}
 use Rattle.formats.proofs.SectionList.{rest-of}
 use Rattle.scratch.specs.Map.{laidProductsBase, laidMarksBase}
-use Rattle.formats.specs.WrittenFile.{fileOf}
-use Rattle.rule_writer.specs.Writing.{tableMorphism, tableMarks, RuleNeeds, RuleWritten}
+use Rattle.rule_writer.specs.Writing.{tableMorphism, tableMarks, RuleNeeds, tableFile}
 use Rattle.formats.proofs.Agree.{Agree}
 use Rattle.formats.proofs.Same.{SameMarks, file-same}
-use Rattle.rule_laid.specs.Laid.{LaidNeeds, LaidAs, FileWritten, LaidWritten}
-
--- rules that are written alike
-pub written-same : {m m′ : Morphism} {marks marks′ : Marking} {before after : List ℕ} {end : ℕ} → fileOf m′ marks′ ≡ fileOf m marks
-    → FileWritten m′ marks′ before after end → FileWritten m marks before after end
-written-same {before = before} e w = record {
-  ends = w .ends ∙ ap length e;
-  holds = w .holds ∙ ap (λ (l : List ℕ). l ++ drop (length l) before) e;
-}
+use Rattle.formats.specs.Front.{AtFront}
+use Rattle.formats.proofs.Front.{front-same}
+use Rattle.rule_laid.specs.Laid.{LaidNeeds, LaidAs, LaidWritten}
 
 -- a byte of a part of scratch
 part-byte : (scratch : List ℕ) (at i : ℕ) → getD (take (length scratch - at) (drop at scratch)) i 0 ≡ getD scratch (at + i) 0
@@ -51,10 +44,10 @@ module _ {images count k : ℕ} {scratch out : List ℕ} (p : LaidNeeds images c
 
 -- what was written is the file of every rule that the tables agree with
 pub laid-written : {images count k : ℕ} {scratch before after : List ℕ} {end : ℕ}
-    → RuleWritten (part scratch laidProductsBase) (part scratch images) (part scratch laidMarksBase) count k before after end → LaidWritten images count k scratch before after end
+    → AtFront (tableFile (part scratch laidProductsBase) (part scratch images) (part scratch laidMarksBase) count k) before after end → LaidWritten images count k scratch before after end
 unfolding tableMarks
 laid-written {images} {count} {k} {scratch} {before} {after} {end} w = record {
-  written = λ m marks l. written-same (file-same (agree m marks l) (marked m marks l)) (record { ends = w .ends; holds = w .holds });
+  written = λ m marks l. front-same (file-same (agree m marks l) (marked m marks l)) w;
 }
   where
     agree : (m : Morphism) (marks : Marking) → LaidAs m marks images count k scratch → Agree m (tableMorphism (part scratch laidProductsBase) (part scratch images) count k)

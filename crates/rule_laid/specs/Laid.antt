@@ -1,12 +1,13 @@
 -- A rule laid out in scratch, and the file that it is written as. Assumes nothing.
 use Prim.Native.Nat.{ℕ, _+_, _*_, _≤_, _<_}
 use mathlib.Core.Path.{_≡_}
-use mathlib.Core.List.{List, _++_}
-use lib.ListN.{length, getD, drop}
+use mathlib.Core.List.{List}
+use lib.ListN.{length, getD}
 use lib.Dec.{ltb}
 use Rattle.theory.specs.Rules.{Morphism, Marking}
 use Rattle.formats.specs.RuleChecks.{ruleSize, scratchSize}
 use Rattle.formats.specs.WrittenFile.{fileOf}
+use Rattle.formats.specs.Front.{AtFront}
 use Rattle.scratch.specs.Map.{laidProductsBase, laidMarksBase}
 
 -- tables of so many elements and letters within the limits of the format, the letters' elements before the marks, and room for the longest
@@ -28,11 +29,6 @@ pub record LaidAs (m : Morphism) (marks : Marking) (images count k : ℕ) (scrat
   pub elements : (a : ℕ) → a < k → getD scratch (images + a) 0 ≡ m .image a
   pub marked : (i j : ℕ) → i < count → j < count → ltb 0 (getD scratch (laidMarksBase + (i * 64 + j)) 0) ≡ ltb 0 (marks i j)
 
--- the rule's file stands at the front of the buffer, and `end` is its length; "bytes past the result keep what they had"
-pub record FileWritten (m : Morphism) (marks : Marking) (before after : List ℕ) (end : ℕ) : Type 0 where
-  pub ends : end ≡ length (fileOf m marks)
-  pub holds : after ≡ fileOf m marks ++ drop (length (fileOf m marks)) before
-
--- the rule of the tables was written
+-- the rule of the tables was written; "bytes past the result keep what they had"
 pub record LaidWritten (images count k : ℕ) (scratch before after : List ℕ) (end : ℕ) : Type 0 where
-  pub written : (m : Morphism) (marks : Marking) → LaidAs m marks images count k scratch → FileWritten m marks before after end
+  pub written : (m : Morphism) (marks : Marking) → LaidAs m marks images count k scratch → AtFront (fileOf m marks) before after end

@@ -1,16 +1,17 @@
 -- From the parts of a file to the whole: a count before its entries, the marks' count before the pairs, and the three sections
 -- of a rule one after the other. Assumes nothing.
 use Prim.Native.Nat.{ℕ, _+_, _*_, _-_, _/_, _%_, _≤_}
-use mathlib.Core.Path.{_≡_, refl, sym, ap, _∙_}
+use mathlib.Core.Path.{_≡_, refl, ap, _∙_}
 use mathlib.Core.List.{List, _∷_, _++_}
 use native.Mathlib.Omega.{arith}
 use native.Mathlib.Nat.{zero-add, mul-le-mul, div-add-mod'}
 use lib.ListN.{length, getD, take, drop, set, length-set, length-append}
-use lib.Seq.{length-take-le, take-at}
+use lib.Seq.{length-take-le}
 use Rattle.theory.specs.Rules.{Morphism}
 use Rattle.formats.specs.RuleChecks.{ruleSize}
 use Rattle.formats.specs.WrittenFile.{elementsBytes, lettersBytes, marksBytes, fileOf}
-use Rattle.rule_writer.specs.Writing.{placed, Written, tableMorphism, tableMarks, CopyNeeds, CountedNeeds, PairsNeeds, MarksNeeds, MarksWritten, RuleNeeds, RuleWritten}
+use Rattle.formats.specs.Front.{AtFront}
+use Rattle.rule_writer.specs.Writing.{placed, Written, tableMorphism, tableMarks, CopyNeeds, CountedNeeds, PairsNeeds, MarksNeeds, MarksWritten, RuleNeeds, tableFile}
 use Rattle.formats.proofs.Rows.{pairsFrom, section-is}
 use Rattle.formats.proofs.Tabulated.{tabulate-take}
 use Rattle.rule_writer.proofs.Placed.{written-store, written-length, written-more, written-front}
@@ -113,11 +114,11 @@ module _ {table images marks : List ℕ} {n k : ℕ} {before : List ℕ} (p : Ru
       }
 
       -- the whole file
-      pub rule-written : {after : List ℕ} {end : ℕ} → MarksWritten marks n then marks-at after end → RuleWritten table images marks n k before after end
+      pub rule-written : {after : List ℕ} {end : ℕ} → MarksWritten marks n then marks-at after end → AtFront (tableFile table images marks n k) before after end
       unfolding fileOf placed
       rule-written {after} {end} u = record {
-        ends = whole .ends ∙ zero-add _;
         holds = whole .holds ∙ ap (λ (i : ℕ). file ++ drop i before) (zero-add (length file));
+        counts = whole .ends ∙ zero-add _;
       }
         where
           m : Morphism
@@ -140,9 +141,3 @@ module _ {table images marks : List ℕ} {n k : ℕ} {before : List ℕ} (p : Ru
               let v′ : Written now letters-at (lettersBytes m) then marks-at = rw letters-is v in
               three-parts w′ v′ (u .section m refl)
               (omega (arith, p .room, short, length-append (elementsBytes m) rest, length-append (lettersBytes m) (marksBytes m (tableMarks marks))))
-
--- the front of the buffer is the file
-pub rule-front : {table images marks before after : List ℕ} {n k end : ℕ} → RuleWritten table images marks n k before after end
-    → take end after ≡ fileOf (tableMorphism table images n k) (tableMarks marks)
-rule-front {table} {images} {marks} {n = n} {k = k} {end = end} w =
-    ap (take end) (w .holds) ∙ take-at (fileOf (tableMorphism table images n k) (tableMarks marks)) _ end (sym (w .ends))

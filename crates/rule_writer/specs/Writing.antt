@@ -88,8 +88,6 @@ pub record RuleNeeds (table images marks : List ℕ) (n k : ℕ) (out : List ℕ
   pub marks-long : 4096 ≤ length marks
   pub room : ruleSize ≤ length out
 
--- the rule of the tables was written to the front of the buffer, `end` bytes long
-pub record RuleWritten (table images marks : List ℕ) (n k : ℕ) (before after : List ℕ) (end : ℕ) : Type 0 where
-  pub ends : end ≡ length (fileOf (tableMorphism table images n k) (tableMarks marks))
-  pub holds : after ≡ fileOf (tableMorphism table images n k) (tableMarks marks)
-      ++ drop (length (fileOf (tableMorphism table images n k) (tableMarks marks))) before
+-- the file of the rule of the tables
+abbrev pub tableFile : List ℕ → List ℕ → List ℕ → ℕ → ℕ → List ℕ
+tableFile table images marks n k = fileOf (tableMorphism table images n k) (tableMarks marks)

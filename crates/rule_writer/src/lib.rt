@@ -4,7 +4,8 @@
 ghost use mathlib.Core.List.{_∷_};
 ghost use lib.ListN.{take};
 ghost use Prim.Native.Nat.{_*_};
-ghost use Rattle.rule_writer.specs.Writing.{Written, CopyNeeds, CountedNeeds, PairNeeds, RowNeeds, PairsNeeds, MarksNeeds, MarksWritten, RuleNeeds, RuleWritten, tableMarks, pairIfMarked};
+ghost use Rattle.formats.specs.Front.{AtFront};
+ghost use Rattle.rule_writer.specs.Writing.{Written, CopyNeeds, CountedNeeds, PairNeeds, RowNeeds, PairsNeeds, MarksNeeds, MarksWritten, RuleNeeds, tableFile, tableMarks, pairIfMarked};
 ghost use Rattle.formats.proofs.Rows.{pairsFrom};
 
 // Copies the first `count` bytes of a slice.
@@ -90,7 +91,7 @@ pub fn write_rule(
     out: &mut [u8],
 ) -> usize
     requires { ⌜ RuleNeeds (now table) (now images) (now marks) n k (now out) ⌝ }
-    ensures { λ r. ⌜ RuleWritten (now (table .entry)) (now (images .entry)) (now (marks .entry)) n k (now (out .entry)) (now (out .exit)) r ⌝ }
+    ensures { λ r. ⌜ AtFront (tableFile (now (table .entry)) (now (images .entry)) (now (marks .entry)) n k) (now (out .entry)) (now (out .exit)) r ⌝ }
 {
     let letters_at = write_counted(table, n, n * n, out, 0);
     let marks_at = write_counted(images, k, k, out, letters_at);

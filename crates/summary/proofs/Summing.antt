@@ -92,7 +92,7 @@ module _ {bytes work entry : List ℕ} (p : CheckedNeeds bytes work entry) where
             lawful = r .lawful;
             rule = r .reduced;
             reduction = r .reduction;
-            size = ap (λ (l : List ℕ). getD l 0 0) (r .written .holds);
+            size = ap (λ (l : List ℕ). getD l 0 0) (r .written .front .holds);
           };
           scratch = reduction-left;
         }
