@@ -23,7 +23,8 @@ use Rattle.automaton_sections.specs.declared.Layout.{Layout}
 use Rattle.automaton_sections.specs.declared.Layout.the-variants.{Read, Refused as Layout-refused}
 use Rattle.automaton_file.specs.declared.AutomatonRead.the-variants.{Automaton, Refused}
 use Rattle.automaton_sections.specs.Sections.{LayoutAnswer, LayoutPassed}
-use Rattle.automaton_file.specs.Answers.{transitionTableSize, BlankRoom, LaidAnswer, TransitionsLaid, ReadPromise}
+use Rattle.scratch.specs.Map.{transitionTableSize}
+use Rattle.automaton_file.specs.Answers.{BlankRoom, LaidAnswer, TransitionsLaid, ReadPromise}
 
 -- a short scratch is left as it came
 pub short-scratch : (input : ℕ) (bytes scratch : List ℕ) → length scratch < scratchSize → ReadPromise input bytes scratch scratch (Refused BufferTooShort 1 0)

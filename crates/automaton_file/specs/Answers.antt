@@ -9,6 +9,7 @@ use Rattle.formats.specs.RuleFile.{oneIf}
 use Rattle.rule_marks.specs.declared.Fault.{Fault}
 use Rattle.rule_marks.specs.declared.Fault.the-variants.{Nothing, Refused as Fault-refused}
 use Rattle.formats.specs.Calls.{afterCall}
+use Rattle.scratch.specs.Map.{transitionTableSize}
 use Rattle.formats.specs.AutomatonFile.{statesOf, lettersOf, transitionsAt, transitionsOf, fromOf, letterOf, toOf, hasTransition}
 use Rattle.formats.specs.AutomatonChecks.{readChecks}
 use Rattle.formats.proofs.GoodAutomaton.{GoodSections}
@@ -30,11 +31,7 @@ pub record TransitionsNeeds (bytes : List ℕ) (at count : ℕ) : Type 0 where
   pub is-place : at ≡ transitionsAt bytes
   pub is-count : count ≡ transitionsOf bytes
 
--- the bytes that the transitions take: one for each triple of up to 6 states and 16 letters
-abbrev pub transitionTableSize : ℕ
-transitionTableSize = 576
-
--- room for them, all of them 0
+-- room for the transitions, all bytes 0
 pub record BlankRoom (table : List ℕ) : Type 0 where
   pub room : transitionTableSize ≤ length table
   pub blank : (i : ℕ) → i < transitionTableSize → getD table i 0 ≡ 0

@@ -4,8 +4,10 @@ use answer::Refusal;
 use automaton_sections::Counts;
 use automaton_sections::Layout;
 use automaton_sections::read_layout;
+use formats::SCRATCH_SIZE;
 use rule_check::rest_after;
 use rule_marks::Fault;
+use scratch::TRANSITION_TABLE_SIZE;
 use sections::zero;
 use sections::zero_part;
 ghost use mathlib.Core.Path.{_≡_};
@@ -90,14 +92,14 @@ pub enum AutomatonRead {
 pub fn read_automaton(bytes: &[u8], input: usize, scratch: &mut [u8]) -> AutomatonRead
     ensures { λ r. ⌜ ReadPromise input (now (bytes .entry)) (now (scratch .entry)) (now (scratch .exit)) r ⌝ }
 {
-    if scratch.len() < 65536 {
+    if scratch.len() < SCRATCH_SIZE {
         return AutomatonRead::Refused {
             refusal: Refusal::BufferTooShort,
             input: 1,
             place: 0,
         };
     }
-    zero_part(scratch, 0, 576);
+    zero_part(scratch, 0, TRANSITION_TABLE_SIZE);
     let counts = match read_layout(bytes) {
         Layout::Read(counts) => counts,
         Layout::Refused { refusal, place } => {

@@ -10,6 +10,7 @@ use Rattle.buchi.specs.Automata.{Automaton}
 use Rattle.buchi.specs.Matrices.{Matrix, SameEntries}
 use Rattle.buchi.proofs.WordMatrices.{letter-matrix}
 use Rattle.automaton_products.specs.Arrays.{entryIn, MatrixShape}
+use Rattle.scratch.specs.Map.{transitionTableSize}
 
 -- "a byte for each (0 plain, 1 initial, 2 final, 3 both)": 1 and 3 are initial
 unfoldable pub initialAt : List ℕ → ℕ → Bool
@@ -28,7 +29,7 @@ pub record MarkingAt (automaton : Automaton) (kinds steps : List ℕ) : Type 0 w
   pub few-states : automaton .states ≤ 6
   pub few-letters : automaton .letters ≤ 16
   pub kinds-long : automaton .states ≤ length kinds
-  pub steps-long : 576 ≤ length steps
+  pub steps-long : transitionTableSize ≤ length steps
   pub initials : (p : ℕ) → p < automaton .states → automaton .initial p ≡ initialAt kinds p
   pub finals : (p : ℕ) → p < automaton .states → automaton .final p ≡ finalAt kinds p
   pub transitions : (p x q : ℕ) → p < automaton .states → x < automaton .letters → q < automaton .states → automaton .step p x q ≡ stepAt steps p x q
@@ -42,7 +43,7 @@ pub record LetterNeeds (kinds : List ℕ) (n : ℕ) (steps : List ℕ) (x : ℕ)
   pub few-states : n ≤ 6
   pub letter-small : x < 16
   pub kinds-long : n ≤ length kinds
-  pub steps-long : 576 ≤ length steps
+  pub steps-long : transitionTableSize ≤ length steps
 
 -- and those of one entry of it
 pub record EntryNeeds (kinds steps : List ℕ) (x p q : ℕ) : Type 0 where
@@ -51,7 +52,7 @@ pub record EntryNeeds (kinds steps : List ℕ) (x p q : ℕ) : Type 0 where
   pub letter-small : x < 16
   pub from-there : p < length kinds
   pub to-there : q < length kinds
-  pub steps-long : 576 ≤ length steps
+  pub steps-long : transitionTableSize ≤ length steps
 
 -- an entry of the matrix of a letter
 unfoldable pub letterEntry : List ℕ → List ℕ → ℕ → Matrix

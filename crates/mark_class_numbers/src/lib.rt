@@ -1,5 +1,6 @@
 // The numbers of the classes while they are worked out, two bytes for each pair in the lent result: they begin with the pairs' own
 // numbers and are lowered by each pair of factors x, y.
+use promises::NO_CLASS;
 use rule_marks::linked;
 use rule_table::product;
 ghost use Prim.Native.Nat.{_+_, _*_, _≤_, _<_};
@@ -37,7 +38,7 @@ pub fn first_number(rule: &[u8], n: usize, k: usize, s: usize, e: usize) -> usiz
     ensures { λ r. ⌜ Numbered (morphismAt (now (rule .entry)) n k) 0 s e r ⌝ }
 {
     if !linked(rule, n, k, s, e) {
-        return 65535;
+        return NO_CLASS;
     }
     s * n + e
 }

@@ -5,7 +5,9 @@ use answer::Refusal;
 use mark_class_numbers::begin;
 use mark_class_numbers::load;
 use mark_class_numbers::lower_row;
+use promises::CLASSES_SIZE;
 use promises::Listed;
+use promises::NO_CLASS;
 use rule_check::Checked;
 use rule_check::check;
 use rule_marks::linked;
@@ -15,14 +17,14 @@ ghost use lib.ListN.{length};
 ghost use Rattle.theory.specs.Rules.{Lawful};
 ghost use Rattle.rule_table.specs.Table.{Table};
 ghost use Rattle.formats.specs.Table.{morphismAt};
-ghost use Rattle.promises.specs.Classes.{ClassesWritten, ListPromise};
+ghost use Rattle.promises.specs.Classes.{classesSize, ClassesWritten, ListPromise};
 ghost use Rattle.mark_class_numbers.specs.Cells.{CellCounts};
 
 // Writes the class of every pair: once all x and y were tried, each number is the least of a conjugate.
 pub fn write_classes(rule: &[u8], n: usize, k: usize, out: &mut [u8])
     requires { ⌜ Table (now rule) n k ⌝ }
     requires { ⌜ Lawful (morphismAt (now rule) n k) ⌝ }
-    requires { ⌜ 8192 ≤ length (now out) ⌝ }
+    requires { ⌜ classesSize ≤ length (now out) ⌝ }
     ensures { λ r. ⌜ ClassesWritten (morphismAt (now (rule .entry)) n k) (now (out .entry)) (now (out .exit)) ⌝ }
 {
     begin(rule, n, k, out);
@@ -37,7 +39,7 @@ pub struct ClassNumbers {
     pub classes: usize,
 }
 
-// Counts the numbers that are not 65,535, and those that are their own pair's.
+// Counts the numbers of pairs that have a class, and those that are their own pair's.
 fn count(out: &[u8], pairs: usize) -> ClassNumbers
     requires { ⌜ (pairs ≤ 4096) × (2 * pairs ≤ length (now out)) ⌝ }
     ensures { λ r. ⌜ CellCounts (now (out .entry)) pairs (r .linked) (r .classes) ⌝ }
@@ -46,7 +48,7 @@ fn count(out: &[u8], pairs: usize) -> ClassNumbers
     let mut classes = 0;
     for i in 0..pairs {
         let number = load(out, 2 * i);
-        if number != 65535 {
+        if number != NO_CLASS {
             linked += 1;
             if number == i {
                 classes += 1;
@@ -60,7 +62,7 @@ fn count(out: &[u8], pairs: usize) -> ClassNumbers
 pub fn list_classes(rule: &[u8], out: &mut [u8], scratch: &mut [u8]) -> Listed
     ensures { λ r. ⌜ ListPromise (now (rule .entry)) (now (out .entry)) (now (out .exit)) (now (scratch .entry)) (now (scratch .exit)) r ⌝ }
 {
-    if out.len() < 8192 {
+    if out.len() < CLASSES_SIZE {
         return Listed::Refused {
             refusal: Refusal::BufferTooShort,
             input: 1,

@@ -8,11 +8,11 @@ use lib.ListN.{length, getD}
 use Rattle.finite.proofs.Count.{bit}
 use Rattle.theory.specs.Rules.{Morphism, Marking, Pairs}
 use Rattle.theory.proofs.BestConjugates.{Ranking, Better, BestSoFar, ColumnBettered}
-use Rattle.scratch.specs.Map.{pairsFrom}
+use Rattle.scratch.specs.Map.{secondBase, tablesEnd, pairsFrom}
 
 -- the byte of (s, e) in the second table
 abbrev pub place : ℕ → ℕ → ℕ
-place s e = 4096 + (s * 64 + e)
+place s e = secondBase + (s * 64 + e)
 
 -- every byte but those of pairs of elements in the second table is as it was
 pub record Kept (n : ℕ) (entry exit : List ℕ) : Type 0 where
@@ -38,7 +38,7 @@ anyMark = record {
 
 -- the second table has the pairs that the factors tried so far take to a pair of the first
 pub record ClosedSoFar (m : Morphism) (count : ℕ) (bytes : List ℕ) : Type 0 where
-  pub room : 8192 ≤ length bytes
+  pub room : tablesEnd ≤ length bytes
   pub pairs : BestSoFar m anyMark (markBit (pairsFrom bytes 0)) count (secondTable bytes)
 
 -- the second table after factors were tried, and nothing else changed
@@ -58,13 +58,13 @@ pub record ColumnClosed (m : Morphism) (x e f rows : ℕ) (entry exit : List ℕ
 
 -- of the first bytes of the second table, each that is not 0 has its fellow in the first table not 0
 pub record SecondInFirst (bytes : List ℕ) (count : ℕ) : Type 0 where
-  pub both : (i : ℕ) → i < count → 0 < getD bytes (4096 + i) 0 → 0 < getD bytes i 0
+  pub both : (i : ℕ) → i < count → 0 < getD bytes (secondBase + i) 0 → 0 < getD bytes i 0
 
 -- one that is not 0, whose fellow is 0
 pub record SecondOnly (bytes : List ℕ) (count : ℕ) : Type 0 where
   pub at : ℕ
   pub below : at < count
-  pub second : 0 < getD bytes (4096 + at) 0
+  pub second : 0 < getD bytes (secondBase + at) 0
   pub not-first : getD bytes at 0 ≡ 0
 
 -- whether the first bytes of the second table are 0 wherever those of the first are

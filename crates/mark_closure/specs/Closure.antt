@@ -8,22 +8,22 @@ use lib.Dec.{T}
 use Rattle.theory.specs.Rules.{Morphism, Pairs}
 use Rattle.theory.specs.Pairs.{LinkedOnly}
 use Rattle.theory.proofs.Closure.{closure-test}
-use Rattle.scratch.specs.Map.{pairsFrom}
+use Rattle.scratch.specs.Map.{secondBase, tablesEnd, pairsFrom}
 
 -- the marks of a rule in the first table, and a second table with no marks yet
 pub record ClosureRoom (m : Morphism) (scratch : List ℕ) : Type 0 where
-  pub room : 8192 ≤ length scratch
-  pub blank : (i : ℕ) → 4096 ≤ i → i < 8192 → getD scratch i 0 ≡ 0
+  pub room : tablesEnd ≤ length scratch
+  pub blank : (i : ℕ) → secondBase ≤ i → i < tablesEnd → getD scratch i 0 ≡ 0
   pub linked : LinkedOnly m (pairsFrom scratch 0)
 
 -- the second table has the closure of the first; no byte has changed but those of pairs of elements there
 pub record ClosureLaid (m : Morphism) (entry exit : List ℕ) : Type 0 where
   pub same-length : length exit ≡ length entry
-  pub closure : (s e : ℕ) → s < m .size → e < m .size → pairsFrom exit 4096 s e ≡ closure-test m (pairsFrom entry 0) s e
-  pub bits : (i : ℕ) → 4096 ≤ i → i < 8192 → getD exit i 0 ≤ 1
-  pub before : (i : ℕ) → i < 4096 → getD exit i 0 ≡ getD entry i 0
-  pub after : (i : ℕ) → 8192 ≤ i → getD exit i 0 ≡ getD entry i 0
-  pub between : (i : ℕ) → ((s e : ℕ) → s < m .size → e < m .size → i ≡ 4096 + (s * 64 + e) → ⊥) → getD exit i 0 ≡ getD entry i 0
+  pub closure : (s e : ℕ) → s < m .size → e < m .size → pairsFrom exit secondBase s e ≡ closure-test m (pairsFrom entry 0) s e
+  pub bits : (i : ℕ) → secondBase ≤ i → i < tablesEnd → getD exit i 0 ≤ 1
+  pub before : (i : ℕ) → i < secondBase → getD exit i 0 ≡ getD entry i 0
+  pub after : (i : ℕ) → tablesEnd ≤ i → getD exit i 0 ≡ getD entry i 0
+  pub between : (i : ℕ) → ((s e : ℕ) → s < m .size → e < m .size → i ≡ secondBase + (s * 64 + e) → ⊥) → getD exit i 0 ≡ getD entry i 0
 
 -- each pair of the closure is marked
 pub record ClosedMarks (m : Morphism) (P : Pairs) : Type 0 where

@@ -1,12 +1,13 @@
 // The closure of a rule's marks under conjugacy, laid out in scratch as a second table of marks behind the first. One pass over
 // the factors x, y finds it: x·y = e and y·x = f make (s, e) conjugate to (s·x, f) for each s with s·e = s.
 use rule_table::product;
+use scratch::SECOND_BASE;
 ghost use Prim.Native.Nat.{_+_, _*_, _≤_, _<_};
 ghost use lib.ListN.{length, getD};
 ghost use Rattle.theory.specs.Rules.{Lawful};
 ghost use Rattle.rule_table.specs.Table.{Table};
 ghost use Rattle.formats.specs.Table.{morphismAt};
-ghost use Rattle.scratch.specs.Map.{pairsFrom};
+ghost use Rattle.scratch.specs.Map.{markTableSize, tablesEnd, pairsFrom};
 ghost use Rattle.mark_closure.specs.Closure.{ClosureRoom, ClosureAnswer};
 ghost use Rattle.mark_closure.specs.Closing.{place, ClosedSoFar, Advanced, ByteAfter, ColumnClosed, WithinAnswer};
 
@@ -22,11 +23,11 @@ fn byte_after(
     s: usize,
 ) -> u8
     requires { ⌜ Table (now rule) n k ⌝ }
-    requires { ⌜ 8192 ≤ length (now scratch) ⌝ }
+    requires { ⌜ tablesEnd ≤ length (now scratch) ⌝ }
     requires { ⌜ (x < n) × (e < n) × (f < n) × (s < n) ⌝ }
     ensures { λ r. ⌜ ByteAfter (morphismAt (now (rule .entry)) n k) (pairsFrom (now (scratch .entry)) 0) x e f s (getD (now (scratch .entry)) (place s e) 0) r ⌝ }
 {
-    let old = scratch[4096 + (s * 64 + e)];
+    let old = scratch[SECOND_BASE + (s * 64 + e)];
     let kept = product(rule, n, s, e);
     if kept != s {
         return old;
@@ -41,13 +42,13 @@ fn byte_after(
 // The pairs (s, e) that x takes to a marked pair (s·x, f).
 fn close_column(rule: &[u8], n: usize, k: usize, scratch: &mut [u8], x: usize, e: usize, f: usize)
     requires { ⌜ Table (now rule) n k ⌝ }
-    requires { ⌜ 8192 ≤ length (now scratch) ⌝ }
+    requires { ⌜ tablesEnd ≤ length (now scratch) ⌝ }
     requires { ⌜ (x < n) × (e < n) × (f < n) ⌝ }
     ensures { λ r. ⌜ ColumnClosed (morphismAt (now (rule .entry)) n k) x e f n (now (scratch .entry)) (now (scratch .exit)) ⌝ }
 {
     for s in 0..n {
         let byte = byte_after(rule, n, k, scratch, x, e, f, s);
-        scratch[4096 + (s * 64 + e)] = byte;
+        scratch[SECOND_BASE + (s * 64 + e)] = byte;
     }
 }
 
@@ -99,11 +100,11 @@ fn close_pairs(rule: &[u8], n: usize, k: usize, scratch: &mut [u8])
 
 // Whether the first table is not 0 wherever the second is not, among the first bytes of both.
 fn within(scratch: &[u8], count: usize) -> bool
-    requires { ⌜ (count ≤ 4096) × (8192 ≤ length (now scratch)) ⌝ }
+    requires { ⌜ (count ≤ markTableSize) × (tablesEnd ≤ length (now scratch)) ⌝ }
     ensures { λ r. ⌜ WithinAnswer (now (scratch .entry)) count r ⌝ }
 {
     for i in 0..count {
-        if scratch[4096 + i] != 0 {
+        if scratch[SECOND_BASE + i] != 0 {
             if scratch[i] == 0 {
                 return false;
             }

@@ -15,6 +15,11 @@ pub enum Inspected {
     },
 }
 
+// The bytes of the result of list_classes, and the number there of a pair without a class, as specs/Classes has them.
+pub const CLASSES_SIZE: usize = 8192;
+
+pub const NO_CLASS: usize = 65535;
+
 // The linked pairs, the classes, and the joins, which are the first less the second.
 pub enum Listed {
     Counts {

@@ -23,7 +23,8 @@ use Rattle.rule_check.specs.declared.Checked.{Checked}
 use Rattle.rule_check.specs.declared.Checked.the-variants.{Rule, Refused}
 use Rattle.rule_marks.specs.Faults.{MarksLaid}
 use Rattle.rule_check.proofs.Passed.{size-small}
-use Rattle.rule_check.specs.Answers.{markTableSize, BlankMarks, ContentAnswer, RuleVerdict, CheckPromise}
+use Rattle.scratch.specs.Map.{markTableSize}
+use Rattle.rule_check.specs.Answers.{BlankMarks, ContentAnswer, RuleVerdict, CheckPromise}
 use Rattle.formats.specs.Calls.{afterCall}
 
 -- a short scratch is left as it came

@@ -10,6 +10,7 @@ use Rattle.theory.specs.Rules.{Morphism}
 use Rattle.formats.specs.RuleFile.{elementsOf, markingOf}
 use Rattle.formats.specs.RuleChecks.{ruleChecks}
 use Rattle.scratch.specs.Bytes.{UnchangedOutside}
+use Rattle.scratch.specs.Map.{markTableSize}
 use Rattle.rule_layout.specs.declared.Shape.{Shape}
 use Rattle.rule_layout.specs.Answers.{IsShape}
 use Rattle.rule_marks.specs.declared.Fault.{Fault}
@@ -22,10 +23,6 @@ use Rattle.formats.specs.Calls.{afterCall, checkedChecks}
 -- the check of reached elements alone
 abbrev pub reachChecks : ℕ → Morphism → List Check
 reachChecks input m = record { refusal = Unreachable; input = input; Fails = UnreachedAt m } ∷ []
-
--- the bytes that a table of marks takes: one for each pair of up to 64 elements
-abbrev pub markTableSize : ℕ
-markTableSize = 4096
 
 -- room for a table of marks that marks nothing yet
 pub record BlankMarks (scratch : List ℕ) : Type 0 where

@@ -1,6 +1,7 @@
 // The rule file: every check of document 01, in its order. The bytes are read where they are lent; a checked rule leaves its
 // marks in scratch, a byte for each pair.
 use answer::Refusal;
+use formats::SCRATCH_SIZE;
 use rule_associating::associates;
 use rule_layout::Layout;
 use rule_layout::Shape;
@@ -11,6 +12,7 @@ use rule_reach::least_without;
 use rule_reach::reach;
 use rule_table::Triple;
 use rule_table::first_not_associative;
+use scratch::MARK_TABLE_SIZE;
 use sections::Found;
 use sections::zero;
 use sections::zero_part;
@@ -23,7 +25,8 @@ ghost use Rattle.formats.proofs.Tables.{AllAssociate};
 ghost use Rattle.formats.specs.RuleChecks.{tableChecks, contentChecks};
 ghost use Rattle.rule_layout.specs.Answers.{LayoutPassed};
 ghost use Rattle.rule_marks.specs.Faults.{FaultAnswer};
-ghost use Rattle.rule_check.specs.Answers.{reachChecks, markTableSize, BlankMarks, ContentAnswer, RuleVerdict, CheckPromise};
+ghost use Rattle.scratch.specs.Map.{markTableSize};
+ghost use Rattle.rule_check.specs.Answers.{reachChecks, BlankMarks, ContentAnswer, RuleVerdict, CheckPromise};
 
 // Whether every element is some word's value.
 fn reach_fault(rule: &[u8], n: usize, k: usize) -> Fault
@@ -135,7 +138,7 @@ pub fn check_rule(rule: &[u8], input: usize, scratch: &mut [u8]) -> Checked
     requires { ⌜ markTableSize ≤ length (now scratch) ⌝ }
     ensures { λ r. ⌜ RuleVerdict input (now (rule .entry)) (now (scratch .entry)) (now (scratch .exit)) r ⌝ }
 {
-    zero_part(scratch, 0, 4096);
+    zero_part(scratch, 0, MARK_TABLE_SIZE);
     let shape = match read_layout(rule) {
         Layout::Read(shape) => shape,
         Layout::Refused { refusal, place } => {
@@ -161,7 +164,7 @@ pub fn check_rule(rule: &[u8], input: usize, scratch: &mut [u8]) -> Checked
 pub fn check(rule: &[u8], input: usize, scratch: &mut [u8]) -> Checked
     ensures { λ r. ⌜ CheckPromise input (now (rule .entry)) (now (scratch .entry)) (now (scratch .exit)) r ⌝ }
 {
-    if scratch.len() < 65536 {
+    if scratch.len() < SCRATCH_SIZE {
         return Checked::Refused {
             refusal: Refusal::BufferTooShort,
             input: 1,

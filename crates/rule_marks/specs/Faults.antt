@@ -9,6 +9,7 @@ use Rattle.finite.specs.Search.{anyBelow}
 use Rattle.theory.specs.Rules.{Morphism}
 use Rattle.theory.specs.Pairs.{Linked}
 use Rattle.formats.specs.RuleFile.{markWidth, markStart, markCycle, isMark, oneIf}
+use Rattle.scratch.specs.Map.{markTableSize}
 use Rattle.rule_marks.specs.declared.Fault.{Fault}
 use Rattle.rule_marks.specs.declared.Fault.the-variants.{Nothing, Refused}
 
@@ -27,8 +28,8 @@ pub record MarksRoom (bytes : List ℕ) (at count n : ℕ) (table : List ℕ) : 
   pub long : at + (2 + markWidth * count) ≤ length bytes
   pub starts : (i : ℕ) → i < count → markStart bytes at i < n
   pub cycles : (i : ℕ) → i < count → markCycle bytes at i < n
-  pub room : 4096 ≤ length table
-  pub blank : (i : ℕ) → i < 4096 → getD table i 0 ≡ 0
+  pub room : markTableSize ≤ length table
+  pub blank : (i : ℕ) → i < markTableSize → getD table i 0 ≡ 0
 
 -- a marking laid out in bytes: that of (s, e) at s·64 + e; every other byte is as it was
 pub record MarksLaid (marks : ℕ → ℕ → ℕ) (n : ℕ) (entry exit : List ℕ) : Type 0 where

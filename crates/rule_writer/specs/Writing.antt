@@ -10,6 +10,7 @@ use Rattle.theory.specs.Rules.{Morphism, Marking}
 use Rattle.formats.specs.RuleFile.{markWidth}
 use Rattle.formats.specs.RuleChecks.{ruleSize}
 use Rattle.formats.specs.WrittenFile.{marksBytes, fileOf}
+use Rattle.scratch.specs.Map.{markTableSize}
 
 -- a buffer with the bytes put in place of its own from a place on
 unfoldable pub placed : List ℕ → ℕ → List ℕ → List ℕ
@@ -48,11 +49,11 @@ pub record CountedNeeds (entries : List ℕ) (count size : ℕ) (out : List ℕ)
 -- a table of marks for up to 64 elements
 pub record MarksTable (marks : List ℕ) (n : ℕ) : Type 0 where
   pub small : n ≤ 64
-  pub long : 4096 ≤ length marks
+  pub long : markTableSize ≤ length marks
 
 -- a pair of elements in a table of marks, and room for its two bytes
 pub record PairNeeds (marks : List ℕ) (s e : ℕ) (out : List ℕ) (at : ℕ) : Type 0 where
-  pub long : 4096 ≤ length marks
+  pub long : markTableSize ≤ length marks
   pub start-inside : s < 64
   pub cycle-inside : e < 64
   pub room : at + 2 ≤ length out
@@ -85,7 +86,7 @@ pub record RuleNeeds (table images marks : List ℕ) (n k : ℕ) (out : List ℕ
   pub letters-small : k ≤ 16
   pub table-long : n * n ≤ length table
   pub images-long : k ≤ length images
-  pub marks-long : 4096 ≤ length marks
+  pub marks-long : markTableSize ≤ length marks
   pub room : ruleSize ≤ length out
 
 -- the file of the rule of the tables

@@ -8,6 +8,14 @@ use lib.ListN.{getD}
 use lib.Dec.{ltb}
 use Rattle.theory.specs.Rules.{Pairs}
 
+-- the bytes that a table of marks takes: one for each pair of up to 64 elements
+abbrev pub markTableSize : ℕ
+markTableSize = 4096
+
+-- and those of an automaton's transitions: one for each triple of up to 6 states and 16 letters
+abbrev pub transitionTableSize : ℕ
+transitionTableSize = 576
+
 -- two markings of a table compared: a second marking, laid out like the first: a second input, the closure, or marks to be written
 abbrev pub secondBase : ℕ
 secondBase = 4096
@@ -99,6 +107,10 @@ laidImagesBase = 20480
 
 abbrev pub laidMarksBase : ℕ
 laidMarksBase = 24576
+
+-- where it ends
+abbrev pub laidEnd : ℕ
+laidEnd = 28672
 
 -- the pairs that a table of marks has, which begins at a byte: those whose byte is not 0
 unfoldable pub pairsFrom : List ℕ → ℕ → Pairs

@@ -1,5 +1,10 @@
 // The map of scratch: where things begin in it, as specs/Map says.
 
+// A table of marks, a byte for each pair of up to 64 elements; an automaton's transitions, a byte for each triple.
+pub const MARK_TABLE_SIZE: usize = 4096;
+
+pub const TRANSITION_TABLE_SIZE: usize = 576;
+
 // Two markings of a table compared: a second marking, laid out like the first: a second input, the closure, or marks to be written.
 pub const SECOND_BASE: usize = 4096;
 
