@@ -1,7 +1,7 @@
--- Where the two bytes of a pair's number stand, that a number of two bytes is read back as it was stored, and bytes that are
--- kept. Assumes nothing.
+-- Where the two bytes of a pair's number stand, that a number of two bytes is read back as it was stored, and which bytes a
+-- store keeps. Assumes nothing.
 use Prim.Native.Nat.{ℕ, _+_, _*_, _/_, _%_, _≤_, _<_}
-use mathlib.Core.Path.{_≡_, refl, _∙_}
+use mathlib.Core.Path.{_≡_, _∙_}
 use mathlib.Core.Logic.{_≢_}
 use mathlib.Core.List.{List}
 use native.Mathlib.Omega.{arith}
@@ -11,7 +11,8 @@ use lib.ListN.{length, getD, set, length-set}
 use lib.Seq.{getD-set-same, getD-set-other}
 use lib.Arith.{digits-lt}
 use Rattle.formats.specs.Sections.{twoBytes}
-use Rattle.mark_class_numbers.specs.Cells.{Stored, Kept}
+use Rattle.scratch.specs.Bytes.{UnchangedOutside}
+use Rattle.mark_class_numbers.specs.Cells.{Stored}
 
 -- a table of n elements has at most 4,096 pairs
 pub pairs-small : {n : ℕ} → n ≤ 64 → n * n ≤ 4096
@@ -69,8 +70,10 @@ stored-byte {entry} {exit} {at} s i h = go (ℕ-discrete i at) (ℕ-discrete i (
     go (no f) (yes q) = rw q (s .high)
     go (no f) (no g) = rw (s .others i f g) (h f g)
 
-pub kept-none : (n : ℕ) (l : List ℕ) → Kept n l l
-kept-none n l = record { same-length = refl; kept = λ i h. refl }
-
-pub kept-both : {n : ℕ} {a b c : List ℕ} → Kept n a b → Kept n b c → Kept n a c
-kept-both p q = record { same-length = q .same-length ∙ p .same-length; kept = λ i h. q .kept i h ∙ p .kept i h }
+-- a store within a part
+pub stored-kept : {entry exit : List ℕ} {from to at number : ℕ} → Stored entry exit at number → from ≤ at → at + 1 < to → UnchangedOutside from to entry exit
+stored-kept s g h = record {
+  same-length = s .same-length;
+  before = λ i p. s .others i (λ q. omega arith) (λ q. omega arith);
+  after = λ i p. s .others i (λ q. omega arith) (λ q. omega arith);
+}

@@ -1,7 +1,7 @@
 -- What the passes over the numbers leave: first numbers pair after pair and row after row, one column lowered, and the classes
 -- once all factors were tried. Assumes nothing.
 use Prim.Native.Nat.{ℕ, _+_, _*_, _≤_, _<_}
-use mathlib.Core.Path.{_≡_, refl, sym, _∙_, subst, subst₂}
+use mathlib.Core.Path.{_≡_, sym, subst, subst₂}
 use mathlib.Core.Logic.{_≢_, ⊎-elim}
 use mathlib.Core.List.{List}
 use native.Mathlib.Omega.{arith}
@@ -11,18 +11,17 @@ use Rattle.finite.proofs.Numbers.{le-or-lt, pair-same, row-more}
 use Rattle.theory.specs.Rules.{Morphism, Lawful}
 use Rattle.theory.proofs.BestConjugates.{bettered-none, bettered-more, so-far-column}
 use Rattle.promises.specs.Classes.{ClassesWritten, classPlace}
+use Rattle.scratch.proofs.Unchanged.{unchanged-none, unchanged-both, unchanged-wider}
 use Rattle.mark_class_numbers.specs.Cells.{numberTable, Stored, Numbered, Begun, Classed, Advanced, Lowest, Lowered}
-use Rattle.mark_class_numbers.proofs.Bytes.{two-kept, stored-other, stored-byte, kept-none, kept-both}
+use Rattle.mark_class_numbers.proofs.Bytes.{two-kept, stored-other, stored-byte, stored-kept}
 use Rattle.mark_class_numbers.proofs.Factors.{numbered-all}
 
 -- no pair has its first number yet
 pub begun-none : (m : Morphism) (from : ℕ) (l : List ℕ) → Begun m from from l l
 begun-none m from l = record {
-  same-length = refl;
   cells = λ s e he a b. absurd (omega arith);
   bytes = λ i a b. absurd (omega arith);
-  before = λ i h. refl;
-  after = λ i h. refl;
+  kept = unchanged-none (2 * from) (2 * from) l;
 }
 
 -- a pair more
@@ -30,11 +29,9 @@ module _ {m : Morphism} {from s e : ℕ} {entry now next : List ℕ} {number : �
   pub begun-more : e < m .size → from ≤ s * m .size + e → Begun m from (s * m .size + e) entry now → Stored now next (2 * (s * m .size + e)) number
       → Numbered m 0 s e number → Begun m from (s * m .size + (e + 1)) entry next
   begun-more he lo b st d = record {
-    same-length = st .same-length ∙ b .same-length;
     cells = λ a c hc g h. cell a c hc g (ℕ-discrete (a * m .size + c) (s * m .size + e)) h;
     bytes = λ i a h. stored-byte st i (λ f g. b .bytes i a (let u : i ≢ 2 * (s * m .size + e) = f in let v : i ≢ 2 * (s * m .size + e) + 1 = g in omega arith));
-    before = λ i h. st .others i (λ q. omega arith) (λ q. omega arith) ∙ b .before i h;
-    after = λ i h. st .others i (λ q. omega arith) (λ q. omega arith) ∙ b .after i (omega arith);
+    kept = unchanged-both (unchanged-wider (omega arith) (omega arith) (b .kept)) (stored-kept st (omega arith) (omega arith));
   }
     where
       cell : (a c : ℕ) → c < m .size → from ≤ a * m .size + c → Dec (a * m .size + c ≡ s * m .size + e) → a * m .size + c < s * m .size + (e + 1)
@@ -49,13 +46,11 @@ module _ {m : Morphism} {from s e : ℕ} {entry now next : List ℕ} {number : �
 pub begun-both : {m : Morphism} {from mid to : ℕ} {entry now next : List ℕ} → from ≤ mid → mid ≤ to → Begun m from mid entry now → Begun m mid to now next
     → Begun m from to entry next
 begun-both {m} {from} {mid} {to} {entry} {now} {next} h g a b = record {
-  same-length = b .same-length ∙ a .same-length;
   cells = λ s e he p q. ⊎-elim (λ w. b .cells s e he w q)
-      (λ w. let i = s * m .size + e in rw (two-kept now next i (b .before (2 * i) (omega arith)) (b .before (2 * i + 1) (omega arith))) (a .cells s e he p w))
+      (λ w. let i = s * m .size + e in rw (two-kept now next i (b .kept .before (2 * i) (omega arith)) (b .kept .before (2 * i + 1) (omega arith))) (a .cells s e he p w))
       (le-or-lt mid (s * m .size + e));
-  bytes = λ i p q. ⊎-elim (λ w. b .bytes i w q) (λ w. rw (b .before i w) (a .bytes i p w)) (le-or-lt (2 * mid) i);
-  before = λ i p. b .before i (omega arith) ∙ a .before i p;
-  after = λ i p. b .after i p ∙ a .after i (omega arith);
+  bytes = λ i p q. ⊎-elim (λ w. b .bytes i w q) (λ w. rw (b .kept .before i w) (a .bytes i p w)) (le-or-lt (2 * mid) i);
+  kept = unchanged-both (unchanged-wider (omega arith) (omega arith) (a .kept)) (unchanged-wider (omega arith) (omega arith) (b .kept));
 }
 
 -- a row more
@@ -71,12 +66,12 @@ begun-all b = record {
     numbers = record { cells = λ s e hs he. b .cells s e he (omega arith) (digits-lt hs he) };
     bytes-small = λ i h. b .bytes i (omega arith) h;
   };
-  kept = record { same-length = b .same-length; kept = b .after };
+  kept = b .kept;
 }
 
 -- no number is lowered yet
 pub lowered-none : (m : Morphism) (x e f : ℕ) (l : List ℕ) → Lowered m x e f 0 l l
-lowered-none m x e f l = record { kept = kept-none (m .size) l; column = bettered-none; bytes = λ i h. h }
+lowered-none m x e f l = record { kept = unchanged-none 0 (2 * (m .size * m .size)) l; column = bettered-none; bytes = λ i h. h }
 
 -- the number of one more element
 module _ {m : Morphism} {x e f s : ℕ} {entry now next : List ℕ} {number : ℕ} where
@@ -85,10 +80,7 @@ module _ {m : Morphism} {x e f s : ℕ} {entry now next : List ℕ} {number : �
   lowered-more hs he l st d =
       let inside = digits-lt hs he in
       record {
-        kept = kept-both (l .kept) (record {
-          same-length = st .same-length;
-          kept = λ i h. st .others i (λ q. omega arith) (λ q. omega arith);
-        });
+        kept = unchanged-both (l .kept) (stored-kept st (omega arith) (omega arith));
         column = bettered-more hs he (l .column) d (record {
           is-value = st .is-number;
           others = λ a b ha hb g. stored-other st (a * m .size + b) (λ q. let p = pair-same hb he q in g (p .0) (p .1));
@@ -110,7 +102,7 @@ advanced-lowered law hx hy c pe pf q i r j l = record {
 
 -- passes in a row
 pub advanced-both : {m : Morphism} {a b : ℕ} {entry now next : List ℕ} → Advanced m a entry now → Advanced m b now next → Advanced m b entry next
-advanced-both p q = record { classed = q .classed; kept = kept-both (p .kept) (q .kept) }
+advanced-both p q = record { classed = q .classed; kept = unchanged-both (p .kept) (q .kept) }
 
 pub advanced-row : {m : Morphism} (x : ℕ) {entry now next : List ℕ} → Advanced m (x * m .size) entry now → Advanced m (x * m .size + m .size) now next
     → Advanced m ((x + 1) * m .size) entry next
@@ -123,5 +115,5 @@ advanced-all {m} {entry} {exit} a = record {
   same-length = a .kept .same-length;
   classes = λ s e hs he. numbered-all (a .classed .numbers .cells s e hs he);
   bytes = a .classed .bytes-small;
-  kept = a .kept .kept;
+  kept = a .kept .after;
 }

@@ -9,6 +9,7 @@ use Rattle.theory.specs.Rules.{Morphism, Marking}
 use Rattle.theory.specs.Pairs.{Linked, pair-number, Counted}
 use Rattle.theory.proofs.BestConjugates.{Ranking, Best, Better, BestSoFar, ColumnBettered}
 use Rattle.formats.specs.Sections.{twoBytes}
+use Rattle.scratch.specs.Bytes.{UnchangedOutside}
 use Rattle.promises.specs.Classes.{noClass}
 
 -- a two-byte number that was read
@@ -25,9 +26,8 @@ pub record Stored (entry exit : List ℕ) (at number : ℕ) : Type 0 where
   pub others : (i : ℕ) → (i ≡ at → ⊥) → (i ≡ at + 1 → ⊥) → getD exit i 0 ≡ getD entry i 0
 
 -- bytes past the numbers of n × n pairs keep what they had
-pub record Kept (n : ℕ) (entry exit : List ℕ) : Type 0 where
-  pub same-length : length exit ≡ length entry
-  pub kept : (i : ℕ) → 2 * (n * n) ≤ i → getD exit i 0 ≡ getD entry i 0
+abbrev pub Kept : ℕ → List ℕ → List ℕ → Type 0
+Kept n entry exit = UnchangedOutside 0 (2 * (n * n)) entry exit
 
 -- the numbers of the pairs, two bytes each
 abbrev pub numberTable : ℕ → List ℕ → Marking
@@ -46,13 +46,11 @@ leastNumber m = record {
 abbrev pub Numbered : Morphism → ℕ → ℕ → ℕ → ℕ → Type 0
 Numbered m count s e number = Best m (leastNumber m) (pair-number m) count s e number
 
--- the pairs with the numbers from `from` up to `to` have their first numbers, before any factors were tried
+-- the pairs with the numbers from `from` up to `to` have their first numbers, before any factors were tried, and nothing else changed
 pub record Begun (m : Morphism) (from to : ℕ) (entry exit : List ℕ) : Type 0 where
-  pub same-length : length exit ≡ length entry
   pub cells : (s e : ℕ) → e < m .size → from ≤ s * m .size + e → s * m .size + e < to → Numbered m 0 s e (numberTable (m .size) exit s e)
   pub bytes : (i : ℕ) → 2 * from ≤ i → i < 2 * to → getD exit i 0 < 256
-  pub before : (i : ℕ) → i < 2 * from → getD exit i 0 ≡ getD entry i 0
-  pub after : (i : ℕ) → 2 * to ≤ i → getD exit i 0 ≡ getD entry i 0
+  pub kept : UnchangedOutside (2 * from) (2 * to) entry exit
 
 -- every pair has its number, by the factors tried so far
 pub record Classed (m : Morphism) (count : ℕ) (bytes : List ℕ) : Type 0 where

@@ -10,7 +10,7 @@ use Rattle.finite.proofs.Numbers.{below-cases}
 use Rattle.theory.specs.Rules.{Morphism, Pairs}
 use Rattle.theory.proofs.Escapes.{Escapes}
 use Rattle.sections.specs.Answers.{PartZeroed}
-use Rattle.scratch.specs.Map.{pairsFrom, statesBase, nextPreimagesBase}
+use Rattle.scratch.specs.Map.{pairsFrom, tablesEnd, statesBase, firstPreimagesBase, nextPreimagesBase}
 use Rattle.scratch.specs.Preimages.{PreimagesRoom, PreimagesListed}
 use Rattle.mark_search_list.specs.Queue.{seenAt, Kept}
 use Rattle.mark_search.specs.Search.{MarkingAt, SearchNeeds, Searched, AllNeeds, EscapeNeeds, Escaped}
@@ -18,7 +18,7 @@ use Rattle.mark_search.specs.declared.Ended.{Ended}
 use Rattle.mark_search.specs.declared.Ended.the-variants.{At, Nothing}
 use Rattle.mark_search.specs.declared.Escape.{Escape}
 use Rattle.mark_search.specs.declared.Escape.the-variants.{At as Escape-at, Nothing as No-escape}
-use Rattle.mark_search_list.proofs.Growth.{kept-refl, kept-trans}
+use Rattle.scratch.proofs.Unchanged.{unchanged-none, unchanged-both}
 use Rattle.mark_search_list.proofs.Taking.{preimages-kept}
 
 -- a set of pairs that stands in a table in front of the worklist stays there
@@ -35,7 +35,7 @@ pub record SearchedTo (m : Morphism) (first second s : ℕ) (entry now : List �
 
 module _ {m : Morphism} {first second : ℕ} {entry : List ℕ} (small : m .size ≤ 64) (place : AllNeeds m first second entry) where
   pub searched-start : SearchedTo m first second 0 entry entry
-  searched-start = record { kept = kept-refl entry; seen = place .unseen; none = λ P P′ t t′ u h. absurd (omega arith) }
+  searched-start = record { kept = unchanged-none tablesEnd firstPreimagesBase entry; seen = place .unseen; none = λ P P′ t t′ u h. absurd (omega arith) }
 
   module _ {s : ℕ} {now : List ℕ} (k : SearchedTo m first second s entry now) where
     pub next-place : s < m .size → SearchNeeds m first second s now
@@ -51,22 +51,22 @@ module _ {m : Morphism} {first second : ℕ} {entry : List ℕ} (small : m .size
 
     module _ (P P′ : Pairs) (t : MarkingAt (m .size) P entry first) (t′ : MarkingAt (m .size) P′ entry second) where
       first-stands : MarkingAt (m .size) P now first
-      first-stands = stands-kept first small (place .first-base) (k .kept .marks) t
+      first-stands = stands-kept first small (place .first-base) (k .kept .before) t
 
       second-stands : MarkingAt (m .size) P′ now second
-      second-stands = stands-kept second small (place .second-base) (k .kept .marks) t′
+      second-stands = stands-kept second small (place .second-base) (k .kept .before) t′
 
     -- the search at s ends at an entry
     pub escaped-at : {exit : List ℕ} {answer : Ended} {i : ℕ} → s < m .size → Searched m first second s now exit answer → answer ≡ At i
         → Escaped m first second entry exit (Escape-at s i)
     escaped-at {exit} {i = i} h r e =
         let d : Searched m first second s now exit (At i) = subst (Searched m first second s now exit) e r in
-        let w = kept-trans (k .kept) (d .kept) in
+        let w = unchanged-both (k .kept) (d .kept) in
         record {
           same-length = w .same-length;
           says = λ P P′ t t′. record { start-inside = h; ended = d .ends P P′ (first-stands P P′ t t′) (second-stands P P′ t t′) };
-          marks = w .marks;
-          behind = λ j g. w .lists j (omega arith);
+          marks = w .before;
+          behind = λ j g. w .after j (omega arith);
         }
 
     -- or it does not
@@ -75,7 +75,7 @@ module _ {m : Morphism} {first second : ℕ} {entry : List ℕ} (small : m .size
     searched-next {exit} r e =
         let d : Searched m first second s now exit Nothing = subst (Searched m first second s now exit) e r in
         record {
-          kept = kept-trans (k .kept) (d .kept);
+          kept = unchanged-both (k .kept) (d .kept);
           seen = d .seen;
           none = λ P P′ t t′ u h v. go P P′ t t′ u v (d .ends P P′ (first-stands P P′ t t′) (second-stands P P′ t t′)) (below-cases (omega arith));
         }
@@ -90,8 +90,8 @@ module _ {m : Morphism} {first second : ℕ} {entry : List ℕ} (small : m .size
     escaped-none h = record {
       same-length = k .kept .same-length;
       says = λ P P′ t t′ u l. k .none P P′ t t′ u (omega arith);
-      marks = k .kept .marks;
-      behind = λ j g. k .kept .lists j (omega arith);
+      marks = k .kept .before;
+      behind = λ j g. k .kept .after j (omega arith);
     }
 
 -- with the states and the lists of preimages made blank first, and the lists made then

@@ -9,13 +9,14 @@ use lib.ListN.{length, getD}
 use lib.Dec.{T}
 use Rattle.finite.proofs.Numbers.{below-cases, le-or-lt}
 use Rattle.theory.specs.Rules.{Morphism, Pairs}
-use Rattle.scratch.specs.Map.{pairsFrom}
+use Rattle.scratch.specs.Map.{tablesEnd, firstPreimagesBase, pairsFrom}
 use Rattle.mark_search_list.specs.Queue.{frontAt, backAt, letterAt, parentAt, Queue, SameEntry, Grown}
 use Rattle.mark_search_list.specs.Steps.{BeginNeeds, Begun, ExpandNeeds, beforeLetter, Takes, splitMarked, Visited}
 use Rattle.mark_search.specs.Search.{MarkingAt, Source, a-start, a-step, Tried, Searching, SearchNeeds, RunNeeds, Searched}
 use Rattle.mark_search.specs.declared.Ended.{Ended}
 use Rattle.mark_search.specs.declared.Ended.the-variants.{At, Nothing}
-use Rattle.mark_search_list.proofs.Growth.{kept-refl, kept-trans, grown-trans, state-grown, queue-few}
+use Rattle.scratch.proofs.Unchanged.{unchanged-none, unchanged-both}
+use Rattle.mark_search_list.proofs.Growth.{grown-trans, state-grown, queue-few}
 use Rattle.mark_search_list.proofs.Beginning.{queue-none, pairs-kept}
 use Rattle.mark_search_list.proofs.Taking.{preimages-kept}
 use Rattle.mark_search.proofs.Meeting.{no-escape, split-inside, entries-as}
@@ -51,7 +52,7 @@ module _ {m : Morphism} {first second s : ℕ} {entry : List ℕ} (place : Searc
   pub searching-start : {now : List ℕ} {count : ℕ} → Begun (m .size) s P (m .size) entry now count
       → Searching m (pairsFrom now first) (pairsFrom now second) s now now count 0
   searching-start {now} {count} b = record {
-    grown = record { queue = b .grown .queue; more = omega arith; same = λ i h. omega arith; kept = kept-refl now };
+    grown = record { queue = b .grown .queue; more = omega arith; same = λ i h. omega arith; kept = unchanged-none tablesEnd firstPreimagesBase now };
     preimages = preimages-kept (b .grown .kept) (place .preimages);
     source = λ i h. a-start (b .front i h) (subst T (sym (same-mark (b .front i h))) (b .is-marked i h)) (b .back i h);
     starts = λ e h t. b .holds e h (subst T (same-mark h) t);
@@ -70,7 +71,7 @@ module _ {m : Morphism} {first second s : ℕ} {entry : List ℕ} (place : Searc
       → Searched m first second s entry exit answer
   searched-begun {now} b r = record {
     ends = λ R R′ t t′. r .ends R R′ (moved first (place .first-base) t) (moved second (place .second-base) t′);
-    kept = kept-trans (b .grown .kept) (r .kept);
+    kept = unchanged-both (b .grown .kept) (r .kept);
     seen = r .seen;
   }
     where

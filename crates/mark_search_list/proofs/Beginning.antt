@@ -31,7 +31,7 @@ queue-none small hs room unseen = record {
 -- what stands in a table of marks stays there
 pub pairs-kept : {entry exit : List ℕ} (base : ℕ) {s e : ℕ} → Kept entry exit → base ≤ 4096 → s < 64 → e < 64 → pairsFrom exit base s e ≡ pairsFrom entry base s e
 unfolding pairsFrom
-pairs-kept base {s} {e} k h hs he = ap (ltb 0) (k .marks (base + (s * 64 + e)) (omega arith))
+pairs-kept base {s} {e} k h hs he = ap (ltb 0) (k .before (base + (s * 64 + e)) (omega arith))
 
 module _ {n s first count e : ℕ} {entry : List ℕ} (place : BeginNeeds n s entry first count) (he : e < n) where
   -- the pair is not marked

@@ -13,19 +13,10 @@ use lib.Seq.{getD-set-same, getD-set-other}
 use Rattle.finite.proofs.Pigeonhole.{injection-le, update, update-cases, update-apart}
 use Rattle.finite.proofs.Numbers.{below-cases, Compared, lesser, level, greater, compared}
 use Rattle.finite.proofs.Worklist.{Entry}
+use Rattle.scratch.specs.Map.{firstPreimagesBase, tablesEnd}
+use Rattle.scratch.proofs.Unchanged.{unchanged-none, unchanged-both}
 use Rattle.mark_search_list.specs.Queue.{frontAt, backAt, letterAt, parentAt, stateCode, codeAt, seenAt, Queue, HasState, Kept, SameEntry, Grown}
 use Rattle.mark_search_list.specs.Steps.{StoreNeeds, Stored, AddNeeds, Added}
-
--- nothing changed
-pub kept-refl : (scratch : List ℕ) → Kept scratch scratch
-kept-refl scratch = record { same-length = refl; marks = λ i h. refl; lists = λ i h. refl }
-
-pub kept-trans : {a b c : List ℕ} → Kept a b → Kept b c → Kept a c
-kept-trans p q = record {
-  same-length = q .same-length ∙ p .same-length;
-  marks = λ i h. q .marks i h ∙ p .marks i h;
-  lists = λ i h. q .lists i h ∙ p .lists i h;
-}
 
 pub same-refl : (scratch : List ℕ) (i : ℕ) → SameEntry scratch scratch i
 same-refl scratch i = record { front = refl; back = refl; letter = refl; parent = refl }
@@ -39,14 +30,14 @@ same-trans p q = record {
 }
 
 pub grown-refl : {n s : ℕ} {scratch : List ℕ} {count : ℕ} → Queue n s scratch count → Grown n s scratch count scratch count
-grown-refl {scratch = scratch} {count = count} q = record { queue = q; more = le-refl count; same = λ i h. same-refl scratch i; kept = kept-refl scratch }
+grown-refl {scratch = scratch} {count = count} q = record { queue = q; more = le-refl count; same = λ i h. same-refl scratch i; kept = unchanged-none tablesEnd firstPreimagesBase scratch }
 
 pub grown-trans : {n s : ℕ} {a b c : List ℕ} {i j k : ℕ} → Grown n s a i b j → Grown n s b j c k → Grown n s a i c k
 grown-trans p q = record {
   queue = q .queue;
   more = le-trans (p .more) (q .more);
   same = λ i h. same-trans (p .same i h) (q .same i (omega (arith, p .more)));
-  kept = kept-trans (p .kept) (q .kept);
+  kept = unchanged-both (p .kept) (q .kept);
 }
 
 -- an entry stays one
@@ -225,8 +216,8 @@ module _ {n s : ℕ} {entry : List ℕ} {count x y from letter : ℕ} (place : A
           let low = code-below small-front small-back in
           record {
             same-length = t .same-length ∙ length-set entry (49152 + stateCode x y) (s + 1);
-            marks = λ i h. t .outside i (omega arith) (omega arith) (omega arith) (omega arith) (omega arith) ∙ mid-other i (omega arith);
-            lists = λ i h. t .outside i (omega arith) (omega arith) (omega arith) (omega arith) (omega arith) ∙ mid-other i (omega arith);
+            before = λ i h. t .outside i (omega arith) (omega arith) (omega arith) (omega arith) (omega arith) ∙ mid-other i (omega arith);
+            after = λ i h. t .outside i (omega arith) (omega arith) (omega arith) (omega arith) (omega arith) ∙ mid-other i (omega arith);
           }
 
       at-count : (j : ℕ) → count ≤ j → j < count + 1 → j ≡ count

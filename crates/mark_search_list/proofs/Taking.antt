@@ -18,8 +18,8 @@ pub preimages-kept : {m : Morphism} {entry exit : List ℕ} → Kept entry exit 
 unfolding firstAt nextAt
 preimages-kept {m} {entry} {exit} k p = record {
   listed = λ a h. record {
-    firsts = λ x l. subst (LastBelow (λ c. afterLetter m a c ≡ x) (m .size + 1)) (sym (k .lists (57344 + (a * 65 + x)) (omega arith))) (p .listed a h .firsts x l);
-    nexts = λ c l. subst (LastBelow (λ d. afterLetter m a d ≡ afterLetter m a c) c) (sym (k .lists (59392 + (a * 65 + c)) (omega arith))) (p .listed a h .nexts c l);
+    firsts = λ x l. subst (LastBelow (λ c. afterLetter m a c ≡ x) (m .size + 1)) (sym (k .after (57344 + (a * 65 + x)) (omega arith))) (p .listed a h .firsts x l);
+    nexts = λ c l. subst (LastBelow (λ d. afterLetter m a d ≡ afterLetter m a c) c) (sym (k .after (59392 + (a * 65 + c)) (omega arith))) (p .listed a h .nexts c l);
   };
 }
 

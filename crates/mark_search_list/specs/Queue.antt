@@ -5,6 +5,7 @@ use mathlib.Core.Path.{_≡_}
 use mathlib.Core.List.{List}
 use lib.ListN.{length, getD}
 use Rattle.finite.proofs.Worklist.{Entry}
+use Rattle.scratch.specs.Bytes.{UnchangedOutside}
 use Rattle.scratch.specs.Map.{backsBase, firstPreimagesBase, frontsBase, lettersBase, parentsHighBase, parentsLowBase, statesBase, tablesEnd}
 use Rattle.formats.specs.RuleChecks.{scratchSize}
 
@@ -55,10 +56,8 @@ pub record HasState (scratch : List ℕ) (count x y : ℕ) : Type 0 where
   pub back : backAt scratch at ≡ y
 
 -- only the worklist and the bytes of the states may differ
-pub record Kept (entry exit : List ℕ) : Type 0 where
-  pub same-length : length exit ≡ length entry
-  pub marks : (i : ℕ) → i < tablesEnd → getD exit i 0 ≡ getD entry i 0
-  pub lists : (i : ℕ) → firstPreimagesBase ≤ i → getD exit i 0 ≡ getD entry i 0
+abbrev pub Kept : List ℕ → List ℕ → Type 0
+Kept entry exit = UnchangedOutside tablesEnd firstPreimagesBase entry exit
 
 -- an entry is as it was
 pub record SameEntry (entry exit : List ℕ) (i : ℕ) : Type 0 where

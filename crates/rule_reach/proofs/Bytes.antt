@@ -156,4 +156,8 @@ module _ {entry exit : List ℕ} {count s from letter : ℕ} (t : Stored entry e
 
   -- nothing beyond the worklist changed
   pub stored-kept : Kept entry exit
-  stored-kept = record { same-length = t .same-length; beyond = λ i h. t .other i (omega arith) (omega arith) (omega arith) (omega arith) }
+  stored-kept = record {
+    same-length = t .same-length;
+    before = λ i h. absurd (omega arith);
+    after = λ i h. t .other i (omega arith) (omega arith) (omega arith) (omega arith);
+  }

@@ -9,18 +9,13 @@ use lib.ListN.{getD}
 use Rattle.theory.specs.Rules.{element}
 use Rattle.rule_table.specs.Table.{Table}
 use Rattle.formats.specs.Table.{imageAt, morphismAt}
+use Rattle.scratch.proofs.Unchanged.{unchanged-none, unchanged-both}
 use Rattle.rule_reach.specs.Reach.{entryAt, placeAt, wordStep, Empty, WordOrder}
 use Rattle.rule_reach.specs.Steps.{stepAt, StepNeeds, AddNeeds, Added, added-old, added-new}
 use Rattle.rule_reach.specs.Searching.{Searching, Kept, Expanded}
 use Rattle.rule_reach.proofs.Steps.{step-value}
 use Rattle.rule_reach.proofs.Order.{order-start, order-old, order-new, order-next, order-done}
 use Rattle.rule_reach.proofs.Bytes.{place-entry, entry-place, some-left, stored-extends, stored-newest, stored-places, stored-inside, stored-kept}
-
-kept-refl : {queue : List ℕ} → Kept queue queue
-kept-refl = record { same-length = refl; beyond = λ i h. refl }
-
-kept-trans : {u v w : List ℕ} → Kept u v → Kept v w → Kept u w
-kept-trans r s = record { same-length = s .same-length ∙ r .same-length; beyond = λ i h. s .beyond i h ∙ r .beyond i h }
 
 module _ {bytes : List ℕ} {n k : ℕ} (table : Table bytes n k) where
   -- nothing is found
@@ -99,7 +94,7 @@ module _ {bytes : List ℕ} {n k : ℕ} (table : Table bytes n k) where
 
       -- and nothing else changed
       add-kept : {exit : List ℕ} {r : ℕ} → Added queue exit count s p a r → Kept queue exit
-      add-kept (added-old h e f) = rw e kept-refl
+      add-kept (added-old h e f) = rw e (unchanged-none 0 256 queue)
       add-kept (added-new h t f) = stored-kept t (omega (arith, new-below h, table .small)) (omega (arith, step-below, table .small))
 
       -- the entry is there still
@@ -125,7 +120,7 @@ module _ {bytes : List ℕ} {n k : ℕ} (table : Table bytes n k) where
     inside = s .inside;
     places = s .places;
     same-length = kept .same-length;
-    kept = kept .beyond;
+    kept = kept .after;
   }
 
 -- the letters before `letter` were tried at entry `from`
@@ -146,7 +141,7 @@ module _ {bytes : List ℕ} {n k : ℕ} {entry : List ℕ} where
   -- no letter was tried at the entry
   pub expanding-start : {count from : ℕ} → Table bytes n k → Searching bytes n k entry count from 0 → from ≤ count
       → Expanding bytes n k entry from entry count 0
-  expanding-start t s h = record { table = t; searching = s; there = h; up-to = omega arith; kept = kept-refl }
+  expanding-start t s h = record { table = t; searching = s; there = h; up-to = omega arith; kept = unchanged-none 0 256 entry }
 
   -- the next letter may be tried
   pub expanding-step : {from : ℕ} {queue : List ℕ} {found letter : ℕ} → Expanding bytes n k entry from queue found letter → letter < k
@@ -167,7 +162,7 @@ module _ {bytes : List ℕ} {n k : ℕ} {entry : List ℕ} where
     searching = search-add (x .table) (x .searching) (x .there) h e d;
     there = add-more (x .table) (x .searching) (x .there) h e d;
     up-to = omega arith;
-    kept = kept-trans (x .kept) (add-kept (x .table) (x .searching) (x .there) h e d);
+    kept = unchanged-both (x .kept) (add-kept (x .table) (x .searching) (x .there) h e d);
   }
 
   -- all letters were tried
@@ -177,12 +172,12 @@ module _ {bytes : List ℕ} {n k : ℕ} {entry : List ℕ} where
 
   -- no entry was tried
   pub reaching-start : Table bytes n k → Empty entry → Reaching bytes n k entry entry 0 0
-  reaching-start t e = record { table = t; searching = search-start t e; kept = kept-refl }
+  reaching-start t e = record { table = t; searching = search-start t e; kept = unchanged-none 0 256 entry }
 
   -- one entry more was tried
   pub reaching-next : {queue exit : List ℕ} {count from r : ℕ} → Reaching bytes n k entry queue count from → Expanded bytes n k queue exit from r
       → Reaching bytes n k entry exit r (from + 1)
-  reaching-next x d = record { table = x .table; searching = d .searching; kept = kept-trans (x .kept) (d .kept) }
+  reaching-next x d = record { table = x .table; searching = d .searching; kept = unchanged-both (x .kept) (d .kept) }
 
   -- all entries were tried
   pub reaching-done : {queue : List ℕ} {count from : ℕ} → Reaching bytes n k entry queue count from → count < from

@@ -9,6 +9,7 @@ use Rattle.finite.proofs.FirstWords.{Sooner}
 use Rattle.finite.proofs.Worklist.{Entry}
 use Rattle.theory.specs.Rules.{none}
 use Rattle.formats.specs.Table.{morphismAt}
+use Rattle.scratch.specs.Bytes.{UnchangedOutside}
 use Rattle.rule_reach.specs.Reach.{entryAt, parentAt, letterAt, wordStep, Places}
 
 -- the c entries of q are different: x₀, and states each found by a pair (parent, letter), in the order of those pairs, and
@@ -38,9 +39,8 @@ pub record Searching (bytes : List ℕ) (n k : ℕ) (queue : List ℕ) (count p 
   pub order : InOrder none (wordStep (morphismAt bytes n k)) k (entryAt queue) (suc count) (parentAt queue) (letterAt queue) p a
 
 -- the search keeps the length and every byte from 256 on
-pub record Kept (entry exit : List ℕ) : Type 0 where
-  pub same-length : length exit ≡ length entry
-  pub beyond : (i : ℕ) → 256 ≤ i → getD exit i 0 ≡ getD entry i 0
+abbrev pub Kept : List ℕ → List ℕ → Type 0
+Kept entry exit = UnchangedOutside 0 256 entry exit
 
 -- one entry was tried with every letter
 pub record Expanded (bytes : List ℕ) (n k : ℕ) (entry exit : List ℕ) (from r : ℕ) : Type 0 where

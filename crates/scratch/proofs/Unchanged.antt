@@ -1,6 +1,6 @@
 -- What stays as it was where bytes of scratch are written: no change, changes in a row, one store. Assumes nothing.
 use Prim.Native.Nat.{ℕ, _≤_, _<_}
-use mathlib.Core.Path.{refl, _∙_}
+use mathlib.Core.Path.{refl, sym, _∙_}
 use mathlib.Core.List.{List}
 use native.Mathlib.Omega.{arith}
 use lib.ListN.{length, set, length-set}
@@ -10,6 +10,10 @@ use Rattle.scratch.specs.Bytes.{UnchangedOutside}
 -- nothing changed
 pub unchanged-none : (from to : ℕ) (l : List ℕ) → UnchangedOutside from to l l
 unchanged-none from to l = record { same-length = refl; before = λ i h. refl; after = λ i h. refl }
+
+-- the other way round
+pub unchanged-sym : {from to : ℕ} {l now : List ℕ} → UnchangedOutside from to l now → UnchangedOutside from to now l
+unchanged-sym k = record { same-length = sym (k .same-length); before = λ i h. sym (k .before i h); after = λ i h. sym (k .after i h) }
 
 -- two changes in a row
 pub unchanged-both : {from to : ℕ} {l now next : List ℕ} → UnchangedOutside from to l now → UnchangedOutside from to now next → UnchangedOutside from to l next

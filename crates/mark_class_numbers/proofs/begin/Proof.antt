@@ -22,7 +22,7 @@ begin-row-requires : tie.Need-begin-row-requires Inv-loop μ-loop
 begin-row-requires c κs =
     let d = c .before .before in
     let b = d .before .before .before in
-    (b .pre .0, (b .pre .1 .0, (omega (arith, b .pre .1 .1, d .loop .inv .0 .same-length), c .before .loop-test .taken)))
+    (b .pre .0, (b .pre .1 .0, (omega (arith, b .pre .1 .1, d .loop .inv .0 .kept .same-length), c .before .loop-test .taken)))
 
 add-s : tie.Need-add-s Inv-loop μ-loop
 add-s c = omega arith
@@ -36,7 +36,7 @@ loop-again c =
     (begun-row (d .loop .s) (d .loop .inv .0) (c .before .before .begin-row .ensures), omega arith)
 
 same-length : tie.Need-same-length Inv-loop μ-loop
-same-length c = c .before .loop .inv .0 .same-length
+same-length c = c .before .loop .inv .0 .kept .same-length
 
 returns : tie.Need-returns Inv-loop μ-loop
 returns c =

@@ -24,7 +24,7 @@ Turn = tie.In-loop Inv-loop μ-loop
 place : (d : Turn) → CellNeeds (d .before .before .before .before .args .n) (d .before .before .before .before .args .s) (d .before .loop .e) (d .before .loop .out)
 place d =
     let b = d .before .before .before .before in
-    cell-place (b .pre .0 .small) (b .pre .1 .1 .1) (d .loop-test .taken) (omega (arith, b .pre .1 .1 .0, d .before .loop .inv .0 .same-length))
+    cell-place (b .pre .0 .small) (b .pre .1 .1 .1) (d .loop-test .taken) (omega (arith, b .pre .1 .1 .0, d .before .loop .inv .0 .kept .same-length))
 
 loop-holds : tie.Need-loop-holds Inv-loop μ-loop
 loop-holds c =
@@ -61,7 +61,7 @@ loop-again c =
     (begun-more (t .loop-test .taken) (omega arith) (t .before .loop .inv .0) (c .before .before .store .ensures) (c .before .before .before .before .first-number .ensures), omega arith)
 
 same-length : tie.Need-same-length Inv-loop μ-loop
-same-length c = c .before .loop .inv .0 .same-length
+same-length c = c .before .loop .inv .0 .kept .same-length
 
 returns : tie.Need-returns Inv-loop μ-loop
 returns c =

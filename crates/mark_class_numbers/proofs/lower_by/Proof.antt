@@ -3,7 +3,7 @@
 use borrow.Author.Needs.{needs}
 use Rattle.rule_table.proofs.Facts.{table-place, product-below}
 use Rattle.theory.proofs.BestConjugates.{so-far-left, so-far-right}
-use Rattle.mark_class_numbers.proofs.Bytes.{kept-none}
+use Rattle.scratch.proofs.Unchanged.{unchanged-none}
 use Rattle.mark_class_numbers.proofs.Passes.{advanced-lowered}
 use Rattle.mark_class_numbers.proofs.lower_by.Statement.{statement}
 use Rattle.mark_class_numbers.proofs.lower_by.Tie as tie
@@ -26,7 +26,7 @@ returns c =
     let pre = d .before .before .before .pre .1 .1 in
     let old = pre .1 .1 in
     let numbers = so-far-left (pre .0 .0) (pre .0 .1) (old .numbers) (d .product .ensures) (c .before .before .product2 .ensures) (c .before .product3 .ensures) (c .if1 .taken) in
-    record { classed = record { numbers = numbers; bytes-small = old .bytes-small }; kept = kept-none _ _ }
+    record { classed = record { numbers = numbers; bytes-small = old .bytes-small }; kept = unchanged-none 0 _ _ }
 
 product-requires-4 : tie.Need-product-requires-4
 product-requires-4 c κs =
@@ -42,7 +42,7 @@ returns-2 c =
     let pre = d .before .before .before .before .pre .1 .1 in
     let old = pre .1 .1 in
     let numbers = so-far-right (pre .0 .0) (pre .0 .1) (old .numbers) (d .before .product .ensures) (d .product2 .ensures) (c .before .product4 .ensures) (c .if2 .taken) in
-    record { classed = record { numbers = numbers; bytes-small = old .bytes-small }; kept = kept-none _ _ }
+    record { classed = record { numbers = numbers; bytes-small = old .bytes-small }; kept = unchanged-none 0 _ _ }
 
 lower-requires : tie.Need-lower-requires
 lower-requires c κs =

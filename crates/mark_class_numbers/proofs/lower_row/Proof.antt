@@ -5,7 +5,7 @@ use native.Mathlib.Omega.{arith}
 use native.Mathlib.Nat.{add-zero}
 use Rattle.formats.specs.Table.{morphismAt}
 use Rattle.mark_class_numbers.specs.Cells.{Advanced}
-use Rattle.mark_class_numbers.proofs.Bytes.{kept-none}
+use Rattle.scratch.proofs.Unchanged.{unchanged-none}
 use Rattle.mark_class_numbers.proofs.Passes.{advanced-both}
 use Rattle.mark_class_numbers.proofs.lower_row.Statement.{statement}
 use Rattle.mark_class_numbers.proofs.lower_row.Tie as tie
@@ -19,7 +19,7 @@ abbrev μ-loop : tie.MeasureT-loop
 loop-holds : tie.Need-loop-holds Inv-loop μ-loop
 loop-holds c =
     let b = c .before .before in
-    (rw add-zero (record { classed = b .pre .1 .1 .1 .1; kept = kept-none _ _ }), omega arith)
+    (rw add-zero (record { classed = b .pre .1 .1 .1 .1; kept = unchanged-none 0 _ _ }), omega arith)
 
 lower-by-requires : tie.Need-lower-by-requires Inv-loop μ-loop
 lower-by-requires c κs =

@@ -5,7 +5,8 @@ use native.Mathlib.Omega.{arith}
 use native.Mathlib.Nat.{zero-mul}
 use Rattle.formats.specs.Table.{morphismAt}
 use Rattle.mark_class_numbers.specs.Cells.{Advanced}
-use Rattle.mark_class_numbers.proofs.Bytes.{pairs-small, kept-none}
+use Rattle.scratch.proofs.Unchanged.{unchanged-none}
+use Rattle.mark_class_numbers.proofs.Bytes.{pairs-small}
 use Rattle.mark_class_numbers.proofs.Passes.{advanced-both, advanced-row, advanced-all}
 use Rattle.mark_classes.proofs.write_classes.Statement.{statement}
 use Rattle.mark_classes.proofs.write_classes.Tie as tie
@@ -22,7 +23,7 @@ begin-requires c κs =
     (b .pre .0, (b .pre .1 .0, omega (arith, pairs-small (b .pre .0 .small), b .pre .1 .1)))
 
 loop-holds : tie.Need-loop-holds Inv-loop μ-loop
-loop-holds c = (rw zero-mul (record { classed = c .before .before .begin .ensures .classed; kept = kept-none _ _ }), omega arith)
+loop-holds c = (rw zero-mul (record { classed = c .before .before .begin .ensures .classed; kept = unchanged-none 0 _ _ }), omega arith)
 
 lower-row-requires : tie.Need-lower-row-requires Inv-loop μ-loop
 lower-row-requires c κs =
