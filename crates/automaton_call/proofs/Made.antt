@@ -17,8 +17,9 @@ use Rattle.buchi.proofs.MatrixTables.{TableOf, table-lawful, table-matrices}
 use Rattle.buchi.proofs.Numberings.{more-matrices}
 use Rattle.automaton_matrices.specs.Bytes.{letterEntry}
 use Rattle.automaton_matrices.proofs.Letters.{stands-letter}
+use Rattle.scratch.proofs.Unchanged.{unchanged-sym, unchanged-wider}
 use Rattle.automaton_matrix_search.specs.Lists.{matrixAt, ListNeeds, StandsHere, Kept, stepEntry, StepNumber, AllListed}
-use Rattle.automaton_matrix_search.proofs.Growing.{kept-sym, kept-less, here-kept}
+use Rattle.automaton_matrix_search.proofs.Growing.{here-kept}
 use Rattle.automaton_matrix_search.proofs.Staying.{matrix-stays}
 use Rattle.automaton_table.specs.Laying.{laidRule, laidMarks, initialStates, StepList, ProductNumber, MarkNeeds, RuleLaid}
 use Rattle.formats.specs.FirstWords.{ByFirstWords}
@@ -54,7 +55,7 @@ module _ {t : Automaton} {kinds : List ℕ} {n k count : ℕ} {entry listed : Li
     m = laidRule laid count k
 
     product-number : (i j : ℕ) → i < count → j < count → ProductNumber n count listed i j (m .product i j)
-    product-number i j hi hj = product-number-stays (kept-sym (r .kept)) (all .list .few-states) (all .list .few) hi hj (r .products i j hi hj)
+    product-number i j hi hj = product-number-stays (unchanged-sym (r .kept)) (all .list .few-states) (all .list .few) hi hj (r .products i j hi hj)
 
     image-number : (x : ℕ) → x < k → StepNumber kinds n listed count 0 x (m .image x)
     image-number x h =
@@ -124,7 +125,7 @@ module _ {t : Automaton} {kinds : List ℕ} {n k count : ℕ} {entry listed : Li
 
     -- the matrices are those of the list
     matrix-same : {i : ℕ} → i < count → SameEntries (t .states) (matrixAt listed i) (matrixAt laid i)
-    matrix-same h = let few = all .list .few in over-states (matrix-stays (kept-less (omega arith) (r .kept)) (all .list .few-states) (omega arith))
+    matrix-same h = let few = all .list .few in over-states (matrix-stays (unchanged-wider (omega arith) (omega arith) (r .kept)) (all .list .few-states) (omega arith))
 
     pub laid-marking : MarkedBy t (laidRule laid count k) (matrixAt listed) (marked (laidMarks laid))
     unfolding marked level

@@ -10,8 +10,9 @@ ghost use Rattle.rule_marks.specs.Faults.{LinkedAnswer};
 ghost use Rattle.buchi.proofs.MatrixTests.{returns-at, returns-from, recurs-test};
 ghost use Rattle.automaton_matrices.specs.Bytes.{initialAt};
 ghost use Rattle.automaton_matrix_search.specs.Lists.{matrixAt};
-ghost use Rattle.automaton_table.specs.Laying.{RowFilled, RowsFilled, laidRule, initialStates, PairNeeds, MarkNeeds, MarkByte};
+ghost use Rattle.automaton_table.specs.Laying.{laidRule, initialStates, PairNeeds, MarkNeeds, MarkByte};
 ghost use Rattle.scratch.specs.Map.{laidMarksBase};
+ghost use Rattle.scratch.specs.Rows.{RowFilled, RowsFilled};
 ghost use Rattle.formats.specs.RuleChecks.{scratchSize};
 
 // Whether the pair (s, e) is linked by the products that were laid out.

@@ -16,7 +16,8 @@ use Rattle.automaton_matrix_search.specs.Lists.{matrixAt, nextAt, parentAt, let
 use Rattle.automaton_matrix_search.specs.Steps.{StepsTaken, Following, FollowAnswer, Followed, LetterList, SearchAt, Multiplied, MultipliedFull, MultiplyAnswer, ProductsAdded, ListClosed}
 use Rattle.automaton_matrix_search.specs.declared.MatrixCount.{MatrixCount}
 use Rattle.automaton_matrix_search.specs.declared.MatrixCount.the-variants.{Listed, TooMany}
-use Rattle.automaton_matrix_search.proofs.Growing.{among-same, kept-refl, kept-trans, here-kept, place-kept}
+use Rattle.scratch.proofs.Unchanged.{unchanged-none, unchanged-both}
+use Rattle.automaton_matrix_search.proofs.Growing.{among-same, here-kept, place-kept}
 use Rattle.automaton_matrix_list.proofs.Order.{step-among}
 use Rattle.automaton_matrix_list.proofs.Following.{rich-kept, entry-taken, taken-from}
 
@@ -96,7 +97,7 @@ pub record Closing (n k : ℕ) (entry : List ℕ) (begun : ℕ) (now : List ℕ)
   pub taken : (kinds : List ℕ) → SearchAt n k entry begun 1 kinds → StepsTaken kinds n k entry now count (from + 1) 0
 
 pub closing-start : {n k begun : ℕ} {entry : List ℕ} → LetterList n k entry begun → Closing n k entry begun entry begun 0
-closing-start l = record { kept = kept-refl; letters = l; within = omega arith; taken = λ kinds s. s .taken }
+closing-start l = record { kept = unchanged-none _ _ _; letters = l; within = omega arith; taken = λ kinds s. s .taken }
 
 module _ {n k : ℕ} {entry : List ℕ} {begun : ℕ} {now : List ℕ} {count from : ℕ} (s : Closing n k entry begun now count from) where
   pub closing-few : from ≤ 64
@@ -106,7 +107,7 @@ module _ {n k : ℕ} {entry : List ℕ} {begun : ℕ} {now : List ℕ} {count fr
   search-now : {kinds : List ℕ} → SearchAt n k entry begun 1 kinds → SearchAt n k now count (from + 1) kinds
   search-now {kinds} e =
       let t = s .taken kinds e in
-      record { place = place-kept (s .kept) (e .place); taken = record { kept = kept-refl; words = t .words; steps = t .steps; found = t .found } }
+      record { place = place-kept (s .kept) (e .place); taken = record { kept = unchanged-none _ _ _; words = t .words; steps = t .steps; found = t .found } }
 
   -- one matrix more was multiplied
   pub closing-next : {next : List ℕ} {total : ℕ} {answer : MatrixCount} → from < count → ProductsAdded n k now count (from + 1) next answer → answer ≡ Listed total
@@ -115,7 +116,7 @@ module _ {n k : ℕ} {entry : List ℕ} {begun : ℕ} {now : List ℕ} {count fr
       let r : Multiplied n k now count (from + 1) next total k = subst (MultiplyAnswer n k now count (from + 1) next) e (a .says) in
       let more = r .grown .more in
       record {
-        kept = kept-trans (s .kept) (a .kept);
+        kept = unchanged-both (s .kept) (a .kept);
         letters = r .letters;
         within = omega arith;
         taken = λ kinds f. taken-from (s .kept) (entry-taken (omega arith) (r .following kinds (search-now f) .taken));
@@ -125,7 +126,7 @@ module _ {n k : ℕ} {entry : List ℕ} {begun : ℕ} {now : List ℕ} {count fr
   pub closing-full : {next : List ℕ} {answer : MatrixCount} → ProductsAdded n k now count (from + 1) next answer → answer ≡ TooMany → ListClosed n k entry begun next TooMany
   closing-full {next} a e =
       let r : MultipliedFull n k now count (from + 1) = subst (MultiplyAnswer n k now count (from + 1) next) e (a .says) in
-      let kept = kept-trans (s .kept) (a .kept) in
+      let kept = unchanged-both (s .kept) (a .kept) in
       record { kept = kept; closed = λ kinds f. record { kept = kept; says = rich-kept (s .kept) (r .rich kinds (search-now f)) } }
 
   pub closing-done : 1 ≤ k → count ≤ from → ListClosed n k entry begun now (Listed count)
@@ -138,7 +139,7 @@ module _ {kinds : List ℕ} {n k : ℕ} {entry now : List ℕ} {answer : MatrixC
   begun-taken {begun} e =
       let r : Following kinds n k entry 0 0 now begun k = subst (FollowAnswer kinds n k entry 0 0 now) e (a .says) in
       let t : StepsTaken kinds n k entry now begun 1 0 = entry-taken (omega arith) (r .taken) in
-      record { kept = kept-refl; words = t .words; steps = t .steps; found = t .found }
+      record { kept = unchanged-none _ _ _; words = t .words; steps = t .steps; found = t .found }
 
   pub begun-list : {begun : ℕ} → answer ≡ Listed begun → LetterList n k now begun
   begun-list {begun} e =
@@ -151,7 +152,7 @@ module _ {kinds : List ℕ} {n k : ℕ} {entry now : List ℕ} {answer : MatrixC
   -- what holds of the list that the letters began holds from the start
   from-start : {exit : List ℕ} {last : MatrixCount} → MatricesAnswer kinds n k now exit last → MatricesAnswer kinds n k entry exit last
   from-start {last = Listed count} r = record {
-    kept = kept-trans (a .kept) (r .kept);
+    kept = unchanged-both (a .kept) (r .kept);
     says = record {
       some = r .says .some;
       list = r .says .list;
@@ -160,7 +161,7 @@ module _ {kinds : List ℕ} {n k : ℕ} {entry now : List ℕ} {answer : MatrixC
       in-order = λ t h. r .says .in-order t (here-kept (a .kept) h);
     };
   }
-  from-start {last = TooMany} r = record { kept = kept-trans (a .kept) (r .kept); says = rich-kept (a .kept) (r .says) }
+  from-start {last = TooMany} r = record { kept = unchanged-both (a .kept) (r .kept); says = rich-kept (a .kept) (r .says) }
 
   pub begun-done : {begun : ℕ} {exit : List ℕ} {last : MatrixCount} → answer ≡ Listed begun → ListClosed n k now begun exit last → MatricesAnswer kinds n k entry exit last
   begun-done e r = from-start (r .closed kinds (record { place = place-kept (a .kept) place; taken = begun-taken e }))

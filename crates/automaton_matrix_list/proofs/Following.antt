@@ -15,7 +15,8 @@ use Rattle.automaton_matrix_search.specs.Lists.{stepPlace, nextAt, parentAt, le
 use Rattle.automaton_matrix_search.specs.Steps.{Full, StepTaken, StepAnswer, StepAdded, IsWord, FoundFrom, StepsTaken, Following, Followed}
 use Rattle.automaton_matrix_search.specs.declared.MatrixCount.{MatrixCount}
 use Rattle.automaton_matrix_search.specs.declared.MatrixCount.the-variants.{Listed, TooMany}
-use Rattle.automaton_matrix_search.proofs.Growing.{kept-trans, here-kept, grown-refl, grown-trans}
+use Rattle.scratch.proofs.Unchanged.{unchanged-both}
+use Rattle.automaton_matrix_search.proofs.Growing.{here-kept, grown-refl, grown-trans}
 use Rattle.automaton_matrix_list.proofs.Order.{step-among, step-grown, step-among-grown, number-grown, found-grown}
 use Rattle.automaton_matrix_list.proofs.Words.{words-added, too-rich}
 
@@ -59,7 +60,7 @@ module _ {kinds : List ℕ} {n k : ℕ} where
 
   -- what was taken from a list on was taken from the one before on
   pub taken-from : {before entry exit : List ℕ} {total p x : ℕ} → Kept before entry → StepsTaken kinds n k entry exit total p x → StepsTaken kinds n k before exit total p x
-  taken-from b s = record { kept = kept-trans b (s .kept); words = s .words; steps = s .steps; found = s .found }
+  taken-from b s = record { kept = unchanged-both b (s .kept); words = s .words; steps = s .steps; found = s .found }
 
 -- ---- one letter after the other
 
@@ -127,7 +128,7 @@ module _ {kinds : List ℕ} {n k count p : ℕ} {entry : List ℕ} (place : List
     following-next a = record {
       grown = grown-trans (f .grown) (a .added .grown);
       taken = record {
-        kept = kept-trans (f .taken .kept) (a .added .grown .kept);
+        kept = unchanged-both (f .taken .kept) (a .added .grown .kept);
         words = words-added (f .taken .words) word (a .added);
         steps = λ q y s l. numbers a q y l (next-letter s);
         found = λ j b. sources a j b (le-or-lt total j);
@@ -136,7 +137,7 @@ module _ {kinds : List ℕ} {n k count p : ℕ} {entry : List ℕ} (place : List
 
     -- or the list is full
     pub following-full : {next : List ℕ} → Full n now total m → Kept now next → Followed kinds n k entry count p next TooMany
-    following-full d e = record { kept = kept-trans (f .taken .kept) e; says = rich-kept (f .taken .kept) (too-rich (f .taken .words) word d) }
+    following-full d e = record { kept = unchanged-both (f .taken .kept) e; says = rich-kept (f .taken .kept) (too-rich (f .taken .words) word d) }
 
   -- every letter was followed
   pub following-all : {now : List ℕ} {total x : ℕ} → Following kinds n k entry count p now total x → x ≤ k → k ≤ x → Followed kinds n k entry count p now (Listed total)

@@ -9,7 +9,7 @@ use Rattle.automaton_products.specs.Arrays.{entryIn}
 use Rattle.automaton_matrices.specs.Bytes.{LetterNeeds, IsLetter}
 use Rattle.automaton_matrix_search.specs.Lists.{ListNeeds, MatrixList, stepEntry}
 use Rattle.automaton_matrix_search.specs.Steps.{Following}
-use Rattle.automaton_matrix_search.proofs.Growing.{kept-refl}
+use Rattle.scratch.proofs.Unchanged.{unchanged-none}
 use Rattle.automaton_matrix_list.proofs.Following.{following-start}
 
 -- the bytes of the next letter are there
@@ -36,7 +36,7 @@ module _ {kinds : List ℕ} {n k : ℕ} {entry : List ℕ} (place : ListNeeds ki
 
   pub letters-start : Following kinds n k entry 0 0 entry 0 0
   letters-start = following-start (record {
-    kept = kept-refl;
+    kept = unchanged-none _ _ _;
     words = record { list = empty-list; words = λ i h. absurd (omega arith) };
     steps = λ q y s l. absurd (none-sooner s);
     found = λ j h. absurd (omega arith);

@@ -18,7 +18,8 @@ use Rattle.automaton_matrix_search.specs.Lists.{matrixAt, stepPlace, nextAt, Ke
 use Rattle.automaton_matrix_search.specs.Steps.{Full, StepTaken, IsWord, LetterList, SearchAt, Multiplied, ProductsAdded}
 use Rattle.automaton_matrix_search.specs.declared.MatrixCount.the-variants.{Listed, TooMany}
 use Rattle.automaton_matrix_search.proofs.Finding.{list-place}
-use Rattle.automaton_matrix_search.proofs.Growing.{kept-trans, grown-refl, grown-trans}
+use Rattle.scratch.proofs.Unchanged.{unchanged-both}
+use Rattle.automaton_matrix_search.proofs.Growing.{grown-refl, grown-trans}
 use Rattle.automaton_matrix_list.proofs.Following.{following-start, following-next, following-full}
 use Rattle.automaton_matrix_list.proofs.Words.{word-same, word-letter}
 
@@ -98,7 +99,7 @@ module _ {n k count from : ℕ} {entry : List ℕ} (l : LetterList n k entry cou
       -- or the list is full
       pub multiplied-full : {next : List ℕ} → Full n now total m → Kept now next → ProductsAdded n k entry count (from + 1) next TooMany
       multiplied-full d e = record {
-        kept = kept-trans (r .grown .kept) e;
+        kept = unchanged-both (r .grown .kept) e;
         says = record {
           rich = λ kinds s. following-full (s .place) (omega arith) (r .following kinds s) h (product-word kinds s) (product-made kinds s) d e .says;
         };

@@ -22,7 +22,8 @@ use Rattle.automaton_products.specs.Arrays.{entryIn}
 use Rattle.automaton_matrices.specs.Bytes.{IsLetter}
 use Rattle.automaton_matrix_search.specs.Lists.{matrixAt, StandsHere, Kept, TooRich}
 use Rattle.automaton_matrix_search.specs.Steps.{AddedTo, Full, IsWord, WordList}
-use Rattle.automaton_matrix_search.proofs.Growing.{other-sym, kept-sym, here-kept}
+use Rattle.scratch.proofs.Unchanged.{unchanged-sym}
+use Rattle.automaton_matrix_search.proofs.Growing.{other-sym, here-kept}
 
 -- ---- one matrix
 
@@ -37,7 +38,7 @@ module _ {kinds : List ℕ} {n k : ℕ} {scratch : List ℕ} where
 
   -- another list
   pub word-kept : {exit : List ℕ} {M : Matrix} → Kept scratch exit → IsWord kinds n k scratch M → IsWord kinds n k exit M
-  word-kept e w = record { word = λ t h. w .word t (here-kept (kept-sym e) h) }
+  word-kept e w = record { word = λ t h. w .word t (here-kept (unchanged-sym e) h) }
 
   module _ {x : ℕ} {m : List (List ℕ)} (h : x < k) (l : IsLetter kinds n scratch x m) where
     -- in an automaton that stands there x is a letter, and m its matrix

@@ -1,35 +1,36 @@
 -- One matrix added to the list, unless it is there or the list is full. Assumes nothing.
 use Prim.Native.Nat.{ℕ, _+_, _≤_, _<_}
-use mathlib.Core.Path.{_≡_, refl, sym, _∙_}
+use mathlib.Core.Path.{_≡_, sym, _∙_}
 use mathlib.Core.Logic.{_≢_}
 use mathlib.Core.List.{List}
 use native.Mathlib.Omega.{arith}
 use native.Mathlib.Decide.{ℕ-discrete}
-use lib.ListN.{getD}
 use Rattle.buchi.specs.Matrices.{SameEntries, OtherEntry}
 use Rattle.buchi.proofs.MatrixLists.{number-of}
 use Rattle.automaton_products.specs.Arrays.{entryIn, StateEntries, MatrixShape}
 use Rattle.automaton_matrices.specs.Bytes.{Stored}
 use Rattle.automaton_matrices.proofs.Storing.{stored-same, stored-entries, stored-other}
-use Rattle.automaton_matrix_search.specs.Lists.{matrixAt, MatrixList, Kept}
+use Rattle.scratch.specs.Bytes.{UnchangedOutside}
+use Rattle.scratch.specs.Map.{matricesBase, stepsBase}
+use Rattle.scratch.proofs.Unchanged.{unchanged-none, unchanged-wider}
+use Rattle.automaton_matrix_search.specs.Lists.{matrixAt, MatrixList}
 use Rattle.automaton_matrix_search.specs.Steps.{Added}
 use Rattle.automaton_matrix_search.specs.declared.Addition.the-variants.{Placed, NoPlace}
 use Rattle.automaton_matrix_search.proofs.Finding.{answer-same, answer-other}
-use Rattle.automaton_matrix_search.proofs.Growing.{other-same, other-sym, kept-refl, grown-refl}
+use Rattle.automaton_matrix_search.proofs.Growing.{other-same, other-sym, grown-refl}
 
 module _ {n count at : ℕ} {scratch : List ℕ} {m : List (List ℕ)} (list : MatrixList n scratch count)
     (e : at ≡ number-of n count (matrixAt scratch) (entryIn m)) where
   -- it is there
   pub add-there : at < count → Added n scratch count m scratch (Placed at count)
   add-there h = record {
-    kept = kept-refl;
-    behind = λ i l. refl;
+    kept = unchanged-none _ _ _;
     says = record { grown = grown-refl list; below = h; same = answer-same (matrixAt scratch) (entryIn m) e h; only = λ j l b. absurd (omega arith); one-more = omega arith };
   }
 
   -- the list is full
   pub add-full : count ≤ at → count ≡ 64 → Added n scratch count m scratch NoPlace
-  add-full h d = record { kept = kept-refl; behind = λ i l. refl; says = record { full = d; other = answer-other (matrixAt scratch) (entryIn m) e h } }
+  add-full h d = record { kept = unchanged-none _ _ _; says = record { full = d; other = answer-other (matrixAt scratch) (entryIn m) e h } }
 
   -- it gets the next place
   module _ {exit : List ℕ} (h : count ≤ at) (f : count ≢ 64) (shape : MatrixShape n m) (s : Stored scratch exit 8192 count m 6) where
@@ -65,13 +66,10 @@ module _ {n count at : ℕ} {scratch : List ℕ} {m : List (List ℕ)} (list : M
         let hj : j < count = omega arith in
         other-same (old i hi) (old j hj) (list .apart i j hi hj g)
 
-    kept : Kept scratch exit
+    kept : UnchangedOutside matricesBase stepsBase scratch exit
     kept =
         let few = list .few in
-        record { same-length = s .same-length; same = λ j l. s .before j (omega arith) }
-
-    list-only : (i : ℕ) → 12288 ≤ i → getD exit i 0 ≡ getD scratch i 0
-    list-only i l = let few = list .few in s .behind i (omega arith)
+        record { same-length = s .same-length; before = λ j l. s .before j (omega arith); after = λ j l. s .behind j (omega arith) }
 
     longer : MatrixList n exit (count + 1)
     longer =
@@ -90,9 +88,8 @@ module _ {n count at : ℕ} {scratch : List ℕ} {m : List (List ℕ)} (list : M
     pub add-new : Added n scratch count m exit (Placed count (count + 1))
     add-new = record {
       kept = kept;
-      behind = list-only;
       says = record {
-        grown = record { list = longer; more = omega arith; same = old; kept = kept };
+        grown = record { list = longer; more = omega arith; same = old; kept = unchanged-wider (omega arith) (omega arith) kept };
         below = omega arith;
         same = new;
         only = only;

@@ -1,6 +1,6 @@
 -- Lists of matrices that grow: a step after a step is a step, and the bytes of the transitions are kept. Assumes nothing.
-use Prim.Native.Nat.{ℕ, _≤_, _<_}
-use mathlib.Core.Path.{refl, sym, _∙_}
+use Prim.Native.Nat.{ℕ, _<_}
+use mathlib.Core.Path.{sym, _∙_}
 use mathlib.Core.List.{List}
 use native.Mathlib.Omega.{arith}
 use Rattle.buchi.specs.Automata.{Automaton}
@@ -9,7 +9,8 @@ use Rattle.buchi.proofs.Products.{same-trans, same-sym, same-refl}
 use Rattle.buchi.proofs.MatrixLists.{Among}
 use Rattle.automaton_matrices.specs.Bytes.{letterEntry}
 use Rattle.automaton_matrices.proofs.Letters.{SameSteps, letter-kept, stands-kept}
-use Rattle.automaton_matrix_search.specs.Lists.{ListNeeds, StandsHere, MatrixList, KeptBelow, Kept}
+use Rattle.scratch.proofs.Unchanged.{unchanged-none, unchanged-both}
+use Rattle.automaton_matrix_search.specs.Lists.{ListNeeds, StandsHere, MatrixList, Kept}
 use Rattle.automaton_matrix_search.specs.Steps.{Grown}
 
 -- ---- entries
@@ -33,20 +34,8 @@ among-same e a = record { at = a .at; below = a .below; same = same-trans (same-
 
 -- ---- bytes
 
-pub kept-refl : {limit : ℕ} {l : List ℕ} → KeptBelow limit l l
-kept-refl = record { same-length = refl; same = λ i h. refl }
-
-pub kept-sym : {limit : ℕ} {a b : List ℕ} → KeptBelow limit a b → KeptBelow limit b a
-kept-sym k = record { same-length = sym (k .same-length); same = λ i h. sym (k .same i h) }
-
-pub kept-trans : {limit : ℕ} {a b c : List ℕ} → KeptBelow limit a b → KeptBelow limit b c → KeptBelow limit a c
-kept-trans k l = record { same-length = l .same-length ∙ k .same-length; same = λ i h. l .same i h ∙ k .same i h }
-
-pub kept-less : {limit less : ℕ} {a b : List ℕ} → less ≤ limit → KeptBelow limit a b → KeptBelow less a b
-kept-less le k = record { same-length = k .same-length; same = λ i h. k .same i (omega arith) }
-
 pub kept-steps : {a b : List ℕ} → Kept a b → SameSteps a b
-kept-steps k = record { same-length = k .same-length; same = λ i h. k .same i (omega arith) }
+kept-steps k = record { same-length = k .same-length; same = λ i h. k .before i (omega arith) }
 
 pub here-kept : {t : Automaton} {kinds : List ℕ} {n k : ℕ} {a b : List ℕ} → Kept a b → StandsHere t kinds n k a → StandsHere t kinds n k b
 here-kept h s = record { stands = stands-kept (kept-steps h) (s .stands); states = s .states; letters = s .letters }
@@ -57,13 +46,13 @@ place-kept h p = record { few-states = p .few-states; few-letters = p .few-lette
 -- ---- lists
 
 pub grown-refl : {n count : ℕ} {scratch : List ℕ} → MatrixList n scratch count → Grown n scratch count scratch count
-grown-refl l = record { list = l; more = omega arith; same = λ i h. same-refl; kept = kept-refl }
+grown-refl l = record { list = l; more = omega arith; same = λ i h. same-refl; kept = unchanged-none _ _ _ }
 
 pub grown-trans : {n i j k : ℕ} {a b c : List ℕ} → Grown n a i b j → Grown n b j c k → Grown n a i c k
 grown-trans g h =
     let l = g .more in
     let r = h .more in
-    record { list = h .list; more = omega arith; same = λ x b. same-trans (g .same x b) (h .same x (omega arith)); kept = kept-trans (g .kept) (h .kept) }
+    record { list = h .list; more = omega arith; same = λ x b. same-trans (g .same x b) (h .same x (omega arith)); kept = unchanged-both (g .kept) (h .kept) }
 
 module _ {n count total : ℕ} {entry exit : List ℕ} (g : Grown n entry count exit total) where
   -- the letters' matrices are as they were

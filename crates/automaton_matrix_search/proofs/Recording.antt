@@ -6,12 +6,12 @@ use native.Mathlib.Omega.{arith}
 use lib.ListN.{length, set, length-set}
 use lib.Seq.{getD-set-same, getD-set-other}
 use Rattle.buchi.proofs.Products.{same-trans}
+use Rattle.scratch.proofs.Unchanged.{unchanged-both, unchanged-wider}
 use Rattle.automaton_matrix_search.specs.Lists.{stepPlace, parentPlace, letterPlace, MatrixList, Kept, KeptBelow}
 use Rattle.automaton_matrix_search.specs.Steps.{Grown, AddedTo, Full, AddAnswer, Added, RecordNeeds, StepRecorded, StepAdded}
 use Rattle.automaton_matrix_search.specs.declared.Addition.{Addition}
 use Rattle.automaton_matrix_search.specs.declared.Addition.the-variants.{Placed, NoPlace}
 use Rattle.automaton_matrix_search.specs.declared.MatrixCount.the-variants.{Listed, TooMany}
-use Rattle.automaton_matrix_search.proofs.Growing.{kept-trans, kept-less}
 use Rattle.automaton_matrix_search.proofs.Staying.{matrix-stays, list-stays}
 
 -- ---- three bytes
@@ -56,7 +56,7 @@ module _ {n count p x : ℕ} {entry mid : List ℕ} {m : List (List ℕ)} (list 
   pub step-full : answer ≡ NoPlace → StepAdded n entry count m p x mid TooMany
   step-full e =
       let f : Full n entry count m = subst (AddAnswer n entry count m mid) e (a .says) in
-      record { kept = a .kept; says = f }
+      record { kept = unchanged-wider (omega arith) (omega arith) (a .kept); says = f }
 
   module _ {number total : ℕ} (e : answer ≡ Placed number total) where
     placed : AddedTo n entry count m mid number total
@@ -75,10 +75,16 @@ module _ {n count p x : ℕ} {entry mid : List ℕ} {m : List (List ℕ)} (list 
 
     module _ {exit : List ℕ} (r : StepRecorded mid exit p x number count) where
       below : KeptBelow 12288 mid exit
-      below = record { same-length = r .same-length; same = λ i h. r .others i (omega arith) (omega arith) (omega arith) }
+      below =
+          let few = list .few in
+          record {
+            same-length = r .same-length;
+            before = λ i h. r .others i (omega arith) (omega arith) (omega arith);
+            after = λ i h. r .others i (omega arith) (omega arith) (omega arith);
+          }
 
       kept : Kept entry exit
-      kept = kept-trans (a .kept) (kept-less (omega arith) below)
+      kept = unchanged-both (unchanged-wider (omega arith) (omega arith) (a .kept)) (unchanged-wider (omega arith) (omega arith) below)
 
       grown : Grown n entry count exit total
       grown =
@@ -109,6 +115,6 @@ module _ {n count p x : ℕ} {entry mid : List ℕ} {m : List (List ℕ)} (list 
           added = subst (λ i. AddedTo n entry count m exit i total) (sym (r .step)) added;
           parent = r .parent;
           letter = r .letter;
-          others = λ i h f g d. r .others i f g d ∙ a .behind i h;
+          others = λ i h f g d. r .others i f g d ∙ a .kept .after i h;
         };
       }

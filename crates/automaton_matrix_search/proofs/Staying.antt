@@ -6,14 +6,15 @@ use native.Mathlib.Omega.{arith}
 use Rattle.buchi.specs.Matrices.{SameEntries}
 use Rattle.automaton_products.specs.Arrays.{StateEntries}
 use Rattle.automaton_matrices.specs.Bytes.{matrixFrom}
+use Rattle.scratch.proofs.Unchanged.{unchanged-wider}
 use Rattle.automaton_matrix_search.specs.Lists.{matrixAt, MatrixList, KeptBelow}
 use Rattle.automaton_matrix_search.specs.Steps.{Grown}
-use Rattle.automaton_matrix_search.proofs.Growing.{other-same, kept-less}
+use Rattle.automaton_matrix_search.proofs.Growing.{other-same}
 
 module _ {a b : List ℕ} (kept : KeptBelow 12288 a b) where
   entry-stays : (i p q : ℕ) → i < 64 → p < 6 → q < 6 → matrixAt b i p q ≡ matrixAt a i p q
   unfolding matrixFrom
-  entry-stays i p q hi hp hq = kept .same (8192 + (i * 64 + (p * 6 + q))) (omega arith)
+  entry-stays i p q hi hp hq = kept .before (8192 + (i * 64 + (p * 6 + q))) (omega arith)
 
   pub matrix-stays : {n i : ℕ} → n ≤ 6 → i < 64 → SameEntries n (matrixAt a i) (matrixAt b i)
   matrix-stays {n} {i} few h = record { same = λ p q hp hq. sym (entry-stays i p q h (omega arith) (omega arith)) }
@@ -39,4 +40,4 @@ module _ {a b : List ℕ} (kept : KeptBelow 12288 a b) where
   pub grown-stays : {n count : ℕ} → MatrixList n a count → Grown n a count b count
   grown-stays l =
       let few = l .few in
-      record { list = list-stays l; more = omega arith; same = λ i h. matrix-stays (l .few-states) (omega arith); kept = kept-less (omega arith) kept }
+      record { list = list-stays l; more = omega arith; same = λ i h. matrix-stays (l .few-states) (omega arith); kept = unchanged-wider (omega arith) (omega arith) kept }

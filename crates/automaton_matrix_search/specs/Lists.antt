@@ -14,7 +14,8 @@ use Rattle.automaton_products.specs.Arrays.{StateEntries}
 use Rattle.automaton_matrices.specs.Bytes.{MarkingAt, matrixFrom, letterEntry}
 use Rattle.automaton_matrix_search.specs.declared.MatrixCount.{MatrixCount}
 use Rattle.automaton_matrix_search.specs.declared.MatrixCount.the-variants.{Listed, TooMany}
-use Rattle.scratch.specs.Map.{matricesBase, stepLettersBase, stepParentsBase, stepsBase}
+use Rattle.scratch.specs.Bytes.{UnchangedOutside}
+use Rattle.scratch.specs.Map.{laidEnd, matricesBase, stepLettersBase, stepParentsBase, stepsBase}
 use Rattle.formats.specs.RuleChecks.{scratchSize}
 
 -- matrix i of the list
@@ -62,10 +63,9 @@ pub record MatrixList (n : ℕ) (scratch : List ℕ) (count : ℕ) : Type 0 wher
   pub entries : (i : ℕ) → i < count → StateEntries n (matrixAt scratch i)
   pub apart : (i j : ℕ) → i < count → j < count → ¬ (i ≡ j) → OtherEntry n (matrixAt scratch i) (matrixAt scratch j)
 
--- the bytes before a place are as they were
-pub record KeptBelow (limit : ℕ) (entry now : List ℕ) : Type 0 where
-  pub same-length : length now ≡ length entry
-  pub same : (i : ℕ) → i < limit → getD now i 0 ≡ getD entry i 0
+-- the bytes before a place are as they were, and so are those behind a rule that is laid out
+abbrev pub KeptBelow : ℕ → List ℕ → List ℕ → Type 0
+KeptBelow limit entry now = UnchangedOutside limit laidEnd entry now
 
 -- those before the list are
 abbrev pub Kept : List ℕ → List ℕ → Type 0

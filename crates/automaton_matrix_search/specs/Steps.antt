@@ -15,7 +15,8 @@ use Rattle.automaton_matrix_search.specs.declared.Addition.{Addition}
 use Rattle.automaton_matrix_search.specs.declared.Addition.the-variants.{Placed, NoPlace}
 use Rattle.automaton_matrix_search.specs.declared.MatrixCount.{MatrixCount}
 use Rattle.automaton_matrix_search.specs.declared.MatrixCount.the-variants.{Listed, TooMany}
-use Rattle.scratch.specs.Map.{stepsBase}
+use Rattle.scratch.specs.Bytes.{UnchangedOutside}
+use Rattle.scratch.specs.Map.{matricesBase, stepsBase}
 use Rattle.formats.specs.RuleChecks.{scratchSize}
 
 -- ---- a matrix is added
@@ -47,8 +48,7 @@ AddAnswer n entry count m exit NoPlace = Full n entry count m
 
 -- the answer, and the bytes before and behind the list
 pub record Added (n : ℕ) (entry : List ℕ) (count : ℕ) (m : List (List ℕ)) (exit : List ℕ) (answer : Addition) : Type 0 where
-  pub kept : Kept entry exit
-  pub behind : (i : ℕ) → stepsBase ≤ i → getD exit i 0 ≡ getD entry i 0
+  pub kept : UnchangedOutside matricesBase stepsBase entry exit
   pub says : AddAnswer n entry count m exit answer
 
 -- ---- a step is taken

@@ -1,4 +1,3 @@
-pub mod Filling
 pub mod Staying
 pub mod Numbers
 pub mod Tests

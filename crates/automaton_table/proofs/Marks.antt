@@ -4,8 +4,6 @@ use mathlib.Core.Path.{_≡_, sym, ap, _∙_, subst}
 use mathlib.Core.Bool.{Bool, true, false, not}
 use mathlib.Core.List.{List}
 use native.Mathlib.Omega.{arith}
-use native.Mathlib.Nat.{mul-le-mul-left, mul-le-mul-right}
-use lib.Arith.{digits-lt}
 use lib.Dec.{T}
 use Rattle.finite.proofs.Tests.{true-T}
 use Rattle.theory.specs.Pairs.{Linked}
@@ -16,20 +14,11 @@ use Rattle.buchi.specs.Matrices.{Matrix, SameEntries}
 use Rattle.buchi.specs.Rule.{Recurs}
 use Rattle.buchi.proofs.MatrixTests.{recurs-test, recurs-intro, recurs-elim}
 use Rattle.automaton_matrix_search.specs.Lists.{matrixAt, KeptBelow}
-use Rattle.automaton_matrix_search.proofs.Growing.{kept-sym, kept-less}
+use Rattle.scratch.proofs.Unchanged.{unchanged-sym, unchanged-wider}
+use Rattle.scratch.proofs.Rows.{pair-small}
 use Rattle.automaton_matrix_search.proofs.Staying.{matrix-stays}
 use Rattle.automaton_table.specs.Laying.{laidRule, initialStates, PairNeeds, MarkNeeds, MarkByte}
 use Rattle.automaton_table.proofs.Tests.{not-not}
-
--- the products of count matrices take up no more than 4096 bytes
-pub product-place : {count i j : ℕ} → count ≤ 64 → i < count → j < count → i * count + j < 4096
-product-place {count} {i} {j} few hi hj =
-    let d : i * count + j < count * count = digits-lt hi hj in
-    let s : count * count ≤ 4096 = square count few in
-    omega arith
-  where
-    square : (c : ℕ) → c ≤ 64 → c * c ≤ 4096
-    square c h = omega (arith, mul-le-mul-right c h, mul-le-mul-left 64 h)
 
 -- the bytes of both matrices of a pair are there
 pub pair-place : {kinds : List ℕ} {n count s e : ℕ} {scratch : List ℕ} → MarkNeeds kinds n scratch count → s < count → e < count → PairNeeds kinds n scratch s e
@@ -80,7 +69,7 @@ recurs-same d f r = record {
 
 module _ {a b : List ℕ} {count : ℕ} (kept : KeptBelow 24576 a b) (few : count ≤ 64) where
   product-byte : {i j : ℕ} → i < count → j < count → laidRule b count 0 .product i j ≡ laidRule a count 0 .product i j
-  product-byte {i} {j} hi hj = let h : i * count + j < 4096 = product-place few hi hj in kept .same (16384 + (i * count + j)) (omega arith)
+  product-byte {i} {j} hi hj = kept .before (16384 + (i * count + j)) (omega (arith, pair-small count i j few hi hj))
 
   pub linked-stays : {s e : ℕ} → Linked (laidRule a count 0) s e → Linked (laidRule b count 0) s e
   linked-stays l = record {
@@ -92,7 +81,7 @@ module _ {a b : List ℕ} {count : ℕ} (kept : KeptBelow 24576 a b) (few : coun
   recurs-stays : (kinds : List ℕ) {n s e : ℕ} → n ≤ 6 → s < count → e < count
       → Recurs (initialStates kinds n) (matrixAt a s) (matrixAt a e) → Recurs (initialStates kinds n) (matrixAt b s) (matrixAt b e)
   recurs-stays kinds small hs he r =
-      let k : KeptBelow 12288 a b = kept-less (omega arith) kept in
+      let k : KeptBelow 12288 a b = unchanged-wider (omega arith) (omega arith) kept in
       recurs-same (matrix-stays k small (omega arith)) (matrix-stays k small (omega arith)) r
 
 pub mark-stays : {kinds a b : List ℕ} {n count s e byte : ℕ} → KeptBelow 24576 a b → n ≤ 6 → count ≤ 64 → s < count → e < count
@@ -100,5 +89,5 @@ pub mark-stays : {kinds a b : List ℕ} {n count s e byte : ℕ} → KeptBelow 2
 mark-stays {kinds} kept small few hs he m = record {
   linked = λ h. linked-stays kept few (m .linked h);
   recurs = λ h. recurs-stays kept few kinds small hs he (m .recurs h);
-  marked = λ l r. m .marked (linked-stays (kept-sym kept) few l) (recurs-stays (kept-sym kept) few kinds small hs he r);
+  marked = λ l r. m .marked (linked-stays (unchanged-sym kept) few l) (recurs-stays (unchanged-sym kept) few kinds small hs he r);
 }

@@ -12,7 +12,7 @@ use Rattle.buchi.proofs.Products.{product, product-same, product-along, same-re
 use Rattle.automaton_matrices.specs.Bytes.{letterEntry}
 use Rattle.automaton_matrix_search.specs.Lists.{matrixAt, nextAt, parentAt, letterAt, stepEntry}
 use Rattle.automaton_table.specs.Laying.{StepNeeds, StepList, RowLaid, TableNumber}
-use Rattle.automaton_table.proofs.Marks.{product-place}
+use Rattle.scratch.proofs.Rows.{pair-small}
 
 -- what was recorded of a list is there
 pub step-place : {kinds : List ℕ} {n count : ℕ} {scratch : List ℕ} → StepList kinds n scratch count → StepNeeds scratch count
@@ -64,7 +64,7 @@ module _ {count i j : ℕ} {scratch : List ℕ} (place : StepNeeds scratch count
     number = row .numbers (parentAt scratch j - 1) earlier
 
     pub before-place : i * count + (parentAt scratch j - 1) < 4096
-    before-place = let h = earlier in product-place (place .few) hi (omega arith)
+    before-place = let h = earlier in pair-small _ _ _ (place .few) hi (omega arith)
 
     pub before-below : getD scratch (16384 + i * count + (parentAt scratch j - 1)) 0 < count
     before-below = number .below

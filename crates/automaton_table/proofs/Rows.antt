@@ -1,49 +1,53 @@
 -- Products and marks laid out byte after byte and row after row. What a byte is to be is found by looking at scratch as it is then, and
 -- holds of scratch as it was at first, for only later bytes have changed. Assumes nothing.
 use Prim.Native.Nat.{ℕ, _+_, _*_, _≤_, _<_}
+use mathlib.Core.Path.{refl}
 use mathlib.Core.List.{List}
 use native.Mathlib.Omega.{arith}
 use lib.ListN.{length, set}
+use Rattle.scratch.specs.Bytes.{UnchangedOutside}
+use Rattle.scratch.specs.Rows.{RowFilled, RowsFilled}
+use Rattle.scratch.proofs.Unchanged.{unchanged-sym, unchanged-wider}
+use Rattle.scratch.proofs.Rows.{pair-small, filled-more, rows-more, rows-all, rows-known}
 use Rattle.automaton_matrix_search.specs.Lists.{KeptBelow}
-use Rattle.automaton_matrix_search.proofs.Growing.{kept-sym, kept-less}
-use Rattle.automaton_table.specs.Laying.{RowFilled, RowsFilled, StepNeeds, StepList, RowLaid, ProductNumber, TableNumber, MarkNeeds, MarkByte}
-use Rattle.automaton_table.proofs.Filling.{row-more, rows-more, rows-all, rows-known}
+use Rattle.automaton_table.specs.Laying.{StepNeeds, StepList, RowLaid, ProductNumber, TableNumber, MarkNeeds, MarkByte}
 use Rattle.automaton_table.proofs.Staying.{place-stays, number-stays}
-use Rattle.automaton_table.proofs.Marks.{product-place, mark-stays}
+use Rattle.automaton_table.proofs.Marks.{mark-stays}
 
 -- ---- the products
 
 module _ {count i : ℕ} {entry : List ℕ} (l : StepNeeds entry count) (hi : i < count) where
   pub row-small : i * count < 4096
-  row-small = let h : i * count + 0 < 4096 = product-place (l .few) hi (omega arith) in omega arith
+  row-small = omega (arith, pair-small count i 0 (l .few) hi (omega arith))
 
-  module _ {j : ℕ} {now : List ℕ} (r : RowFilled (TableNumber count entry i) (16384 + i * count) j entry now) where
+  module _ {j : ℕ} {now : List ℕ} (r : RowFilled (TableNumber count entry i) (16384 + i * count) j entry now) (hj : j < count) where
     kept : KeptBelow 16384 entry now
-    kept = kept-less (omega arith) (r .kept)
+    kept = unchanged-wider (omega arith) (omega (arith, pair-small count i j (l .few) hi hj)) (r .kept)
 
     pub steps-now : StepNeeds now count
     steps-now = place-stays kept l
 
-    module _ (hj : j < count) where
-      pub row-now : RowLaid count now i j
-      row-now = record { numbers = λ y h. number-stays kept (l .few) hi (omega arith) (r .filled y h) }
+    pub row-now : RowLaid count now i j
+    row-now = record { numbers = λ y h. number-stays kept (l .few) hi (omega arith) (r .filled y h) }
 
-      pub product-room : 16384 + i * count + j < length now
-      product-room =
-          let h : i * count + j < 4096 = product-place (l .few) hi hj in
-          omega (arith, steps-now .room)
+    pub product-room : 16384 + i * count + j < length now
+    product-room = omega (arith, pair-small count i j (l .few) hi hj, steps-now .room)
 
-      pub product-more : {byte : ℕ} → TableNumber count now i j byte
-          → RowFilled (TableNumber count entry i) (16384 + i * count) (j + 1) entry (set now (16384 + i * count + j) byte)
-      product-more p = row-more product-room r (number-stays (kept-sym kept) (l .few) hi hj p)
+    pub product-more : {byte : ℕ} → TableNumber count now i j byte
+        → RowFilled (TableNumber count entry i) (16384 + i * count) (j + 1) entry (set now (16384 + i * count + j) byte)
+    product-more p = filled-more refl product-room r (number-stays (unchanged-sym kept) (l .few) hi hj p)
 
-module _ {count i : ℕ} {entry now : List ℕ} (l : StepNeeds entry count) (r : RowsFilled (TableNumber count entry) 16384 count i count entry now) where
-  pub steps-rows-now : StepNeeds now count
-  steps-rows-now = place-stays (r .kept) l
+module _ {count i : ℕ} {entry now : List ℕ} (l : StepNeeds entry count) (r : RowsFilled (TableNumber count entry) 16384 count count i entry now) where
+  module _ (hi : i < count) where
+    rows-kept : KeptBelow 16384 entry now
+    rows-kept = unchanged-wider (omega arith) (omega (arith, row-small l hi)) (r .kept)
 
-  pub products-more : {next : List ℕ} → i < count → RowFilled (TableNumber count now i) (16384 + i * count) count now next
-      → RowsFilled (TableNumber count entry) 16384 count (i + 1) count entry next
-  products-more hi s = rows-more (omega arith) r s (λ j byte hj p. number-stays (kept-sym (r .kept)) (l .few) hi hj p)
+    pub steps-rows-now : StepNeeds now count
+    steps-rows-now = place-stays rows-kept l
+
+    pub products-more : {next : List ℕ} → RowFilled (TableNumber count now i) (16384 + i * count) count now next
+        → RowsFilled (TableNumber count entry) 16384 count count (i + 1) entry next
+    products-more s = rows-more (omega arith) r s (λ j byte hj p. number-stays (unchanged-sym rows-kept) (l .few) hi hj p)
 
   -- all of them, where the bytes were recorded of a list
   pub products-all : i ≤ count → count ≤ i → (kinds : List ℕ) (n : ℕ) → StepList kinds n entry count → RowsFilled (ProductNumber n count entry) 16384 count count count entry now
@@ -51,7 +55,8 @@ module _ {count i : ℕ} {entry now : List ℕ} (l : StepNeeds entry count) (r :
 
 -- ---- the marks
 
-pub marks-place : {kinds : List ℕ} {n count limit : ℕ} {entry now : List ℕ} → MarkNeeds kinds n entry count → KeptBelow limit entry now → MarkNeeds kinds n now count
+pub marks-place : {kinds : List ℕ} {n count from to : ℕ} {entry now : List ℕ} → MarkNeeds kinds n entry count → UnchangedOutside from to entry now
+    → MarkNeeds kinds n now count
 marks-place p k = record { few-states = p .few-states; kinds-long = p .kinds-long; room = rw (k .same-length) (p .room); few = p .few }
 
 module _ {kinds : List ℕ} {n count s : ℕ} {entry : List ℕ} (l : MarkNeeds kinds n entry count) (hs : s < count) where
@@ -61,9 +66,13 @@ module _ {kinds : List ℕ} {n count s : ℕ} {entry : List ℕ} (l : MarkNeeds 
 
     pub mark-more : {byte : ℕ} → MarkByte kinds n count now s e byte
         → RowFilled (MarkByte kinds n count entry s) (24576 + s * 64) (e + 1) entry (set now (24576 + s * 64 + e) byte)
-    mark-more p = row-more mark-room r (mark-stays (kept-sym (kept-less (omega arith) (r .kept))) (l .few-states) (l .few) hs he p)
+    mark-more p =
+        let kept : KeptBelow 24576 entry now = unchanged-wider (omega arith) (omega (arith, l .few)) (r .kept) in
+        filled-more refl mark-room r (mark-stays (unchanged-sym kept) (l .few-states) (l .few) hs he p)
 
-  pub marks-more : {now next : List ℕ} → RowsFilled (MarkByte kinds n count entry) 24576 64 s count entry now
+  pub marks-more : {now next : List ℕ} → RowsFilled (MarkByte kinds n count entry) 24576 64 count s entry now
       → RowFilled (MarkByte kinds n count now s) (24576 + s * 64) count now next
-      → RowsFilled (MarkByte kinds n count entry) 24576 64 (s + 1) count entry next
-  marks-more r t = rows-more (l .few) r t (λ e byte he p. mark-stays (kept-sym (r .kept)) (l .few-states) (l .few) hs he p)
+      → RowsFilled (MarkByte kinds n count entry) 24576 64 count (s + 1) entry next
+  marks-more {now} r t =
+      let kept : KeptBelow 24576 entry now = unchanged-wider (omega arith) (omega (arith, l .few)) (r .kept) in
+      rows-more (l .few) r t (λ e byte he p. mark-stays (unchanged-sym kept) (l .few-states) (l .few) hs he p)

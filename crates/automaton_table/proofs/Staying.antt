@@ -6,7 +6,7 @@ use mathlib.Core.List.{List}
 use native.Mathlib.Omega.{arith}
 use Rattle.buchi.proofs.Products.{product-same, same-sym, same-trans}
 use Rattle.automaton_matrix_search.specs.Lists.{stepPlace, parentPlace, letterPlace, nextAt, parentAt, letterAt, KeptBelow}
-use Rattle.automaton_matrix_search.proofs.Growing.{kept-sym, kept-less}
+use Rattle.scratch.proofs.Unchanged.{unchanged-sym, unchanged-wider}
 use Rattle.automaton_matrix_search.proofs.Staying.{matrix-stays, grown-stays}
 use Rattle.automaton_matrix_list.proofs.Order.{number-grown, made-grown}
 use Rattle.automaton_table.specs.Laying.{StepNeeds, StepList, ProductNumber, TableNumber}
@@ -15,13 +15,13 @@ module _ {a b : List ℕ} (kept : KeptBelow 16384 a b) where
   -- ---- what is recorded
 
   pub step-stays : (p x : ℕ) → p ≤ 64 → x < 16 → nextAt b p x ≡ nextAt a p x
-  step-stays p x h l = kept .same (stepPlace p x) (omega arith)
+  step-stays p x h l = kept .before (stepPlace p x) (omega arith)
 
   pub parent-stays : (j : ℕ) → j < 64 → parentAt b j ≡ parentAt a j
-  parent-stays j h = kept .same (parentPlace j) (omega arith)
+  parent-stays j h = kept .before (parentPlace j) (omega arith)
 
   pub letter-stays : (j : ℕ) → j < 64 → letterAt b j ≡ letterAt a j
-  letter-stays j h = kept .same (letterPlace j) (omega arith)
+  letter-stays j h = kept .before (letterPlace j) (omega arith)
 
   pub place-stays : {count : ℕ} → StepNeeds a count → StepNeeds b count
   place-stays l =
@@ -40,7 +40,7 @@ module _ {a b : List ℕ} (kept : KeptBelow 16384 a b) where
   steps-stay l =
       let few = l .list .few in
       let small = l .few-letters in
-      let same = grown-stays (kept-less (omega arith) kept) (l .list) in
+      let same = grown-stays (unchanged-wider (omega arith) (omega arith) kept) (l .list) in
       record {
         letters = l .letters;
         few-letters = l .few-letters;
@@ -56,7 +56,7 @@ module _ {a b : List ℕ} (kept : KeptBelow 16384 a b) where
   pub product-number-stays : {n count i j r : ℕ} → n ≤ 6 → count ≤ 64 → i < count → j < count → ProductNumber n count a i j r → ProductNumber n count b i j r
   product-number-stays few small hi hj p =
       let below = p .below in
-      let list : KeptBelow 12288 a b = kept-less (omega arith) kept in
+      let list : KeptBelow 12288 a b = unchanged-wider (omega arith) (omega arith) kept in
       record {
         below = p .below;
         same = same-trans (same-sym (product-same (matrix-stays list few (omega arith)) (matrix-stays list few (omega arith)))) (same-trans (p .same) (matrix-stays list few (omega arith)));
@@ -65,5 +65,5 @@ module _ {a b : List ℕ} (kept : KeptBelow 16384 a b) where
 pub number-stays : {a b : List ℕ} {count i j r : ℕ} → KeptBelow 16384 a b → count ≤ 64 → i < count → j < count → TableNumber count a i j r → TableNumber count b i j r
 number-stays kept small hi hj t = record {
   below = t .below;
-  is-product = λ kinds n l. product-number-stays kept (l .list .few-states) small hi hj (t .is-product kinds n (steps-stay (kept-sym kept) l));
+  is-product = λ kinds n l. product-number-stays kept (l .list .few-states) small hi hj (t .is-product kinds n (steps-stay (unchanged-sym kept) l));
 }

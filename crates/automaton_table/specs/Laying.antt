@@ -15,18 +15,6 @@ use Rattle.automaton_matrix_search.specs.Lists.{matrixAt, nextAt, parentAt, let
 use Rattle.scratch.specs.Map.{laidMarksBase, laidProductsBase}
 use Rattle.formats.specs.RuleChecks.{scratchSize}
 
--- ---- bytes that stay, and bytes that are filled
-
--- byte base + j holds what P asks for j, for the first j, and the bytes before are as they were
-pub record RowFilled (P : ℕ → ℕ → Type 0) (base count : ℕ) (entry now : List ℕ) : Type 0 where
-  pub kept : KeptBelow base entry now
-  pub filled : (j : ℕ) → j < count → P j (getD now (base + j) 0)
-
--- byte base + (i·width + j) holds what P asks for i and j, in the first rows and columns, and the bytes before are as they were
-pub record RowsFilled (P : ℕ → ℕ → ℕ → Type 0) (base width rows columns : ℕ) (entry now : List ℕ) : Type 0 where
-  pub kept : KeptBelow base entry now
-  pub filled : (i j : ℕ) → i < rows → j < columns → P i j (getD now (base + (i * width + j)) 0)
-
 -- ---- the rule that is laid out
 
 -- products from byte 16384 on; a letter's image is the matrix that it makes of the empty word

@@ -9,8 +9,9 @@ use scratch::STEP_PARENTS_BASE;
 use scratch::STEPS_BASE;
 ghost use Prim.Native.Nat.{ℕ, _+_, _*_, _<_};
 ghost use mathlib.Core.List.{List};
-ghost use Rattle.automaton_table.specs.Laying.{StepNeeds, StepList, RowLaid, TableNumber, ProductNumber, RowFilled, RowsFilled};
+ghost use Rattle.automaton_table.specs.Laying.{StepNeeds, StepList, RowLaid, TableNumber, ProductNumber};
 ghost use Rattle.scratch.specs.Map.{laidProductsBase};
+ghost use Rattle.scratch.specs.Rows.{RowFilled, RowsFilled};
 
 // The number of the product of matrices i and j, where those of i with the matrices before j are laid out.
 pub fn product_number(scratch: &[u8], count: usize, i: usize, j: usize) -> u8

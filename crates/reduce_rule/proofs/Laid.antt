@@ -21,7 +21,7 @@ use Rattle.reduce_table.specs.Layout.{BlocksNeeds, blockProduct, blockImage, la
 use Rattle.scratch.specs.Map.{laidImagesBase}
 use Rattle.rule_laid.specs.Laid.{LaidNeeds, LaidAs, LaidWritten}
 use Rattle.reduce_rule.specs.Steps.{QuotientNeeds, QuotientWritten}
-use Rattle.reduce_table.proofs.Cells.{pair-small}
+use Rattle.scratch.proofs.Rows.{pair-small}
 use Rattle.reduce_table.proofs.Blocks.{image-kept}
 
 -- a number that says whether a test is passed
@@ -59,7 +59,7 @@ module _ {bytes : List ℕ} {n k c : ℕ} (t : Table bytes n k) {entry table ima
   front-kept i l = f .kept .before i (omega arith) ∙ g .kept .before i l
 
   laid-product : (i j : ℕ) → i < c → j < c → getD images (16384 + (i * c + j)) 0 ≡ blockProduct bytes n entry i j
-  laid-product i j hi hj = f .kept .before (16384 + (i * c + j)) (omega (arith, pair-small c i j (p .blocks .small) hi hj)) ∙ g .cells i j hi hj
+  laid-product i j hi hj = f .kept .before (16384 + (i * c + j)) (omega (arith, pair-small c i j (p .blocks .small) hi hj)) ∙ g .filled i j hi hj
 
   leader-small : (j : ℕ) → j < c → leaderAt entry j < 64
   leader-small j l = omega (arith, t .small, p .blocks .leaders j l)
@@ -124,8 +124,8 @@ module _ {bytes : List ℕ} {n k c : ℕ} (t : Table bytes n k) {entry table ima
         products = λ i j hi hj.
             h .kept .before (16384 + (i * c + j)) (omega (arith, pair-small c i j (p .blocks .small) hi hj)) ∙ laid-product i j hi hj ∙ product-is i j;
         elements = λ a ha.
-            h .kept .before (20480 + a) (omega (arith, t .letters-small)) ∙ f .cells a ha ∙ image-kept (g .kept) (omega arith) t a ha ∙ image-is a;
-        marked = λ i j hi hj. ap (ltb 0) (h .cells i j hi hj) ∙ mark-is i j hi hj;
+            h .kept .before (20480 + a) (omega (arith, t .letters-small)) ∙ f .filled a ha ∙ image-kept (g .kept) (omega arith) t a ha ∙ image-is a;
+        marked = λ i j hi hj. ap (ltb 0) (h .filled i j hi hj) ∙ mark-is i j hi hj;
       }
 
     pub quotient-written : {after : List ℕ} {end : ℕ} → LaidWritten laidImagesBase c k marks out after end → QuotientWritten m c entry marks out after end

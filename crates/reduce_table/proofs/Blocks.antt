@@ -17,7 +17,7 @@ use Rattle.scratch.specs.Bytes.{UnchangedOutside}
 use Rattle.scratch.proofs.Unchanged.{unchanged-room}
 use Rattle.reduce_numbering.specs.Steps.{numberAt, leaderAt}
 use Rattle.reduce_table.specs.Layout.{BlocksNeeds, blockProduct, blockImage, laidProduct, blockOutcome, blockMark}
-use Rattle.reduce_table.proofs.Cells.{pair-small}
+use Rattle.scratch.proofs.Rows.{pair-small}
 
 -- the product of two leaders is one of 64 elements
 pub product-small : {bytes : List ℕ} {n k c : ℕ} {scratch : List ℕ} → Table bytes n k → BlocksNeeds n c scratch → (i j : ℕ) → i < c → j < c

@@ -14,7 +14,7 @@ use lib.Dec.{eqb, ltb}
 use Rattle.finite.proofs.Search.{bit}
 use Rattle.formats.specs.Table.{productAt, imageAt}
 use Rattle.reduce_first_round.specs.Map.{outcomeAt}
-use Rattle.scratch.specs.Bytes.{UnchangedOutside}
+use Rattle.scratch.specs.Rows.{RowFilled, RowsFilled}
 use Rattle.reduce_numbering.specs.Steps.{numberAt, leaderAt}
 use Rattle.scratch.specs.Map.{laidProductsBase}
 use Rattle.formats.specs.RuleChecks.{scratchSize}
@@ -49,11 +49,9 @@ blockMark c scratch i j =
     bit (eqb (laidProduct c scratch j j) j && (stays && accepted))
 
 -- the bytes from a base on are the values of f, and every other byte is as it was
-pub record Filled (f : ℕ → ℕ) (base count : ℕ) (entry exit : List ℕ) : Type 0 where
-  pub cells : (j : ℕ) → j < count → getD exit (base + j) 0 ≡ f j
-  pub kept : UnchangedOutside base (base + count) entry exit
+abbrev pub Filled : (ℕ → ℕ) → ℕ → ℕ → List ℕ → List ℕ → Type 0
+Filled f base count entry exit = RowFilled (λ j byte. byte ≡ f j) base count entry exit
 
 -- rows of values of f, each as many bytes after the one before it as the stride says, and every byte outside them is as it was
-pub record Grid (f : ℕ → ℕ → ℕ) (base stride width rows : ℕ) (entry exit : List ℕ) : Type 0 where
-  pub cells : (i j : ℕ) → i < rows → j < width → getD exit (base + (i * stride + j)) 0 ≡ f i j
-  pub kept : UnchangedOutside base (base + rows * stride) entry exit
+abbrev pub Grid : (ℕ → ℕ → ℕ) → ℕ → ℕ → ℕ → ℕ → List ℕ → List ℕ → Type 0
+Grid f base stride width rows entry exit = RowsFilled (λ i j byte. byte ≡ f i j) base stride width rows entry exit

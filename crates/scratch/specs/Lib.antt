@@ -1,3 +1,4 @@
 pub mod Bytes
 pub mod Map
 pub mod Preimages
+pub mod Rows

@@ -1,20 +1,21 @@
 -- `automaton_marks::lay_marks` meets its contract: the loop holds that the rows so far have their bytes. Assumes nothing.
 use Prim.Native.Nat.{_-_, _≤_}
 use native.Mathlib.Omega.{arith}
-use Rattle.automaton_table.specs.Laying.{RowsFilled, MarkByte}
-use Rattle.automaton_table.proofs.Filling.{rows-none, rows-all}
+use Rattle.automaton_table.specs.Laying.{MarkByte}
+use Rattle.scratch.specs.Rows.{RowsFilled}
+use Rattle.scratch.proofs.Rows.{rows-none, rows-all}
 use Rattle.automaton_table.proofs.Rows.{marks-place, marks-more}
 use Rattle.automaton_marks.proofs.lay_marks.Statement.{statement}
 use Rattle.automaton_marks.proofs.lay_marks.Tie as tie
 
 abbrev Inv-loop : tie.InvT-loop
-Inv-loop kinds n scratch₀ count s₀ scratch s = RowsFilled (MarkByte kinds n count scratch₀) 24576 64 s count scratch₀ scratch × (s ≤ count)
+Inv-loop kinds n scratch₀ count s₀ scratch s = RowsFilled (MarkByte kinds n count scratch₀) 24576 64 count s scratch₀ scratch × (s ≤ count)
 
 abbrev μ-loop : tie.MeasureT-loop
 μ-loop kinds n scratch₀ count s₀ scratch s = count - s
 
 loop-holds : tie.Need-loop-holds Inv-loop μ-loop
-loop-holds c = (rows-none, omega arith)
+loop-holds c = (rows-none _ _ _ _, omega arith)
 
 lay-marks-of-requires : tie.Need-lay-marks-of-requires Inv-loop μ-loop
 lay-marks-of-requires c κs = (marks-place (c .before .before .before .before .before .pre) (c .before .before .loop .inv .0 .kept), c .before .loop-test .taken)

@@ -1,8 +1,9 @@
 -- `automaton_marks::lay_marks_of` meets its contract: the loop holds that the pairs so far have their bytes. Assumes nothing.
 use Prim.Native.Nat.{_+_, _*_, _-_, _≤_}
 use native.Mathlib.Omega.{arith}
-use Rattle.automaton_table.specs.Laying.{RowFilled, MarkByte}
-use Rattle.automaton_table.proofs.Filling.{row-none, row-all}
+use Rattle.automaton_table.specs.Laying.{MarkByte}
+use Rattle.scratch.specs.Rows.{RowFilled}
+use Rattle.scratch.proofs.Rows.{filled-none, filled-all}
 use Rattle.automaton_table.proofs.Rows.{marks-place, mark-room, mark-more}
 use Rattle.automaton_marks.proofs.lay_marks_of.Statement.{statement}
 use Rattle.automaton_marks.proofs.lay_marks_of.Tie as tie
@@ -20,7 +21,7 @@ add-base : tie.Need-add-base Inv-loop μ-loop
 add-base c = omega (arith, c .before .before .pre .0 .few)
 
 loop-holds : tie.Need-loop-holds Inv-loop μ-loop
-loop-holds c = (row-none, omega arith)
+loop-holds c = (filled-none _ _, omega arith)
 
 mark-byte-requires : tie.Need-mark-byte-requires Inv-loop μ-loop
 mark-byte-requires c κs = (marks-place (c .before .before .before .before .before .pre .0) (c .before .before .loop .inv .0 .kept), (omega arith, omega arith))
@@ -44,7 +45,7 @@ same-length : tie.Need-same-length Inv-loop μ-loop
 same-length c = c .before .loop .inv .0 .kept .same-length
 
 returns : tie.Need-returns Inv-loop μ-loop
-returns c = row-all (c .before .loop .inv .1) (c .loop-test .left) (c .before .loop .inv .0)
+returns c = filled-all (c .before .loop .inv .1) (c .loop-test .left) (c .before .loop .inv .0)
 
 pub lay-marks-of-spec : {M : Type 1} → statement M
 lay-marks-of-spec =

@@ -3,21 +3,21 @@
 use native.Mathlib.Omega.{arith}
 use mir.Facts.{fits-8-64}
 use borrow.Author.Needs.{needs}
-use Rattle.automaton_table.proofs.Marks.{product-place}
+use Rattle.scratch.proofs.Rows.{pair-small}
 use Rattle.automaton_marks.proofs.linked.Statement.{statement}
 use Rattle.automaton_marks.proofs.linked.Tie as tie
 
 mul-if1 : tie.Need-mul-if1
-mul-if1 c = omega (arith, product-place (c .pre .0 .0) (c .pre .1 .1) (c .pre .1 .1))
+mul-if1 c = omega (arith, pair-small _ _ _ (c .pre .0 .0) (c .pre .1 .1) (c .pre .1 .1))
 
 add-if1 : tie.Need-add-if1
-add-if1 c = omega (arith, product-place (c .pre .0 .0) (c .pre .1 .1) (c .pre .1 .1))
+add-if1 c = omega (arith, pair-small _ _ _ (c .pre .0 .0) (c .pre .1 .1) (c .pre .1 .1))
 
 add-if1-2 : tie.Need-add-if1-2
-add-if1-2 c = omega (arith, product-place (c .pre .0 .0) (c .pre .1 .1) (c .pre .1 .1))
+add-if1-2 c = omega (arith, pair-small _ _ _ (c .pre .0 .0) (c .pre .1 .1) (c .pre .1 .1))
 
 shared-slice-read-if1 : tie.Need-shared-slice-read-if1
-shared-slice-read-if1 c = omega (arith, product-place (c .before .pre .0 .0) (c .before .pre .1 .1) (c .before .pre .1 .1))
+shared-slice-read-if1 c = omega (arith, pair-small _ _ _ (c .before .pre .0 .0) (c .before .pre .1 .1) (c .before .pre .1 .1))
 
 cast-if1 : tie.Need-cast-if1
 cast-if1 c = fits-8-64 (c .shared-slice-known .given _)
@@ -26,16 +26,16 @@ returns : tie.Need-returns
 returns c = search needs
 
 mul-if2 : tie.Need-mul-if2
-mul-if2 c = omega (arith, product-place (c .before .before .pre .0 .0) (c .before .before .pre .1 .0) (c .before .before .pre .1 .1))
+mul-if2 c = omega (arith, pair-small _ _ _ (c .before .before .pre .0 .0) (c .before .before .pre .1 .0) (c .before .before .pre .1 .1))
 
 add-if2 : tie.Need-add-if2
-add-if2 c = omega (arith, product-place (c .before .before .pre .0 .0) (c .before .before .pre .1 .0) (c .before .before .pre .1 .1))
+add-if2 c = omega (arith, pair-small _ _ _ (c .before .before .pre .0 .0) (c .before .before .pre .1 .0) (c .before .before .pre .1 .1))
 
 add-if2-2 : tie.Need-add-if2-2
-add-if2-2 c = omega (arith, product-place (c .before .before .pre .0 .0) (c .before .before .pre .1 .0) (c .before .before .pre .1 .1))
+add-if2-2 c = omega (arith, pair-small _ _ _ (c .before .before .pre .0 .0) (c .before .before .pre .1 .0) (c .before .before .pre .1 .1))
 
 shared-slice-read-if2 : tie.Need-shared-slice-read-if2
-shared-slice-read-if2 c = omega (arith, product-place (c .before .before .before .pre .0 .0) (c .before .before .before .pre .1 .0) (c .before .before .before .pre .1 .1))
+shared-slice-read-if2 c = omega (arith, pair-small _ _ _ (c .before .before .before .pre .0 .0) (c .before .before .before .pre .1 .0) (c .before .before .before .pre .1 .1))
 
 cast-if2 : tie.Need-cast-if2
 cast-if2 c = fits-8-64 (c .shared-slice-known2 .given _)

@@ -1,23 +1,24 @@
 -- The loop holds that the rows so far have their numbers. Assumes nothing.
 use Prim.Native.Nat.{_-_, _≤_}
 use native.Mathlib.Omega.{arith}
-use Rattle.automaton_table.specs.Laying.{RowsFilled, TableNumber}
-use Rattle.automaton_table.proofs.Filling.{rows-none}
+use Rattle.scratch.specs.Rows.{RowsFilled}
+use Rattle.scratch.proofs.Rows.{rows-none}
+use Rattle.automaton_table.specs.Laying.{TableNumber}
 use Rattle.automaton_table.proofs.Rows.{steps-rows-now, products-more, products-all}
 use Rattle.automaton_table.proofs.lay_products.Statement.{statement}
 use Rattle.automaton_table.proofs.lay_products.Tie as tie
 
 abbrev Inv-loop : tie.InvT-loop
-Inv-loop scratch₀ count i₀ scratch i = RowsFilled (TableNumber count scratch₀) 16384 count i count scratch₀ scratch × (i ≤ count)
+Inv-loop scratch₀ count i₀ scratch i = RowsFilled (TableNumber count scratch₀) 16384 count count i scratch₀ scratch × (i ≤ count)
 
 abbrev μ-loop : tie.MeasureT-loop
 μ-loop scratch₀ count i₀ scratch i = count - i
 
 loop-holds : tie.Need-loop-holds Inv-loop μ-loop
-loop-holds c = (rows-none, omega arith)
+loop-holds c = (rows-none _ _ _ _, omega arith)
 
 lay-products-of-requires : tie.Need-lay-products-of-requires Inv-loop μ-loop
-lay-products-of-requires c κs = (steps-rows-now (c .before .before .before .before .pre) (c .before .before .loop .inv .0), c .before .loop-test .taken)
+lay-products-of-requires c κs = (steps-rows-now (c .before .before .before .before .pre) (c .before .before .loop .inv .0) (c .before .loop-test .taken), c .before .loop-test .taken)
 
 add-i : tie.Need-add-i Inv-loop μ-loop
 add-i c = omega arith

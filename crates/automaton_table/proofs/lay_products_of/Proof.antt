@@ -1,8 +1,9 @@
 -- The loop holds that the products so far have their numbers. Assumes nothing.
 use Prim.Native.Nat.{_+_, _*_, _-_, _≤_}
 use native.Mathlib.Omega.{arith}
-use Rattle.automaton_table.specs.Laying.{RowFilled, TableNumber}
-use Rattle.automaton_table.proofs.Filling.{row-none, row-all}
+use Rattle.scratch.specs.Rows.{RowFilled}
+use Rattle.scratch.proofs.Rows.{filled-none, filled-all}
+use Rattle.automaton_table.specs.Laying.{TableNumber}
 use Rattle.automaton_table.proofs.Rows.{row-small, steps-now, row-now, product-room, product-more}
 use Rattle.automaton_table.proofs.lay_products_of.Statement.{statement}
 use Rattle.automaton_table.proofs.lay_products_of.Tie as tie
@@ -20,10 +21,10 @@ add-base : tie.Need-add-base Inv-loop μ-loop
 add-base c = omega (arith, row-small (c .before .pre .0) (c .before .pre .1))
 
 loop-holds : tie.Need-loop-holds Inv-loop μ-loop
-loop-holds c = (row-none, omega arith)
+loop-holds c = (filled-none _ _, omega arith)
 
 product-number-requires : tie.Need-product-number-requires Inv-loop μ-loop
-product-number-requires c κs = (steps-now (c .before .before .before .before .pre .0) (c .before .before .before .before .pre .1) (c .before .before .loop .inv .0), ((omega arith, omega arith), row-now (c .before .before .before .before .pre .0) (c .before .before .before .before .pre .1) (c .before .before .loop .inv .0) (c .before .loop-test .taken)))
+product-number-requires c κs = (steps-now (c .before .before .before .before .pre .0) (c .before .before .before .before .pre .1) (c .before .before .loop .inv .0) (c .before .loop-test .taken), ((omega arith, omega arith), row-now (c .before .before .before .before .pre .0) (c .before .before .before .before .pre .1) (c .before .before .loop .inv .0) (c .before .loop-test .taken)))
 
 add-scratch : tie.Need-add-scratch Inv-loop μ-loop
 add-scratch c = omega (arith, row-small (c .before .before .before .before .before .pre .0) (c .before .before .before .before .before .pre .1), c .before .before .before .before .before .pre .0 .few)
@@ -44,7 +45,7 @@ same-length : tie.Need-same-length Inv-loop μ-loop
 same-length c = c .before .loop .inv .0 .kept .same-length
 
 returns : tie.Need-returns Inv-loop μ-loop
-returns c = row-all (c .before .loop .inv .1) (c .loop-test .left) (c .before .loop .inv .0)
+returns c = filled-all (c .before .loop .inv .1) (c .loop-test .left) (c .before .loop .inv .0)
 
 pub lay-products-of-spec : {M : Type 1} → statement M
 lay-products-of-spec =

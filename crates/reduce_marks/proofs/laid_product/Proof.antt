@@ -3,7 +3,7 @@ use Prim.Native.Nat.{_+_, _*_}
 use mathlib.Core.Path.{refl}
 use native.Mathlib.Omega.{arith}
 use Rattle.reduce_table.specs.Layout.{laidProduct}
-use Rattle.reduce_table.proofs.Cells.{pair-small}
+use Rattle.scratch.proofs.Rows.{pair-small}
 use Rattle.reduce_marks.proofs.laid_product.Statement.{statement}
 use Rattle.reduce_marks.proofs.laid_product.Tie as tie
 

@@ -1,8 +1,9 @@
 -- `reduce_marks::lay_marks` meets its contract: the rows that were passed are laid out. Assumes nothing.
 use Prim.Native.Nat.{_-_, _≤_}
+use mathlib.Core.Path.{_∙_}
 use native.Mathlib.Omega.{arith}
 use Rattle.reduce_table.specs.Layout.{blockMark, Grid}
-use Rattle.reduce_table.proofs.Cells.{grid-none, grid-more, grid-all}
+use Rattle.scratch.proofs.Rows.{rows-none, rows-more, rows-all}
 use Rattle.reduce_table.proofs.Blocks.{blocks-kept, mark-kept}
 use Rattle.reduce_marks.proofs.lay_marks.Statement.{statement}
 use Rattle.reduce_marks.proofs.lay_marks.Tie as tie
@@ -14,7 +15,7 @@ abbrev μ-loop : tie.MeasureT-loop
 μ-loop c scratch₀ i₀ scratch i = c - i
 
 loop-holds : tie.Need-loop-holds Inv-loop μ-loop
-loop-holds c = (grid-none 24576 64 _ _, omega arith)
+loop-holds c = (rows-none 24576 64 _ _, omega arith)
 
 marks-row-requires : tie.Need-marks-row-requires Inv-loop μ-loop
 marks-row-requires c κs =
@@ -34,9 +35,8 @@ loop-again c =
     let at-test = at-marks-row .before .before in
     let at-loop = at-test .before in
     let start = at-loop .before .before in (
-      grid-more (start .pre .small)
-          (λ j h. mark-kept (at-loop .loop .inv .0 .kept) (omega arith) (omega arith) (start .pre) _ j (at-test .loop-test .taken) h)
-          (at-loop .loop .inv .0) (at-marks-row .marks-row .ensures),
+      rows-more (start .pre .small) (at-loop .loop .inv .0) (at-marks-row .marks-row .ensures)
+          (λ j byte h q. q ∙ mark-kept (at-loop .loop .inv .0 .kept) (omega arith) (omega arith) (start .pre) _ j (at-test .loop-test .taken) h),
       omega arith,
     )
 
@@ -44,7 +44,7 @@ same-length : tie.Need-same-length Inv-loop μ-loop
 same-length c = c .before .loop .inv .0 .kept .same-length
 
 returns : tie.Need-returns Inv-loop μ-loop
-returns c = grid-all (c .before .loop .inv .1) (c .loop-test .left) (c .before .loop .inv .0)
+returns c = rows-all (c .before .loop .inv .1) (c .loop-test .left) (c .before .loop .inv .0)
 
 pub lay-marks-spec : {M : Type 1} → statement M
 lay-marks-spec =

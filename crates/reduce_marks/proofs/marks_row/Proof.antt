@@ -3,7 +3,7 @@ use Prim.Native.Nat.{_-_, _+_, _*_, _≤_}
 use mathlib.Core.Path.{_∙_}
 use native.Mathlib.Omega.{arith}
 use Rattle.reduce_table.specs.Layout.{blockMark, Filled}
-use Rattle.reduce_table.proofs.Cells.{filled-none, filled-more, filled-all}
+use Rattle.scratch.proofs.Rows.{filled-none, filled-more, filled-all}
 use Rattle.reduce_table.proofs.Blocks.{marks-inside, blocks-kept, mark-kept}
 use Rattle.reduce_marks.proofs.marks_row.Statement.{statement}
 use Rattle.reduce_marks.proofs.marks_row.Tie as tie
@@ -51,9 +51,8 @@ loop-again c =
     let start = at-loop .before .before in
     let kept = at-loop .loop .inv .0 .kept in
     let inside = marks-inside (start .pre .0) _ _ (start .pre .1) (at-test .loop-test .taken) kept in (
-      filled-more (omega arith) inside
-          (c .mark-byte .ensures ∙ mark-kept kept (omega arith) (omega arith) (start .pre .0) _ _ (start .pre .1) (at-test .loop-test .taken))
-          (at-loop .loop .inv .0),
+      filled-more (omega arith) inside (at-loop .loop .inv .0)
+          (c .mark-byte .ensures ∙ mark-kept kept (omega arith) (omega arith) (start .pre .0) _ _ (start .pre .1) (at-test .loop-test .taken)),
       omega arith,
     )
 

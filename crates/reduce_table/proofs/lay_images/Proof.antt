@@ -5,7 +5,7 @@ use native.Mathlib.Omega.{arith}
 use borrow.Author.Needs.{needs}
 use Rattle.reduce_numbering.specs.Steps.{numberAt}
 use Rattle.reduce_table.specs.Layout.{blockImage, Filled}
-use Rattle.reduce_table.proofs.Cells.{filled-none, filled-more, filled-all}
+use Rattle.scratch.proofs.Rows.{filled-none, filled-more, filled-all}
 use Rattle.reduce_table.proofs.Blocks.{image-kept}
 use Rattle.reduce_table.proofs.lay_images.Statement.{statement}
 use Rattle.reduce_table.proofs.lay_images.Tie as tie
@@ -56,9 +56,8 @@ loop-again c =
     let at-test = c .before .before in
     let at-loop = at-test .before in
     let start = at-loop .before .before .before in (
-      filled-more (omega arith) (omega (arith, start .pre .0 .letters-small, start .pre .1, at-loop .loop .inv .0 .kept .same-length))
-          (ap (numberAt (at-loop .loop .scratch)) (c .before .image .ensures) ∙ image-kept (at-loop .loop .inv .0 .kept) (omega arith) (start .pre .0) _ (at-test .loop-test .taken))
-          (at-loop .loop .inv .0),
+      filled-more (omega arith) (omega (arith, start .pre .0 .letters-small, start .pre .1, at-loop .loop .inv .0 .kept .same-length)) (at-loop .loop .inv .0)
+          (ap (numberAt (at-loop .loop .scratch)) (c .before .image .ensures) ∙ image-kept (at-loop .loop .inv .0 .kept) (omega arith) (start .pre .0) _ (at-test .loop-test .taken)),
       omega arith,
     )
 

@@ -2,7 +2,7 @@
 use Prim.Native.Nat.{_-_, _+_, _*_, _≤_}
 use native.Mathlib.Omega.{arith}
 use Rattle.reduce_table.specs.Layout.{blockProduct, Filled}
-use Rattle.reduce_table.proofs.Cells.{pair-small, filled-none, filled-more, filled-all}
+use Rattle.scratch.proofs.Rows.{pair-small, filled-none, filled-more, filled-all}
 use Rattle.reduce_table.proofs.Blocks.{table-inside, blocks-kept, product-stored}
 use Rattle.reduce_table.proofs.table_row.Statement.{statement}
 use Rattle.reduce_table.proofs.table_row.Tie as tie
@@ -61,9 +61,8 @@ loop-again c =
     let start = at-loop .before .before .before in
     let kept = at-loop .loop .inv .0 .kept in
     let inside = table-inside (start .pre .1 .0) _ _ (start .pre .1 .1) (at-test .loop-test .taken) kept in (
-      filled-more (omega arith) inside
-          (product-stored kept (omega arith) (start .pre .0) (start .pre .1 .0) _ _ (start .pre .1 .1) (at-test .loop-test .taken) (c .block-product .ensures))
-          (at-loop .loop .inv .0),
+      filled-more (omega arith) inside (at-loop .loop .inv .0)
+          (product-stored kept (omega arith) (start .pre .0) (start .pre .1 .0) _ _ (start .pre .1 .1) (at-test .loop-test .taken) (c .block-product .ensures)),
       omega arith,
     )
 
