@@ -6,6 +6,7 @@ use mathlib.Core.Bool.{Bool, true, false}
 use mathlib.Core.List.{List, [], _∷_}
 use native.Mathlib.Omega.{arith}
 use lib.ListN.{length, replicate}
+use Rattle.scratch.specs.Map.{secondBase}
 use Rattle.answer.specs.declared.Refusal.{Refusal}
 use Rattle.answer.specs.declared.Refusal.the-variants.{NotStrong, BufferTooShort}
 use Rattle.answer.proofs.Order.{first-passes, first-fails, none-left, passed-before, refused-before}
@@ -83,9 +84,9 @@ module _ (bytes out entry : List ℕ) (long : ruleSize ≤ length out) where
       strong : Strong (morphismOf bytes) (pairsOf bytes)
       strong = subst (StrongIf (morphismOf bytes) (pairsOf bytes)) e (decided-file 1 bytes entry p d)
 
-      closure-stands : MarkingAt (elementsOf bytes) (closure-test (morphismOf bytes) (pairsOf bytes)) decided 4096
+      closure-stands : MarkingAt (elementsOf bytes) (closure-test (morphismOf bytes) (pairsOf bytes)) decided secondBase
       closure-stands =
-          subst (λ (m : Morphism). MarkingAt (m .size) (closure-test m (pairsOf bytes)) decided 4096) same
+          subst (λ (m : Morphism). MarkingAt (m .size) (closure-test m (pairsOf bytes)) decided secondBase) same
           (d .closure (pairsOf bytes) (checked-linked 1 bytes entry p) (marks-stand 1 bytes entry p))
 
       written : ReducedWritten (morphismOf bytes) decided exit out after length-of

@@ -5,6 +5,7 @@ use mathlib.Core.Path.{_≡_, refl, sym, ap, _∙_}
 use mathlib.Core.List.{List}
 use native.Mathlib.Omega.{arith}
 use lib.Dec.{ltb}
+use Rattle.scratch.specs.Map.{secondBase}
 use Rattle.theory.specs.Rules.{Morphism, Lawful, Rule, AllReached, marked}
 use Rattle.theory.specs.Pairs.{LinkedOnly}
 use Rattle.theory.specs.Acceptance.{RuleStrong}
@@ -120,7 +121,7 @@ pub record Reduces (r : Rule) (before after : List ℕ) (end : ℕ) : Type 0 whe
 -- a strong rule whose closure stands in the second table of marks
 module _ (r : Rule) (small : r .morphism .size ≤ 64) (letters-some : 1 ≤ r .morphism .letters) (letters-small : r .morphism .letters ≤ 16)
     (reached : AllReached (r .morphism)) (linked : LinkedOnly (r .morphism) (marked (r .marks))) (strong : RuleStrong r)
-    {entry exit before after : List ℕ} {end : ℕ} (stands : MarkingAt (r .morphism .size) (closure-test (r .morphism) (marked (r .marks))) entry 4096)
+    {entry exit before after : List ℕ} {end : ℕ} (stands : MarkingAt (r .morphism .size) (closure-test (r .morphism) (marked (r .marks))) entry secondBase)
     (w : ReducedWritten (r .morphism) entry exit before after end) where
   outcomes-agree : (s z : ℕ) → s < r .morphism .size → z < r .morphism .size
       → outcomeOf (r .morphism) entry s z ≡ acceptance (r .morphism) (marked (r .marks)) s z

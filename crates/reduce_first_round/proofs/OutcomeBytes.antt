@@ -23,7 +23,7 @@ use Rattle.formats.specs.Table.{morphismAt}
 use Rattle.formats.proofs.Tables.{LeastPower}
 use Rattle.rule_table.specs.Answers.{PowerAnswer}
 use Rattle.rule_table.proofs.Facts.{least-power-is, no-power-absurd}
-use Rattle.scratch.specs.Map.{pairsFrom}
+use Rattle.scratch.specs.Map.{blocksBase, outcomesBase, pairsFrom, secondBase}
 use Rattle.reduce_first_round.specs.Map.{outcomeOf, outcomeAt}
 use Rattle.scratch.specs.Bytes.{UnchangedOutside}
 use Rattle.reduce_first_round.specs.Steps.{ColumnWritten, OutcomesWritten}
@@ -46,28 +46,28 @@ settled-below law hz e = rw e (idempotent-inside (semigroup law) hz)
 
 -- one look in a table of marks, as a number
 module _ (scratch : List ℕ) (f : ℕ) {s t : ℕ} (e : t ≡ s) where
-  pub look-marked : 0 < getD scratch (4096 + (t * 64 + f)) 0 → 1 ≡ bit (pairsFrom scratch 4096 s f)
+  pub look-marked : 0 < getD scratch (secondBase + (t * 64 + f)) 0 → 1 ≡ bit (pairsFrom scratch secondBase s f)
   unfolding pairsFrom
   look-marked h = rw (← e, lt-ltb _ _ h)
 
-  pub look-unmarked : getD scratch (4096 + (t * 64 + f)) 0 ≤ 0 → 0 ≡ bit (pairsFrom scratch 4096 s f)
+  pub look-unmarked : getD scratch (secondBase + (t * 64 + f)) 0 ≤ 0 → 0 ≡ bit (pairsFrom scratch secondBase s f)
   unfolding pairsFrom
   look-unmarked h = rw (← e, le-ltb _ _ h)
 
 -- the table of marks is as it was
-pub marks-kept : {to : ℕ} {entry now : List ℕ} (s e : ℕ) → UnchangedOutside 8192 to entry now → s < 64 → e < 64 → pairsFrom now 4096 s e ≡ pairsFrom entry 4096 s e
+pub marks-kept : {to : ℕ} {entry now : List ℕ} (s e : ℕ) → UnchangedOutside outcomesBase to entry now → s < 64 → e < 64 → pairsFrom now secondBase s e ≡ pairsFrom entry secondBase s e
 unfolding pairsFrom
-marks-kept s e k hs he = ap (ltb 0) (k .before (4096 + (s * 64 + e)) (omega arith))
+marks-kept s e k hs he = ap (ltb 0) (k .before (secondBase + (s * 64 + e)) (omega arith))
 
 -- outcomes stand below the blocks
-pub outcome-below : {from to : ℕ} {entry now : List ℕ} (s z : ℕ) → s < 64 → z < 64 → 12288 ≤ from → UnchangedOutside from to entry now
+pub outcome-below : {from to : ℕ} {entry now : List ℕ} (s z : ℕ) → s < 64 → z < 64 → blocksBase ≤ from → UnchangedOutside from to entry now
     → outcomeAt now s z ≡ outcomeAt entry s z
 unfolding outcomeAt
-outcome-below s z hs hz h k = k .before (8192 + (s * 64 + z)) (omega arith)
+outcome-below s z hs hz h k = k .before (outcomesBase + (s * 64 + z)) (omega arith)
 
 module _ {m : Morphism} (law : Lawful m) (small : m .size ≤ 64) where
   -- and so is what it says of an outcome
-  pub outcome-kept : {to : ℕ} {entry now : List ℕ} (s z : ℕ) → UnchangedOutside 8192 to entry now → s < m .size → z < m .size
+  pub outcome-kept : {to : ℕ} {entry now : List ℕ} (s z : ℕ) → UnchangedOutside outcomesBase to entry now → s < m .size → z < m .size
       → outcomeOf m now s z ≡ outcomeOf m entry s z
   unfolding outcomeOf
   outcome-kept s z k hs hz =
@@ -77,30 +77,30 @@ module _ {m : Morphism} (law : Lawful m) (small : m .size ≤ 64) where
 
   -- no outcome is written
   pub column-none : (z : ℕ) (l : List ℕ) → ColumnWritten m z 0 l l
-  column-none z l = record { column = λ s h. absurd (omega arith); others = λ s y h f. refl; kept = unchanged-none 8192 12288 l }
+  column-none z l = record { column = λ s h. absurd (omega arith); others = λ s y h f. refl; kept = unchanged-none outcomesBase blocksBase l }
 
   -- one outcome more of a column
   pub column-more : {z s f found : ℕ} {entry now : List ℕ} → z < m .size → s < m .size → scratchSize ≤ length entry → f ≡ settled-cycle m z
       → found ≡ bit (pairsFrom now 4096 (m .product s f) f) → ColumnWritten m z s entry now
-      → ColumnWritten m z (s + 1) entry (set now (8192 + (s * 64 + z)) found)
+      → ColumnWritten m z (s + 1) entry (set now (outcomesBase + (s * 64 + z)) found)
   unfolding outcomeAt outcomeOf
   column-more {z} {s} {f} {found} {entry} {now} hz hs room is-power is-found w = record {
     column = λ r h. row r h (ℕ-discrete r s);
     others = λ r y h g.
         let d : y ≢ z = g in
-        getD-set-other now (8192 + (s * 64 + z)) (8192 + (r * 64 + y)) found 0 (λ e. omega arith) ∙ w .others r y h g;
-    kept = unchanged-both (w .kept) (unchanged-set now (8192 + (s * 64 + z)) found (omega arith) (omega arith));
+        getD-set-other now (outcomesBase + (s * 64 + z)) (outcomesBase + (r * 64 + y)) found 0 (λ e. omega arith) ∙ w .others r y h g;
+    kept = unchanged-both (w .kept) (unchanged-set now (outcomesBase + (s * 64 + z)) found (omega arith) (omega arith));
   }
     where
       right : found ≡ outcomeOf m entry s z
       right = is-found ∙ ap (λ (e : ℕ). bit (pairsFrom now 4096 (m .product s e) e)) is-power ∙ outcome-kept s z (w .kept) hs hz
 
-      row : (r : ℕ) → r < s + 1 → Dec (r ≡ s) → outcomeAt (set now (8192 + (s * 64 + z)) found) r z ≡ outcomeOf m entry r z
+      row : (r : ℕ) → r < s + 1 → Dec (r ≡ s) → outcomeAt (set now (outcomesBase + (s * 64 + z)) found) r z ≡ outcomeOf m entry r z
       row r h (yes e) =
-          rw e (getD-set-same now (8192 + (s * 64 + z)) found 0 (omega (arith, w .kept .same-length)) ∙ right)
+          rw e (getD-set-same now (outcomesBase + (s * 64 + z)) found 0 (omega (arith, w .kept .same-length)) ∙ right)
       row r h (no g) =
           let d : r ≢ s = g in
-          getD-set-other now (8192 + (s * 64 + z)) (8192 + (r * 64 + z)) found 0 (λ e. omega arith) ∙ w .column r (omega arith)
+          getD-set-other now (outcomesBase + (s * 64 + z)) (outcomesBase + (r * 64 + z)) found 0 (λ e. omega arith) ∙ w .column r (omega arith)
 
   -- a whole column
   pub column-all : {z s : ℕ} {entry now : List ℕ} → m .size ≤ s → ColumnWritten m z s entry now → ColumnWritten m z (m .size) entry now
@@ -108,7 +108,7 @@ module _ {m : Morphism} (law : Lawful m) (small : m .size ≤ 64) where
 
   -- no column is written
   pub outcomes-none : (l : List ℕ) → OutcomesWritten m 0 l l
-  outcomes-none l = record { outcomes = λ s z hs h. absurd (omega arith); kept = unchanged-none 8192 12288 l }
+  outcomes-none l = record { outcomes = λ s z hs h. absurd (omega arith); kept = unchanged-none outcomesBase blocksBase l }
 
   -- one column more
   pub outcomes-more : {z : ℕ} {entry now next : List ℕ} → z < m .size → OutcomesWritten m z entry now → ColumnWritten m z (m .size) now next
@@ -127,7 +127,7 @@ module _ {m : Morphism} (law : Lawful m) (small : m .size ≤ 64) where
   outcomes-all h w = record { outcomes = λ s y hs l. w .outcomes s y hs (omega arith); kept = w .kept }
 
   -- where the table of marks holds the closure of a marking, the outcomes are its acceptance
-  pub outcome-acceptance : (P : Pairs) (scratch : List ℕ) → ((s e : ℕ) → s < m .size → e < m .size → pairsFrom scratch 4096 s e ≡ closure-test m P s e)
+  pub outcome-acceptance : (P : Pairs) (scratch : List ℕ) → ((s e : ℕ) → s < m .size → e < m .size → pairsFrom scratch secondBase s e ≡ closure-test m P s e)
       → (s z : ℕ) → s < m .size → z < m .size → outcomeOf m scratch s z ≡ acceptance m P s z
   unfolding outcomeOf acceptance
   outcome-acceptance P scratch closed s z hs hz =

@@ -8,6 +8,7 @@ use mathlib.Core.List.{List}
 use native.Mathlib.Omega.{arith}
 use native.Mathlib.Decide.{ℕ-discrete}
 use lib.ListN.{getD}
+use Rattle.scratch.specs.Map.{blocksBase}
 use Rattle.theory.specs.Rules.{Morphism}
 use Rattle.rule_table.specs.Table.{Table}
 use Rattle.formats.specs.Table.{imageAt}
@@ -23,20 +24,20 @@ letter-below {a = a} table letter e = rw e (table .images a letter)
 -- products with one letter, by the numbers that the code has
 module _ (scratch : List ℕ) {m : Morphism} {s t a h p q : ℕ} (eh : h ≡ m .image a) where
   -- the products on the right are in different blocks
-  pub right-apart : p ≡ m .product s h → q ≡ m .product t h → (getD scratch (12288 + p) 0 ≡ getD scratch (12288 + q) 0 → ⊥)
+  pub right-apart : p ≡ m .product s h → q ≡ m .product t h → (getD scratch (blocksBase + p) 0 ≡ getD scratch (blocksBase + q) 0 → ⊥)
       → Tells (ProductsTogether m (InOneBlock scratch) s t a) false
   unfolding InOneBlock
   right-apart ep eq g = told-no (λ o. g (rw (ep, eq, eh) (o .on-right)))
 
   -- the products on the left are
-  pub left-apart : p ≡ m .product h s → q ≡ m .product h t → (getD scratch (12288 + p) 0 ≡ getD scratch (12288 + q) 0 → ⊥)
+  pub left-apart : p ≡ m .product h s → q ≡ m .product h t → (getD scratch (blocksBase + p) 0 ≡ getD scratch (blocksBase + q) 0 → ⊥)
       → Tells (ProductsTogether m (InOneBlock scratch) s t a) false
   unfolding InOneBlock
   left-apart ep eq g = told-no (λ o. g (rw (ep, eq, eh) (o .on-left)))
 
   -- neither are
   pub both-together : {u v : ℕ} → p ≡ m .product s h → q ≡ m .product t h → u ≡ m .product h s → v ≡ m .product h t
-      → getD scratch (12288 + p) 0 ≡ getD scratch (12288 + q) 0 → getD scratch (12288 + u) 0 ≡ getD scratch (12288 + v) 0
+      → getD scratch (blocksBase + p) 0 ≡ getD scratch (blocksBase + q) 0 → getD scratch (blocksBase + u) 0 ≡ getD scratch (blocksBase + v) 0
       → Tells (ProductsTogether m (InOneBlock scratch) s t a) true
   unfolding InOneBlock
   both-together ep eq eu ev r l = told-yes (record { on-right = rw (← eh, ← ep, ← eq) r; on-left = rw (← eh, ← eu, ← ev) l })

@@ -4,6 +4,7 @@ use mathlib.Core.Path.{_≡_, sym, _∙_}
 use mathlib.Core.List.{List}
 use native.Mathlib.Omega.{arith}
 use lib.ListN.{length, getD, set}
+use Rattle.scratch.specs.Map.{blocksBase, nextBlocksBase}
 use Rattle.theory.specs.Rules.{Morphism}
 use Rattle.minimality.specs.Rounds.{SameOutcomes, StillTogether, Together}
 use Rattle.reduce_first_round.specs.Map.{outcomeAt, InOneBlock}
@@ -16,8 +17,8 @@ use Rattle.formats.specs.RuleChecks.{scratchSize}
 
 module _ {m : Morphism} (small : m .size ≤ 64) {entry now : List ℕ} (room : scratchSize ≤ length entry) {s r : ℕ} (hs : s < m .size) where
   -- of round 0
-  pub first-more : BlocksWritten s (Together m (outcomeAt entry) 0) 12288 entry now → LeastRelated (SameOutcomes m (outcomeAt now)) s r
-      → BlocksWritten (s + 1) (Together m (outcomeAt entry) 0) 12288 entry (set now (12288 + s) r)
+  pub first-more : BlocksWritten s (Together m (outcomeAt entry) 0) blocksBase entry now → LeastRelated (SameOutcomes m (outcomeAt now)) s r
+      → BlocksWritten (s + 1) (Together m (outcomeAt entry) 0) blocksBase entry (set now (blocksBase + s) r)
   unfolding Together
   first-more w l = written-more (omega arith) (omega arith) w (least-carry (λ t h. same-outcomes-carry agree t s (omega arith) hs) l)
     where
@@ -27,15 +28,15 @@ module _ {m : Morphism} (small : m .size ≤ 64) {entry now : List ℕ} (room : 
   module _ (closed : (a b : ℕ) → a < m .size → b < m .size → m .product a b < m .size)
       (images : (a : ℕ) → a < m .letters → m .image a < m .size) where
     -- of a further round
-    pub next-more : BlocksWritten s (StillTogether m (InOneBlock entry)) 12352 entry now → LeastRelated (StillTogether m (InOneBlock now)) s r
-        → BlocksWritten (s + 1) (StillTogether m (InOneBlock entry)) 12352 entry (set now (12352 + s) r)
+    pub next-more : BlocksWritten s (StillTogether m (InOneBlock entry)) nextBlocksBase entry now → LeastRelated (StillTogether m (InOneBlock now)) s r
+        → BlocksWritten (s + 1) (StillTogether m (InOneBlock entry)) nextBlocksBase entry (set now (nextBlocksBase + s) r)
     unfolding InOneBlock
     next-more w l =
         written-more (omega arith) (omega arith) w
         (least-carry (λ t h. (still-carry closed images back t s (omega arith) hs, still-carry closed images forth t s (omega arith) hs)) l)
       where
-        block : (u : ℕ) → u < m .size → getD now (12288 + u) 0 ≡ getD entry (12288 + u) 0
-        block u h = w .kept .before (12288 + u) (omega arith)
+        block : (u : ℕ) → u < m .size → getD now (blocksBase + u) 0 ≡ getD entry (blocksBase + u) 0
+        block u h = w .kept .before (blocksBase + u) (omega arith)
 
         back : (t u : ℕ) → t < m .size → u < m .size → InOneBlock now t u → InOneBlock entry t u
         back t u ht hu e = sym (block t ht) ∙ e ∙ block u hu

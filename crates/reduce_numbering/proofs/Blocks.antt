@@ -6,6 +6,7 @@ use mathlib.Core.Logic.{inr}
 use mathlib.Core.List.{List}
 use native.Mathlib.Omega.{arith}
 use lib.ListN.{getD, replicate, length-replicate, getD-replicate}
+use Rattle.scratch.specs.Map.{blocksBase}
 use Rattle.finite.proofs.Numbers.{Compared, lesser, level, greater, compared}
 use Rattle.finite.specs.Shortlex.{NotAfter}
 use Rattle.finite.proofs.Shortlex.{before-not-after}
@@ -86,7 +87,7 @@ module _ {bytes : List ℕ} {n k : ℕ} (table : Table bytes n k) (law : Lawful 
       sym (block-number s hs) ∙ ap (λ (j : ℕ). blockAt entry (leaderAt exit j)) e ∙ block-number t ht
 
   -- the blocks of a stable round
-  module _ (acc : ℕ → ℕ → ℕ) (i : ℕ) (b : BlocksAt n (Together m acc i) entry 12288) (st : Stable m acc i) where
+  module _ (acc : ℕ → ℕ → ℕ) (i : ℕ) (b : BlocksAt n (Together m acc i) entry blocksBase) (st : Stable m acc i) where
     stands : Congruence m acc (Together m acc i)
     stands = stable-congruence law acc i st reached
 

@@ -7,6 +7,7 @@ use native.Mathlib.Omega.{arith}
 use native.Mathlib.Decide.{ℕ-discrete}
 use lib.ListN.{length, getD, set, length-set}
 use lib.Seq.{getD-set-same, getD-set-other}
+use Rattle.scratch.specs.Map.{blocksBase, leadersBase, leadersEnd, numbersBase}
 use Rattle.rule_reach.specs.Reach.{placeAt}
 use Rattle.scratch.proofs.Unchanged.{unchanged-none, unchanged-both, unchanged-set}
 use Rattle.reduce_numbering.specs.Steps.{blockAt, numberAt, leaderAt, Sought, Taken, taken-old, taken-new, Entries, Numbered}
@@ -34,10 +35,10 @@ module _ {scratch : List ℕ} {s : ℕ} where
   sought-none h w = record { at-most = omega arith; found = λ l. absurd (omega arith); first = λ j l. w .none j (omega arith) }
 
 -- no leader was found: s becomes one
-pub taken-next : {entry exit : List ℕ} {c s j : ℕ} → Sought entry c s j → c ≤ j → exit ≡ set (set entry (12416 + s) j) (12480 + c) s → Taken entry exit c s (c + 1)
+pub taken-next : {entry exit : List ℕ} {c s j : ℕ} → Sought entry c s j → c ≤ j → exit ≡ set (set entry (numbersBase + s) j) (leadersBase + c) s → Taken entry exit c s (c + 1)
 taken-next {entry} {exit} {c} {s} {j} f h e =
     let q : j ≡ c = omega (arith, f .at-most) in
-    taken-new (rw q at f) (e ∙ ap (λ (x : ℕ). set (set entry (12416 + s) x) (12480 + c) s) q)
+    taken-new (rw q at f) (e ∙ ap (λ (x : ℕ). set (set entry (numbersBase + s) x) (leadersBase + c) s) q)
 
 -- nothing gone through yet
 pub numbered-none : (queue : List ℕ) (n : ℕ) (l : List ℕ) → Numbered queue n 0 0 l l
@@ -52,7 +53,7 @@ numbered-none queue n l = record {
   number-below = λ t h. absurd (omega arith);
   number-block = λ t h. absurd (omega arith);
   number-first = λ t h. absurd (omega arith);
-  kept = unchanged-none 12416 12544 l;
+  kept = unchanged-none numbersBase leadersEnd l;
 }
 
 -- one entry more
@@ -70,7 +71,7 @@ module _ {queue : List ℕ} {n count i c : ℕ} {entry now : List ℕ} (e : Entr
 
   -- the blocks are those of the beginning
   same-block : (t : ℕ) → t < 64 → blockAt now t ≡ blockAt entry t
-  same-block t h = w .kept .before (12288 + t) (omega arith)
+  same-block t h = w .kept .before (blocksBase + t) (omega arith)
 
   leader-small : (j : ℕ) → j < c → leaderAt now j < 64
   leader-small j h = omega (arith, w .leader-inside j h, e .small)
@@ -88,41 +89,41 @@ module _ {queue : List ℕ} {n count i c : ℕ} {entry now : List ℕ} (e : Entr
 
   -- after a store of the number of s
   module _ (v : ℕ) where
-    stored : numberAt (set now (12416 + s) v) s ≡ v
-    stored = getD-set-same now (12416 + s) v 0 (omega (arith, s-small))
+    stored : numberAt (set now (numbersBase + s) v) s ≡ v
+    stored = getD-set-same now (numbersBase + s) v 0 (omega (arith, s-small))
 
-    leader-stays : (j : ℕ) → leaderAt (set now (12416 + s) v) j ≡ leaderAt now j
-    leader-stays j = getD-set-other now (12416 + s) (12480 + j) v 0 (λ q. omega (arith, s-small))
+    leader-stays : (j : ℕ) → leaderAt (set now (numbersBase + s) v) j ≡ leaderAt now j
+    leader-stays j = getD-set-other now (numbersBase + s) (leadersBase + j) v 0 (λ q. omega (arith, s-small))
 
-    number-stays : (t : ℕ) → t ≢ s → numberAt (set now (12416 + s) v) t ≡ numberAt now t
-    number-stays t g = getD-set-other now (12416 + s) (12416 + t) v 0 (λ q. g (omega arith))
+    number-stays : (t : ℕ) → t ≢ s → numberAt (set now (numbersBase + s) v) t ≡ numberAt now t
+    number-stays t g = getD-set-other now (numbersBase + s) (numbersBase + t) v 0 (λ q. g (omega arith))
 
   -- s is in a block that has a number
   module _ (j : ℕ) (hj : j < c) (f : Sought now c s j) where
     block-of : blockAt entry (leaderAt now j) ≡ blockAt entry s
     block-of = sym (same-block (leaderAt now j) (leader-small j hj)) ∙ f .found hj ∙ same-block s s-small
 
-    old-below : (t : ℕ) → Dec (t ≡ i) → t < i + 1 → numberAt (set now (12416 + s) j) (getD queue t 0) < c
+    old-below : (t : ℕ) → Dec (t ≡ i) → t < i + 1 → numberAt (set now (numbersBase + s) j) (getD queue t 0) < c
     old-below t (yes q) h = rw (q, stored j) hj
     old-below t (no g) h =
         let l : t < i = (let d : t ≢ i = g in omega arith) in
         rw (number-stays j (getD queue t 0) (other-entry t l)) (w .number-below t l)
 
     old-block : (t : ℕ) → Dec (t ≡ i) → t < i + 1
-        → blockAt entry (leaderAt (set now (12416 + s) j) (numberAt (set now (12416 + s) j) (getD queue t 0))) ≡ blockAt entry (getD queue t 0)
+        → blockAt entry (leaderAt (set now (numbersBase + s) j) (numberAt (set now (numbersBase + s) j) (getD queue t 0))) ≡ blockAt entry (getD queue t 0)
     old-block t (yes q) h = rw (q, stored j, leader-stays j j) block-of
     old-block t (no g) h =
         let l : t < i = (let d : t ≢ i = g in omega arith) in
         rw (number-stays j (getD queue t 0) (other-entry t l), leader-stays j (numberAt now (getD queue t 0))) (w .number-block t l)
 
     old-first : (t : ℕ) → Dec (t ≡ i) → t < i + 1
-        → placeAt queue (leaderAt (set now (12416 + s) j) (numberAt (set now (12416 + s) j) (getD queue t 0))) ≤ t + 1
+        → placeAt queue (leaderAt (set now (numbersBase + s) j) (numberAt (set now (numbersBase + s) j) (getD queue t 0))) ≤ t + 1
     old-first t (yes q) h = rw (q, stored j, leader-stays j j) (omega (arith, w .leader-passed j hj))
     old-first t (no g) h =
         let l : t < i = (let d : t ≢ i = g in omega arith) in
         rw (number-stays j (getD queue t 0) (other-entry t l), leader-stays j (numberAt now (getD queue t 0))) (w .number-first t l)
 
-    pub numbered-old : Numbered queue n (i + 1) c entry (set now (12416 + s) j)
+    pub numbered-old : Numbered queue n (i + 1) c entry (set now (numbersBase + s) j)
     numbered-old = record {
       few = omega (arith, w .few);
       some = λ h. omega arith;
@@ -134,28 +135,28 @@ module _ {queue : List ℕ} {n count i c : ℕ} {entry now : List ℕ} (e : Entr
       number-below = λ t h. old-below t (ℕ-discrete t i) h;
       number-block = λ t h. old-block t (ℕ-discrete t i) h;
       number-first = λ t h. old-first t (ℕ-discrete t i) h;
-      kept = unchanged-both (w .kept) (unchanged-set now (12416 + s) j (omega arith) (omega (arith, s-small)));
+      kept = unchanged-both (w .kept) (unchanged-set now (numbersBase + s) j (omega arith) (omega (arith, s-small)));
     }
 
   -- the block of s gets the next number
   module _ (f : Sought now c s c) where
     abbrev next : List ℕ
-    next = set (set now (12416 + s) c) (12480 + c) s
+    next = set (set now (numbersBase + s) c) (leadersBase + c) s
 
     c-small : c < 64
     c-small = omega (arith, w .few, e .few, e .small)
 
     new-number : numberAt next s ≡ c
-    new-number = getD-set-other (set now (12416 + s) c) (12480 + c) (12416 + s) s 0 (λ q. omega (arith, s-small)) ∙ stored c
+    new-number = getD-set-other (set now (numbersBase + s) c) (leadersBase + c) (numbersBase + s) s 0 (λ q. omega (arith, s-small)) ∙ stored c
 
     new-leader : leaderAt next c ≡ s
-    new-leader = getD-set-same (set now (12416 + s) c) (12480 + c) s 0 (omega (arith, c-small, length-set now (12416 + s) c))
+    new-leader = getD-set-same (set now (numbersBase + s) c) (leadersBase + c) s 0 (omega (arith, c-small, length-set now (numbersBase + s) c))
 
     leader-kept : (j : ℕ) → j < c → leaderAt next j ≡ leaderAt now j
-    leader-kept j h = getD-set-other (set now (12416 + s) c) (12480 + c) (12480 + j) s 0 (λ q. omega arith) ∙ leader-stays c j
+    leader-kept j h = getD-set-other (set now (numbersBase + s) c) (leadersBase + c) (leadersBase + j) s 0 (λ q. omega arith) ∙ leader-stays c j
 
     number-kept : (t : ℕ) → t < 64 → t ≢ s → numberAt next t ≡ numberAt now t
-    number-kept t h g = getD-set-other (set now (12416 + s) c) (12480 + c) (12416 + t) s 0 (λ q. omega arith) ∙ number-stays c t g
+    number-kept t h g = getD-set-other (set now (numbersBase + s) c) (leadersBase + c) (numbersBase + t) s 0 (λ q. omega arith) ∙ number-stays c t g
 
     -- what holds of the leaders before, and of s, holds of all
     each-leader : (P : ℕ → ℕ → Type 0) → ((j : ℕ) → j < c → P j (leaderAt now j)) → P c s → (j : ℕ) → j < c + 1 → P j (leaderAt next j)
@@ -217,8 +218,8 @@ module _ {queue : List ℕ} {n count i c : ℕ} {entry now : List ℕ} (e : Entr
       number-below = λ t h. new-below t (ℕ-discrete t i) h;
       number-block = λ t h. new-block t (ℕ-discrete t i) h;
       number-first = λ t h. new-first t (ℕ-discrete t i) h;
-      kept = unchanged-both (w .kept) (unchanged-both (unchanged-set now (12416 + s) c (omega arith) (omega (arith, s-small)))
-          (unchanged-set (set now (12416 + s) c) (12480 + c) s (omega arith) (omega (arith, c-small))));
+      kept = unchanged-both (w .kept) (unchanged-both (unchanged-set now (numbersBase + s) c (omega arith) (omega (arith, s-small)))
+          (unchanged-set (set now (numbersBase + s) c) (leadersBase + c) s (omega arith) (omega (arith, c-small))));
     }
 
   pub numbered-more : {exit : List ℕ} {r : ℕ} → Taken now exit c s r → Numbered queue n (i + 1) r entry exit

@@ -16,6 +16,7 @@ use Rattle.minimality.proofs.FirstStable.{blocks-many, blocks-at-most}
 use Rattle.reduce_first_round.specs.Map.{outcomeOf, outcomeAt, InOneBlock, BlocksAt}
 use Rattle.scratch.specs.Bytes.{UnchangedOutside}
 use Rattle.reduce_first_round.specs.Steps.{OutcomesWritten, BlocksWritten, TakenOver}
+use Rattle.scratch.specs.Map.{blocksBase, nextBlocksBase, numbersBase, outcomesBase}
 use Rattle.reduce_rounds.specs.Rounds.{RoundDone, RoundsSettled}
 use Rattle.scratch.proofs.Unchanged.{unchanged-none, unchanged-both, unchanged-wider}
 use Rattle.reduce_first_round.proofs.OutcomeBytes.{outcome-below}
@@ -27,8 +28,8 @@ module _ {m : Morphism} (closed : (a b : ℕ) → a < m .size → b < m .size �
     (images : (a : ℕ) → a < m .letters → m .image a < m .size) where
   -- from the blocks of an equivalence to those of what a round keeps together
   pub still-blocks : {R : ℕ → ℕ → Type 0} {entry exit : List ℕ} → ((s t : ℕ) → R s t → R t s) → ((s t u : ℕ) → R s t → R t u → R s u)
-      → BlocksAt (m .size) R entry 12288 → BlocksAt (m .size) (StillTogether m (InOneBlock entry)) exit 12288
-      → BlocksAt (m .size) (StillTogether m R) exit 12288
+      → BlocksAt (m .size) R entry blocksBase → BlocksAt (m .size) (StillTogether m (InOneBlock entry)) exit blocksBase
+      → BlocksAt (m .size) (StillTogether m R) exit blocksBase
   unfolding InOneBlock
   still-blocks {R} {entry} symmetric transitive b next =
       blocks-carry (λ t s ht hs. (
@@ -37,7 +38,7 @@ module _ {m : Morphism} (closed : (a b : ℕ) → a < m .size → b < m .size �
       )) next
 
   -- the two steps of a round
-  pub round-done : {entry now exit : List ℕ} {answer : Bool} → m .size ≤ 64 → BlocksWritten (m .size) (StillTogether m (InOneBlock entry)) 12352 entry now
+  pub round-done : {entry now exit : List ℕ} {answer : Bool} → m .size ≤ 64 → BlocksWritten (m .size) (StillTogether m (InOneBlock entry)) nextBlocksBase entry now
       → TakenOver (m .size) now exit answer → RoundDone m entry exit answer
   round-done {entry} {now} {exit} {answer} small w v = record {
     next = next;
@@ -53,13 +54,13 @@ module _ {m : Morphism} (closed : (a b : ℕ) → a < m .size → b < m .size �
     kept = unchanged-both (unchanged-wider (omega arith) (omega arith) (w .kept)) (unchanged-wider (omega arith) (omega arith) (v .kept));
   }
     where
-      next : BlocksAt (m .size) (StillTogether m (InOneBlock entry)) exit 12288
+      next : BlocksAt (m .size) (StillTogether m (InOneBlock entry)) exit blocksBase
       next = blocks-moved (v .blocks) (w .blocks)
 
-      old : (s : ℕ) → s < m .size → getD now (12288 + s) 0 ≡ getD entry (12288 + s) 0
-      old s h = w .kept .before (12288 + s) (omega arith)
+      old : (s : ℕ) → s < m .size → getD now (blocksBase + s) 0 ≡ getD entry (blocksBase + s) 0
+      old s h = w .kept .before (blocksBase + s) (omega arith)
 
-module _ {m : Morphism} {acc : ℕ → ℕ → ℕ} {i : ℕ} {entry exit : List ℕ} {answer : Bool} (b : BlocksAt (m .size) (Together m acc i) entry 12288)
+module _ {m : Morphism} {acc : ℕ → ℕ → ℕ} {i : ℕ} {entry exit : List ℕ} {answer : Bool} (b : BlocksAt (m .size) (Together m acc i) entry blocksBase)
     (r : RoundDone m entry exit answer) where
   -- a round that changes nothing is stable
   pub unchanged-is-stable : answer ≡ false → Stable m acc i
@@ -79,13 +80,13 @@ module _ {m : Morphism} {acc : ℕ → ℕ → ℕ} {i : ℕ} {entry exit : List
 
 -- round 0 stands there
 pub record Started (m : Morphism) (entry start : List ℕ) : Type 0 where
-  pub blocks : BlocksAt (m .size) (Together m (outcomeOf m entry) 0) start 12288
+  pub blocks : BlocksAt (m .size) (Together m (outcomeOf m entry) 0) start blocksBase
   pub outcomes : (s z : ℕ) → s < m .size → z < m .size → outcomeAt start s z ≡ outcomeOf m entry s z
-  pub kept : UnchangedOutside 8192 12416 entry start
+  pub kept : UnchangedOutside outcomesBase numbersBase entry start
 
 -- after the outcomes and the blocks of round 0
 pub started : {m : Morphism} {entry now start : List ℕ} → m .size ≤ 64 → OutcomesWritten m (m .size) entry now
-    → BlocksWritten (m .size) (Together m (outcomeAt now) 0) 12288 now start → Started m entry start
+    → BlocksWritten (m .size) (Together m (outcomeAt now) 0) blocksBase now start → Started m entry start
 unfolding Together
 started small o w = record {
   blocks = blocks-carry (same-outcomes-carry (o .outcomes)) (w .blocks);
@@ -95,18 +96,18 @@ started small o w = record {
 
 -- the blocks of round i stand there, and no round before was stable
 pub record RoundsRun (m : Morphism) (acc : ℕ → ℕ → ℕ) (i : ℕ) (now : List ℕ) : Type 0 where
-  pub blocks : BlocksAt (m .size) (Together m acc i) now 12288
+  pub blocks : BlocksAt (m .size) (Together m acc i) now blocksBase
   pub unstable : (j : ℕ) → j < i → Stable m acc j → ⊥
 
 -- whatever the outcomes whose round 0 stood at the start
 pub record Running (m : Morphism) (start now : List ℕ) (i : ℕ) : Type 0 where
-  pub runs : (acc : ℕ → ℕ → ℕ) → BlocksAt (m .size) (Together m acc 0) start 12288 → RoundsRun m acc i now
-  pub kept : UnchangedOutside 12288 12416 start now
+  pub runs : (acc : ℕ → ℕ → ℕ) → BlocksAt (m .size) (Together m acc 0) start blocksBase → RoundsRun m acc i now
+  pub kept : UnchangedOutside blocksBase numbersBase start now
 
 pub running-start : {m : Morphism} (start : List ℕ) → Running m start start 0
 running-start start = record {
   runs = λ acc b. record { blocks = b; unstable = λ j h. absurd (omega arith) };
-  kept = unchanged-none 12288 12416 start;
+  kept = unchanged-none blocksBase numbersBase start;
 }
 
 module _ {m : Morphism} {start now : List ℕ} {i : ℕ} (w : Running m start now i) where
@@ -126,7 +127,7 @@ module _ {m : Morphism} {start now : List ℕ} {i : ℕ} (w : Running m start no
     kept = unchanged-both (w .kept) (r .kept);
   })
     where
-      before : (acc : ℕ → ℕ → ℕ) → BlocksAt (m .size) (Together m acc 0) start 12288 → (j : ℕ) → j < suc i → Dec (j ≡ i) → Stable m acc j → ⊥
+      before : (acc : ℕ → ℕ → ℕ) → BlocksAt (m .size) (Together m acc 0) start blocksBase → (j : ℕ) → j < suc i → Dec (j ≡ i) → Stable m acc j → ⊥
       before acc b j h (yes q) st = changed-not-stable (w .runs acc b .blocks) r e (subst (Stable m acc) q st)
       before acc b j h (no g) st = let d : j ≢ i = g in w .runs acc b .unstable j (omega arith) st
 

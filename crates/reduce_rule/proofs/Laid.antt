@@ -18,7 +18,7 @@ use Rattle.reduce_first_round.specs.Map.{outcomeAt}
 use Rattle.reduce_numbering.specs.Steps.{numberAt, leaderAt}
 use Rattle.reduce_numbering.specs.Numbering.{NumberedAs}
 use Rattle.reduce_table.specs.Layout.{BlocksNeeds, blockProduct, blockImage, laidProduct, blockOutcome, blockMark, Filled, Grid}
-use Rattle.scratch.specs.Map.{laidImagesBase}
+use Rattle.scratch.specs.Map.{laidImagesBase, laidMarksBase, laidProductsBase, leadersBase, outcomesBase}
 use Rattle.rule_laid.specs.Laid.{LaidNeeds, LaidAs, LaidWritten}
 use Rattle.reduce_rule.specs.Steps.{QuotientNeeds, QuotientWritten}
 use Rattle.scratch.proofs.Rows.{pair-small}
@@ -49,17 +49,17 @@ saturated-above q acc i j hi hj =
     ∙ and-after (ltb i (q .size)) (ltb j (q .size)) (eqb (q .product j j) j) (eqb (q .product i j) i) (ltb 0 (acc i j)) (lt-ltb i (q .size) hi) (lt-ltb j (q .size) hj)
 
 module _ {bytes : List ℕ} {n k c : ℕ} (t : Table bytes n k) {entry table images out : List ℕ}
-    (p : QuotientNeeds n k c entry out) (g : Grid (blockProduct bytes n entry) 16384 c c c entry table)
-    (f : Filled (blockImage bytes n table) 20480 k table images) where
+    (p : QuotientNeeds n k c entry out) (g : Grid (blockProduct bytes n entry) laidProductsBase c c c entry table)
+    (f : Filled (blockImage bytes n table) laidImagesBase k table images) where
   abbrev m : Morphism
   m = morphismAt bytes n k
 
   -- bytes before the tables are as they were
-  front-kept : (i : ℕ) → i < 16384 → getD images i 0 ≡ getD entry i 0
+  front-kept : (i : ℕ) → i < laidProductsBase → getD images i 0 ≡ getD entry i 0
   front-kept i l = f .kept .before i (omega arith) ∙ g .kept .before i l
 
-  laid-product : (i j : ℕ) → i < c → j < c → getD images (16384 + (i * c + j)) 0 ≡ blockProduct bytes n entry i j
-  laid-product i j hi hj = f .kept .before (16384 + (i * c + j)) (omega (arith, pair-small c i j (p .blocks .small) hi hj)) ∙ g .filled i j hi hj
+  laid-product : (i j : ℕ) → i < c → j < c → getD images (laidProductsBase + (i * c + j)) 0 ≡ blockProduct bytes n entry i j
+  laid-product i j hi hj = f .kept .before (laidProductsBase + (i * c + j)) (omega (arith, pair-small c i j (p .blocks .small) hi hj)) ∙ g .filled i j hi hj
 
   leader-small : (j : ℕ) → j < c → leaderAt entry j < 64
   leader-small j l = omega (arith, t .small, p .blocks .leaders j l)
@@ -67,12 +67,12 @@ module _ {bytes : List ℕ} {n k c : ℕ} (t : Table bytes n k) {entry table ima
   pub images-place : BlocksNeeds 64 c images
   images-place = record {
     small = p .blocks .small;
-    leaders = λ j l. rw (front-kept (12480 + j) (omega (arith, p .blocks .small))) (leader-small j l);
+    leaders = λ j l. rw (front-kept (leadersBase + j) (omega (arith, p .blocks .small))) (leader-small j l);
     room = omega (arith, p .blocks .room, f .kept .same-length, g .kept .same-length);
   }
 
   -- the marks too
-  module _ {marks : List ℕ} (h : Grid (blockMark c images) 24576 64 c c images marks) where
+  module _ {marks : List ℕ} (h : Grid (blockMark c images) laidMarksBase 64 c c images marks) where
     pub marks-place : LaidNeeds laidImagesBase c k marks out
     marks-place = record {
       some = p .some;
@@ -101,9 +101,9 @@ module _ {bytes : List ℕ} {n k c : ℕ} (t : Table bytes n k) {entry table ima
       outcome-is i j hi hj =
           let si : leaderAt entry i < 64 = leader-small i hi in
           let sj : leaderAt entry j < 64 = leader-small j hj in
-          ap₂ (λ (x y : ℕ). getD images (8192 + (x * 64 + y)) 0)
-          (front-kept (12480 + i) (omega (arith, p .blocks .small))) (front-kept (12480 + j) (omega (arith, p .blocks .small)))
-          ∙ front-kept (8192 + (leaderAt entry i * 64 + leaderAt entry j)) (omega arith)
+          ap₂ (λ (x y : ℕ). getD images (outcomesBase + (x * 64 + y)) 0)
+          (front-kept (leadersBase + i) (omega (arith, p .blocks .small))) (front-kept (leadersBase + j) (omega (arith, p .blocks .small)))
+          ∙ front-kept (outcomesBase + (leaderAt entry i * 64 + leaderAt entry j)) (omega arith)
           ∙ same (leaderAt entry i) (leaderAt entry j) (p .blocks .leaders i hi) (p .blocks .leaders j hj)
           ∙ sym (ap₂ acc (b .leaders i) (b .leaders j))
 
@@ -122,9 +122,9 @@ module _ {bytes : List ℕ} {n k c : ℕ} (t : Table bytes n k) {entry table ima
         size-is = refl;
         letters-are = refl;
         products = λ i j hi hj.
-            h .kept .before (16384 + (i * c + j)) (omega (arith, pair-small c i j (p .blocks .small) hi hj)) ∙ laid-product i j hi hj ∙ product-is i j;
+            h .kept .before (laidProductsBase + (i * c + j)) (omega (arith, pair-small c i j (p .blocks .small) hi hj)) ∙ laid-product i j hi hj ∙ product-is i j;
         elements = λ a ha.
-            h .kept .before (20480 + a) (omega (arith, t .letters-small)) ∙ f .filled a ha ∙ image-kept (g .kept) (omega arith) t a ha ∙ image-is a;
+            h .kept .before (laidImagesBase + a) (omega (arith, t .letters-small)) ∙ f .filled a ha ∙ image-kept (g .kept) (omega arith) t a ha ∙ image-is a;
         marked = λ i j hi hj. ap (ltb 0) (h .filled i j hi hj) ∙ mark-is i j hi hj;
       }
 

@@ -9,6 +9,7 @@ use native.Mathlib.Omega.{arith}
 use borrow.Author.Tests.{eq-eqb, ne-eqb, lt-ltb, le-ltb}
 use lib.Dec.{eqb, ltb}
 use lib.ListN.{length, getD}
+use Rattle.scratch.specs.Map.{laidMarksBase, laidProductsBase, leadersBase, numbersBase, outcomesBase}
 use Rattle.finite.proofs.Search.{bit}
 use Rattle.rule_table.specs.Table.{Table}
 use Rattle.formats.specs.Table.{productAt, imageAt}
@@ -26,19 +27,19 @@ product-small t p i j hi hj = omega (arith, t .small, t .products _ _ (p .leader
 
 -- the places of a pair of blocks in the table and among the marks lie within scratch
 module _ {n c : ℕ} {entry : List ℕ} (p : BlocksNeeds n c entry) (i j : ℕ) (hi : i < c) (hj : j < c) {from to : ℕ} {now : List ℕ} (k : UnchangedOutside from to entry now) where
-  pub table-inside : 16384 + i * c + j < length now
+  pub table-inside : laidProductsBase + i * c + j < length now
   table-inside = omega (arith, pair-small c i j (p .small) hi hj, unchanged-room k (p .room))
 
-  pub marks-inside : 24576 + i * 64 + j < length now
+  pub marks-inside : laidMarksBase + i * 64 + j < length now
   marks-inside = omega (arith, p .small, unchanged-room k (p .room))
 
-module _ {from to : ℕ} {entry now : List ℕ} (k : UnchangedOutside from to entry now) (h : 16384 ≤ from) where
+module _ {from to : ℕ} {entry now : List ℕ} (k : UnchangedOutside from to entry now) (h : laidProductsBase ≤ from) where
   -- numbers and leaders are as they were
   number-kept : (s : ℕ) → s < 64 → numberAt now s ≡ numberAt entry s
-  number-kept s l = k .before (12416 + s) (omega arith)
+  number-kept s l = k .before (numbersBase + s) (omega arith)
 
   leader-kept : (j : ℕ) → j < 64 → leaderAt now j ≡ leaderAt entry j
-  leader-kept j l = k .before (12480 + j) (omega arith)
+  leader-kept j l = k .before (leadersBase + j) (omega arith)
 
   pub blocks-kept : {n c : ℕ} → BlocksNeeds n c entry → BlocksNeeds n c now
   blocks-kept p = record {
@@ -65,16 +66,16 @@ module _ {from to : ℕ} {entry now : List ℕ} (k : UnchangedOutside from to en
   image-kept {bytes} {n} t a ha = number-kept (imageAt bytes n a) (omega (arith, t .small, t .images a ha))
 
   -- and the marks, where the products are laid out already
-  pub mark-kept : 24576 ≤ from → {c : ℕ} → BlocksNeeds 64 c entry → (i j : ℕ) → i < c → j < c → blockMark c now i j ≡ blockMark c entry i j
+  pub mark-kept : laidMarksBase ≤ from → {c : ℕ} → BlocksNeeds 64 c entry → (i j : ℕ) → i < c → j < c → blockMark c now i j ≡ blockMark c entry i j
   unfolding blockMark laidProduct blockOutcome outcomeAt
   mark-kept g {c} p i j hi hj =
       let ei : leaderAt now i ≡ leaderAt entry i = leader-kept i (omega (arith, p .small)) in
       let ej : leaderAt now j ≡ leaderAt entry j = leader-kept j (omega (arith, p .small)) in
-      let square : laidProduct c now j j ≡ laidProduct c entry j j = k .before (16384 + (j * c + j)) (omega (arith, pair-small c j j (p .small) hj hj)) in
-      let stays : laidProduct c now i j ≡ laidProduct c entry i j = k .before (16384 + (i * c + j)) (omega (arith, pair-small c i j (p .small) hi hj)) in
+      let square : laidProduct c now j j ≡ laidProduct c entry j j = k .before (laidProductsBase + (j * c + j)) (omega (arith, pair-small c j j (p .small) hj hj)) in
+      let stays : laidProduct c now i j ≡ laidProduct c entry i j = k .before (laidProductsBase + (i * c + j)) (omega (arith, pair-small c i j (p .small) hi hj)) in
       let accepted : blockOutcome now i j ≡ blockOutcome entry i j =
-      ap₂ (λ (a b : ℕ). getD now (8192 + (a * 64 + b)) 0) ei ej
-      ∙ k .before (8192 + (leaderAt entry i * 64 + leaderAt entry j)) (omega (arith, p .leaders i hi, p .leaders j hj)) in
+      ap₂ (λ (a b : ℕ). getD now (outcomesBase + (a * 64 + b)) 0) ei ej
+      ∙ k .before (outcomesBase + (leaderAt entry i * 64 + leaderAt entry j)) (omega (arith, p .leaders i hi, p .leaders j hj)) in
       ap₂ (λ (x : ℕ) (b : Bool). bit (eqb x j && b)) square
       (ap₂ (λ (x y : ℕ). eqb x i && ltb 0 y) stays accepted)
 

@@ -1,6 +1,7 @@
 -- `reduce_first_round::first_blocks` meets its contract: the elements that were passed have their blocks. Assumes nothing.
 use Prim.Native.Nat.{_-_}
 use native.Mathlib.Omega.{arith}
+use Rattle.scratch.specs.Map.{blocksBase}
 use Rattle.formats.specs.Table.{morphismAt}
 use Rattle.minimality.specs.Rounds.{Together}
 use Rattle.reduce_first_round.specs.Map.{outcomeAt}
@@ -12,13 +13,13 @@ use Rattle.reduce_first_round.proofs.first_blocks.Statement.{statement}
 use Rattle.reduce_first_round.proofs.first_blocks.Tie as tie
 
 abbrev Inv-loop : tie.InvT-loop
-Inv-loop rule n k scratch₀ s₀ scratch s = BlocksWritten s (Together (morphismAt rule n k) (outcomeAt scratch₀) 0) 12288 scratch₀ scratch
+Inv-loop rule n k scratch₀ s₀ scratch s = BlocksWritten s (Together (morphismAt rule n k) (outcomeAt scratch₀) 0) blocksBase scratch₀ scratch
 
 abbrev μ-loop : tie.MeasureT-loop
 μ-loop rule n k scratch₀ s₀ scratch s = n - s
 
 loop-holds : tie.Need-loop-holds Inv-loop μ-loop
-loop-holds c = written-none 12288 _
+loop-holds c = written-none blocksBase _
 
 first-alike-requires : tie.Need-first-alike-requires Inv-loop μ-loop
 first-alike-requires c κs =

@@ -3,6 +3,7 @@ use Prim.Native.Nat.{_+_}
 use mathlib.Core.Path.{refl}
 use native.Mathlib.Omega.{arith}
 use borrow.Author.Needs.{needs}
+use Rattle.scratch.specs.Map.{leadersBase}
 use Rattle.reduce_first_round.specs.Map.{outcomeAt}
 use Rattle.reduce_table.specs.Layout.{blockOutcome}
 use Rattle.reduce_marks.proofs.block_outcome.Statement.{statement}
@@ -15,7 +16,7 @@ shared-slice-read-a : tie.Need-shared-slice-read-a
 shared-slice-read-a c = search needs
 
 cast-a : tie.Need-cast-a
-cast-a c = omega (arith, c .shared-slice-known .given (12480 + c .before .args .i))
+cast-a c = omega (arith, c .shared-slice-known .given (leadersBase + c .before .args .i))
 
 add-b : tie.Need-add-b
 add-b c = search needs
@@ -24,7 +25,7 @@ shared-slice-read-b : tie.Need-shared-slice-read-b
 shared-slice-read-b c = search needs
 
 cast-b : tie.Need-cast-b
-cast-b c = omega (arith, c .shared-slice-known2 .given (12480 + c .before .before .args .j))
+cast-b c = omega (arith, c .shared-slice-known2 .given (leadersBase + c .before .before .args .j))
 
 mul-result : tie.Need-mul-result
 mul-result c = omega (arith, c .before .before .pre .0 .leaders _ (c .before .before .pre .1 .0))

@@ -2,6 +2,7 @@
 use Prim.Native.Nat.{_+_, _*_}
 use mathlib.Core.Path.{refl}
 use native.Mathlib.Omega.{arith}
+use Rattle.scratch.specs.Map.{laidProductsBase}
 use Rattle.reduce_table.specs.Layout.{laidProduct}
 use Rattle.scratch.proofs.Rows.{pair-small}
 use Rattle.reduce_marks.proofs.laid_product.Statement.{statement}
@@ -20,7 +21,7 @@ shared-slice-read-result : tie.Need-shared-slice-read-result
 shared-slice-read-result c = omega (arith, pair-small _ _ _ (c .before .pre .0 .small) (c .before .pre .1 .0) (c .before .pre .1 .1), c .before .pre .0 .room)
 
 cast-result : tie.Need-cast-result
-cast-result c = omega (arith, c .shared-slice-known .given (16384 + (c .before .args .i * c .before .args .c + c .before .args .j)))
+cast-result c = omega (arith, c .shared-slice-known .given (laidProductsBase + (c .before .args .i * c .before .args .c + c .before .args .j)))
 
 returns : tie.Need-returns
 unfolding laidProduct

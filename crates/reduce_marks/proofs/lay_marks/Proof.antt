@@ -2,6 +2,7 @@
 use Prim.Native.Nat.{_-_, _≤_}
 use mathlib.Core.Path.{_∙_}
 use native.Mathlib.Omega.{arith}
+use Rattle.scratch.specs.Map.{laidMarksBase}
 use Rattle.reduce_table.specs.Layout.{blockMark, Grid}
 use Rattle.scratch.proofs.Rows.{rows-none, rows-more, rows-all}
 use Rattle.reduce_table.proofs.Blocks.{blocks-kept, mark-kept}
@@ -9,13 +10,13 @@ use Rattle.reduce_marks.proofs.lay_marks.Statement.{statement}
 use Rattle.reduce_marks.proofs.lay_marks.Tie as tie
 
 abbrev Inv-loop : tie.InvT-loop
-Inv-loop c scratch₀ i₀ scratch i = Grid (blockMark c scratch₀) 24576 64 c i scratch₀ scratch × (i ≤ c)
+Inv-loop c scratch₀ i₀ scratch i = Grid (blockMark c scratch₀) laidMarksBase 64 c i scratch₀ scratch × (i ≤ c)
 
 abbrev μ-loop : tie.MeasureT-loop
 μ-loop c scratch₀ i₀ scratch i = c - i
 
 loop-holds : tie.Need-loop-holds Inv-loop μ-loop
-loop-holds c = (rows-none 24576 64 _ _, omega arith)
+loop-holds c = (rows-none laidMarksBase 64 _ _, omega arith)
 
 marks-row-requires : tie.Need-marks-row-requires Inv-loop μ-loop
 marks-row-requires c κs =

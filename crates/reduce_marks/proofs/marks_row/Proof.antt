@@ -2,6 +2,7 @@
 use Prim.Native.Nat.{_-_, _+_, _*_, _≤_}
 use mathlib.Core.Path.{_∙_}
 use native.Mathlib.Omega.{arith}
+use Rattle.scratch.specs.Map.{laidMarksBase}
 use Rattle.reduce_table.specs.Layout.{blockMark, Filled}
 use Rattle.scratch.proofs.Rows.{filled-none, filled-more, filled-all}
 use Rattle.reduce_table.proofs.Blocks.{marks-inside, blocks-kept, mark-kept}
@@ -9,7 +10,7 @@ use Rattle.reduce_marks.proofs.marks_row.Statement.{statement}
 use Rattle.reduce_marks.proofs.marks_row.Tie as tie
 
 abbrev Inv-loop : tie.InvT-loop
-Inv-loop c scratch₀ i j₀ scratch j = Filled (blockMark c scratch₀ i) (24576 + i * 64) j scratch₀ scratch × (j ≤ c)
+Inv-loop c scratch₀ i j₀ scratch j = Filled (blockMark c scratch₀ i) (laidMarksBase + i * 64) j scratch₀ scratch × (j ≤ c)
 
 abbrev μ-loop : tie.MeasureT-loop
 μ-loop c scratch₀ i j₀ scratch j = c - j

@@ -2,6 +2,7 @@
 use Prim.Native.Nat.{_-_, _+_}
 use native.Mathlib.Omega.{arith}
 use borrow.Author.Needs.{needs}
+use Rattle.scratch.specs.Map.{leadersBase}
 use Rattle.reduce_numbering.proofs.Steps.{NoneSo, none-start, none-next, sought-found, sought-none}
 use Rattle.reduce_numbering.proofs.find.Statement.{statement}
 use Rattle.reduce_numbering.proofs.find.Tie as tie
@@ -28,16 +29,16 @@ shared-slice-read-leader : tie.Need-shared-slice-read-leader Inv-loop μ-loop
 shared-slice-read-leader c = omega arith
 
 cast-leader : tie.Need-cast-leader Inv-loop μ-loop
-cast-leader c = omega (arith, c .shared-slice-known2 .given (12480 + c .before .before .loop .j))
+cast-leader c = omega (arith, c .shared-slice-known2 .given (leadersBase + c .before .before .loop .j))
 
 add-if1 : tie.Need-add-if1 Inv-loop μ-loop
-add-if1 c = omega (arith, c .shared-slice-known2 .given (12480 + c .before .before .loop .j))
+add-if1 c = omega (arith, c .shared-slice-known2 .given (leadersBase + c .before .before .loop .j))
 
 shared-slice-read-if1 : tie.Need-shared-slice-read-if1 Inv-loop μ-loop
 shared-slice-read-if1 c =
     let at-loop = c .before .before .before in
     let start = at-loop .before .before in
-    omega (arith, c .before .shared-slice-known2 .given (12480 + at-loop .loop .j), start .pre .1)
+    omega (arith, c .before .shared-slice-known2 .given (leadersBase + at-loop .loop .j), start .pre .1)
 
 returns : tie.Need-returns Inv-loop μ-loop
 returns c = sought-found (c .before .before .before .loop-test .taken) (c .before .before .before .before .loop .inv) (c .if1 .taken)

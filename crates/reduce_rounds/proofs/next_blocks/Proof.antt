@@ -1,6 +1,7 @@
 -- `reduce_rounds::next_blocks` meets its contract: the elements that were passed have their new blocks. Assumes nothing.
 use Prim.Native.Nat.{_-_}
 use native.Mathlib.Omega.{arith}
+use Rattle.scratch.specs.Map.{nextBlocksBase}
 use Rattle.formats.specs.Table.{morphismAt}
 use Rattle.minimality.specs.Rounds.{StillTogether}
 use Rattle.reduce_first_round.specs.Map.{InOneBlock}
@@ -12,13 +13,13 @@ use Rattle.reduce_rounds.proofs.next_blocks.Statement.{statement}
 use Rattle.reduce_rounds.proofs.next_blocks.Tie as tie
 
 abbrev Inv-loop : tie.InvT-loop
-Inv-loop rule n k scratch₀ s₀ scratch s = BlocksWritten s (StillTogether (morphismAt rule n k) (InOneBlock scratch₀)) 12352 scratch₀ scratch
+Inv-loop rule n k scratch₀ s₀ scratch s = BlocksWritten s (StillTogether (morphismAt rule n k) (InOneBlock scratch₀)) nextBlocksBase scratch₀ scratch
 
 abbrev μ-loop : tie.MeasureT-loop
 μ-loop rule n k scratch₀ s₀ scratch s = n - s
 
 loop-holds : tie.Need-loop-holds Inv-loop μ-loop
-loop-holds c = written-none 12352 _
+loop-holds c = written-none nextBlocksBase _
 
 first-kept-requires : tie.Need-first-kept-requires Inv-loop μ-loop
 first-kept-requires c κs =

@@ -3,6 +3,7 @@ use Prim.Native.Nat.{_+_}
 use mathlib.Core.Path.{ap}
 use native.Mathlib.Omega.{arith}
 use borrow.Author.Needs.{needs}
+use Rattle.scratch.specs.Map.{leadersBase}
 use Rattle.rule_table.proofs.Facts.{table-place}
 use Rattle.reduce_numbering.specs.Steps.{numberAt}
 use Rattle.reduce_table.specs.Layout.{blockProduct}
@@ -17,7 +18,7 @@ shared-slice-read-a : tie.Need-shared-slice-read-a
 shared-slice-read-a c = search needs
 
 cast-a : tie.Need-cast-a
-cast-a c = omega (arith, c .shared-slice-known3 .given (12480 + c .before .before .before .args .i))
+cast-a c = omega (arith, c .shared-slice-known3 .given (leadersBase + c .before .before .before .args .i))
 
 add-b : tie.Need-add-b
 add-b c = search needs
@@ -26,7 +27,7 @@ shared-slice-read-b : tie.Need-shared-slice-read-b
 shared-slice-read-b c = search needs
 
 cast-b : tie.Need-cast-b
-cast-b c = omega (arith, c .shared-slice-known4 .given (12480 + c .before .before .before .before .args .j))
+cast-b c = omega (arith, c .shared-slice-known4 .given (leadersBase + c .before .before .before .before .args .j))
 
 product-requires : tie.Need-product-requires
 product-requires c κs =

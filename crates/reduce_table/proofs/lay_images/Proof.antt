@@ -3,6 +3,7 @@ use Prim.Native.Nat.{_-_, _≤_}
 use mathlib.Core.Path.{_∙_, ap}
 use native.Mathlib.Omega.{arith}
 use borrow.Author.Needs.{needs}
+use Rattle.scratch.specs.Map.{laidImagesBase}
 use Rattle.reduce_numbering.specs.Steps.{numberAt}
 use Rattle.reduce_table.specs.Layout.{blockImage, Filled}
 use Rattle.scratch.proofs.Rows.{filled-none, filled-more, filled-all}
@@ -11,7 +12,7 @@ use Rattle.reduce_table.proofs.lay_images.Statement.{statement}
 use Rattle.reduce_table.proofs.lay_images.Tie as tie
 
 abbrev Inv-loop : tie.InvT-loop
-Inv-loop rule n k scratch₀ a₀ scratch a = Filled (blockImage rule n scratch₀) 20480 a scratch₀ scratch × (a ≤ k)
+Inv-loop rule n k scratch₀ a₀ scratch a = Filled (blockImage rule n scratch₀) laidImagesBase a scratch₀ scratch × (a ≤ k)
 
 abbrev μ-loop : tie.MeasureT-loop
 μ-loop rule n k scratch₀ a₀ scratch a = k - a

@@ -3,6 +3,7 @@ use Prim.Native.Nat.{_-_, _≤_}
 use mathlib.Core.Path.{_∙_}
 use native.Mathlib.Omega.{arith}
 use native.Mathlib.Nat.{le-refl}
+use Rattle.scratch.specs.Map.{laidProductsBase}
 use Rattle.reduce_table.specs.Layout.{blockProduct, Grid}
 use Rattle.scratch.proofs.Rows.{rows-none, rows-more, rows-all}
 use Rattle.reduce_table.proofs.Blocks.{blocks-kept, product-kept}
@@ -10,13 +11,13 @@ use Rattle.reduce_table.proofs.lay_table.Statement.{statement}
 use Rattle.reduce_table.proofs.lay_table.Tie as tie
 
 abbrev Inv-loop : tie.InvT-loop
-Inv-loop rule n k c scratch₀ i₀ scratch i = Grid (blockProduct rule n scratch₀) 16384 c c i scratch₀ scratch × (i ≤ c)
+Inv-loop rule n k c scratch₀ i₀ scratch i = Grid (blockProduct rule n scratch₀) laidProductsBase c c i scratch₀ scratch × (i ≤ c)
 
 abbrev μ-loop : tie.MeasureT-loop
 μ-loop rule n k c scratch₀ i₀ scratch i = c - i
 
 loop-holds : tie.Need-loop-holds Inv-loop μ-loop
-loop-holds c = (rows-none 16384 _ _ _, omega arith)
+loop-holds c = (rows-none laidProductsBase _ _ _, omega arith)
 
 table-row-requires : tie.Need-table-row-requires Inv-loop μ-loop
 table-row-requires c κs =

@@ -1,6 +1,7 @@
 -- `reduce_table::table_row` meets its contract: the pairs (i, j) that were passed have their products. Assumes nothing.
 use Prim.Native.Nat.{_-_, _+_, _*_, _≤_}
 use native.Mathlib.Omega.{arith}
+use Rattle.scratch.specs.Map.{laidProductsBase}
 use Rattle.reduce_table.specs.Layout.{blockProduct, Filled}
 use Rattle.scratch.proofs.Rows.{pair-small, filled-none, filled-more, filled-all}
 use Rattle.reduce_table.proofs.Blocks.{table-inside, blocks-kept, product-stored}
@@ -8,7 +9,7 @@ use Rattle.reduce_table.proofs.table_row.Statement.{statement}
 use Rattle.reduce_table.proofs.table_row.Tie as tie
 
 abbrev Inv-loop : tie.InvT-loop
-Inv-loop rule n k c scratch₀ i j₀ scratch j = Filled (blockProduct rule n scratch₀ i) (16384 + i * c) j scratch₀ scratch × (j ≤ c)
+Inv-loop rule n k c scratch₀ i j₀ scratch j = Filled (blockProduct rule n scratch₀ i) (laidProductsBase + i * c) j scratch₀ scratch × (j ≤ c)
 
 abbrev μ-loop : tie.MeasureT-loop
 μ-loop rule n k c scratch₀ i j₀ scratch j = c - j
