@@ -1,6 +1,8 @@
 // Reads a rule file from standard input and writes one line: its summary, or the number and the place of its refusal.
 use libc::STDIN_FILENO;
 use libc::STDOUT_FILENO;
+use rules::RULE_SIZE;
+use rules::SCRATCH_SIZE;
 use rules::Summary;
 
 // Writes a number after a word.
@@ -51,9 +53,9 @@ fn line(answer: Summary) {
 // 12,309 bytes of the input are enough. The longest rule has 12,308 bytes: where the counts are in their ranges the sections end by
 // then, so a longer input is refused by 4 or earlier, at a place below 12,309, and no such refusal depends on a later byte.
 fn main() {
-    let mut input = [0u8; 12309];
-    let mut work = [0u8; 12308];
-    let mut scratch = [0u8; 65536];
+    let mut input = [0u8; RULE_SIZE + 1];
+    let mut work = [0u8; RULE_SIZE];
+    let mut scratch = [0u8; SCRATCH_SIZE];
     let n = io::read_full(STDIN_FILENO, &mut input);
     line(rules::summarize(&input[..n], &mut work, &mut scratch));
 }

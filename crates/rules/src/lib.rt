@@ -1,9 +1,11 @@
-// The library's public calls, in one place: each is passed on from the crate that has it, with the types of its answers. No
-// call asks anything of its caller: every input has its answer. A crate that calls these names the crates of the types among
-// its dependencies too, since a type is known there by the crate that declares it.
+// The library's public calls, in one place: each is passed on from the crate that has it, with the types of its answers, and the
+// sizes of the buffers that callers lend. No call asks anything of its caller: every input has its answer. A crate that calls these
+// names the crates of the types among its dependencies too, since a type is known there by the crate that declares it.
 pub use answer::Refusal;
 pub use answer::number;
 pub use automaton_call::automaton_rule;
+pub use formats::RULE_SIZE;
+pub use formats::SCRATCH_SIZE;
 pub use lasso_member::member;
 pub use lasso_stretch::stretch;
 pub use mark_classes::list_classes;

@@ -3,6 +3,7 @@
 use rules::Membership;
 use rules::Monitor;
 use rules::Moved;
+use rules::SCRATCH_SIZE;
 
 fn answer_line(answer: Membership) {
     match answer {
@@ -99,7 +100,7 @@ fn run_all(text: &[u8], scratch: &mut [u8]) {
 }
 
 fn main() {
-    let mut scratch = [7u8; 65536];
+    let mut scratch = [7u8; SCRATCH_SIZE];
     run_all(
         b"M2 W, u 1, v 0: lasso: 2 0 0 0 1 2 0 1 1 0 0 0: 1: 0\n\
         M3 W, u 0, v 1: lasso: 2 0 0 0 1 2 0 1 1 0 0 0: 0: 1\n\

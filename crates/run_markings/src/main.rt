@@ -5,7 +5,9 @@ use rules::Inclusion;
 use rules::Listed;
 use rules::Monitor;
 use rules::MonitorVerdict;
+use rules::RULE_SIZE;
 use rules::Refusal;
+use rules::SCRATCH_SIZE;
 use rules::Strength;
 
 fn refused(refusal: Refusal, input: usize, place: usize) {
@@ -98,12 +100,12 @@ fn verdict_line(answer: MonitorVerdict) {
 }
 
 fn classes(rule: &[u8], scratch: &mut [u8]) {
-    let mut out = [9u8; 12308];
+    let mut out = [9u8; RULE_SIZE];
     classes_line(rules::list_classes(rule, &mut out, scratch));
 }
 
 fn complement(rule: &[u8], scratch: &mut [u8]) {
-    let mut out = [9u8; 12308];
+    let mut out = [9u8; RULE_SIZE];
     complement_line(rules::complement(rule, &mut out, scratch), &out);
 }
 
@@ -161,7 +163,7 @@ fn run_all(text: &[u8], scratch: &mut [u8]) {
 }
 
 fn main() {
-    let mut scratch = [7u8; 65536];
+    let mut scratch = [7u8; SCRATCH_SIZE];
     run_all(
         b"M1 W: list: 2 0 0 0 1 2 0 1 1 0 0 0\n\
         M1 W: strength: 2 0 0 0 1 2 0 1 1 0 0 0\n\

@@ -1,5 +1,7 @@
 // Runs `rules::reduce` over document 01's small rules and over rules of 64 elements, and writes a line for each.
+use rules::RULE_SIZE;
 use rules::Reduced;
+use rules::SCRATCH_SIZE;
 
 // What a reduction wrote: its bytes where they are few, and else how many there are and the number of its elements.
 fn written_line(out: &[u8], length: usize) {
@@ -24,7 +26,7 @@ fn reduced_line(answer: Reduced, out: &[u8]) {
 }
 
 fn tell(rule: &[u8], scratch: &mut [u8]) {
-    let mut out = [9u8; 12308];
+    let mut out = [9u8; RULE_SIZE];
     reduced_line(rules::reduce(rule, &mut out, scratch), &out);
 }
 
@@ -38,7 +40,7 @@ fn length_of(answer: Reduced) -> usize {
 
 // Reduces what a reduction wrote.
 fn tell_again(rule: &[u8], scratch: &mut [u8]) {
-    let mut out = [9u8; 12308];
+    let mut out = [9u8; RULE_SIZE];
     let length = length_of(rules::reduce(rule, &mut out, scratch));
     tell(example_text::front(&out, length), scratch);
 }
@@ -52,7 +54,7 @@ fn answer(line: &[u8], rule: &[u8], scratch: &mut [u8]) {
 }
 
 fn run(line: &[u8], scratch: &mut [u8]) {
-    let mut rule = [0u8; 12308];
+    let mut rule = [0u8; RULE_SIZE];
     let length = example_text::numbers(line, 2, &mut rule);
     if example_text::command(line) != 0 {
         answer(line, &rule[..length], scratch);
@@ -66,7 +68,7 @@ fn run_all(text: &[u8], scratch: &mut [u8]) {
 }
 
 fn main() {
-    let mut scratch = [7u8; 65536];
+    let mut scratch = [7u8; SCRATCH_SIZE];
     run_all(
         b"M1 W: reduce: 2 0 0 0 1 2 0 1 1 0 0 0\n\
         M4 W with all pairs: reduce: 2 0 0 0 1 2 0 1 3 0 0 0 0 1 1 1\n\

@@ -2,6 +2,7 @@
 // counts, or the number and the place of its refusal. W is the file 2 0 0 0 1 2 0 1 1 0 0 0: a byte for the number of its
 // elements, 4 for their products, 3 for the letters, 2 for the number of marks and 2 for its mark.
 use rules::Inspected;
+use rules::SCRATCH_SIZE;
 
 fn answer_line(answer: Inspected) {
     match answer {
@@ -52,8 +53,8 @@ fn run_all(text: &[u8], scratch: &mut [u8], short: &mut [u8]) {
 }
 
 fn main() {
-    let mut scratch = [0u8; 65536];
-    let mut short = [0u8; 65535];
+    let mut scratch = [0u8; SCRATCH_SIZE];
+    let mut short = [0u8; SCRATCH_SIZE - 1];
     run_all(
         b"# The rules of document 01, a mark of W that is not linked, and a byte after W.\n\
         W: inspect: 2 0 0 0 1 2 0 1 1 0 0 0\n\

@@ -318,3 +318,33 @@ fn a_call_without_a_promise_is_found() {
         "",
     );
 }
+
+#[test]
+fn a_constant_declared_elsewhere_is_found() {
+    let face = |home: &str| {
+        format!("pub use engine::call;\npub use promises::Answer;\npub use {home}::SIZE;\n")
+    };
+    let constant = "pub const SIZE: usize = 2;\n";
+    let promises = turned(
+        "promises/src/lib.rt",
+        "pub enum",
+        &format!("{constant}\npub enum"),
+    );
+    let changes = [
+        ("rules/src/lib.rt", face("promises")),
+        ("promises/src/lib.rt", promises),
+    ];
+    let changes = changes
+        .each_ref()
+        .map(|(path, text)| (*path, text.as_str()));
+    assert_eq!(walked(&changes), (Vec::new(), 6));
+    let engine = turned("engine/src/lib.rt", "// Says yes.", constant);
+    one_fault(
+        &[
+            ("rules/src/lib.rt", &face("engine")),
+            ("engine/src/lib.rt", &engine),
+        ],
+        "rules::SIZE: declared on no floor of promises, in engine",
+        "",
+    );
+}

@@ -166,7 +166,7 @@ impl<'a> Walk<'a> {
         }
     }
 
-    /// Follows every call that the library's face passes on, and every type.
+    /// Follows every call that the library's face passes on, and every type; a constant needs a floor to stand on.
     pub fn follow_face(mut self) -> Walk<'a> {
         let face = self.sources.code("rules").expect("the library's face");
         for (line, form) in &face.unread {
@@ -179,6 +179,14 @@ impl<'a> Walk<'a> {
             let code = self.sources.code(home);
             match code.and_then(|code| code.function_named(&passed.item)) {
                 Some(function) => self.follow_function(home, function),
+                None if code.is_some_and(|code| code.has_constant(&passed.item)) => {
+                    if !self.floors.contains(&home) {
+                        self.fault(format!(
+                            "rules::{}: declared on no floor of promises, in {home}",
+                            passed.item
+                        ));
+                    }
+                }
                 None => self.name_type(home, &passed.item, &format!("rules::{}", passed.item)),
             }
         }

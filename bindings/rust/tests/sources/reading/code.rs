@@ -1,4 +1,4 @@
-//! A file of Rattle code: what it brings in, the types it declares, and its functions with their clauses.
+//! A file of Rattle code: what it brings in, the types and constants it declares, and its functions with their clauses.
 
 use super::module::{imports, Import};
 use super::words::{words, Word};
@@ -41,6 +41,8 @@ pub struct Code {
     pub ghost_imports: Vec<Import>,
     pub types: Vec<DeclaredType>,
     pub functions: Vec<Function>,
+    /// The names of its constants.
+    pub constants: Vec<String>,
     /// The identifiers outside `use` items and clauses.
     pub identifiers: Vec<String>,
     /// `use` items of a form that is not read here.
@@ -68,6 +70,7 @@ impl Code {
                 "use" => code.import(&tokens, at),
                 "enum" | "struct" => code.declared_type(&tokens, at),
                 "fn" => code.function(&text, &tokens, at),
+                "const" => code.constant(&tokens, at),
                 other => {
                     if is_identifier(other) {
                         code.identifiers.push(other.to_string());
@@ -85,6 +88,10 @@ impl Code {
 
     pub fn type_named(&self, name: &str) -> Option<&DeclaredType> {
         self.types.iter().find(|declared| declared.name == name)
+    }
+
+    pub fn has_constant(&self, name: &str) -> bool {
+        self.constants.iter().any(|constant| constant == name)
     }
 
     fn ghost_import(&mut self, text: &str, tokens: &[Token], at: usize) -> usize {
@@ -113,6 +120,12 @@ impl Code {
             _ => self.unread.push((tokens[at].line, "use".to_string())),
         }
         end + 1
+    }
+
+    /// Its name; its type and its value are read on as any code.
+    fn constant(&mut self, tokens: &[Token], at: usize) -> usize {
+        self.constants.push(tokens[at + 1].text.clone());
+        at + 2
     }
 
     fn declared_type(&mut self, tokens: &[Token], at: usize) -> usize {
