@@ -1,6 +1,8 @@
 // Runs `rules::automaton_rule` over document 01's automata and over automata at the limit of 64 matrices, and writes a line for each.
 use rules::Membership;
+use rules::RULE_SIZE;
 use rules::Reduced;
+use rules::SCRATCH_SIZE;
 use rules::Translated;
 
 // How many bytes a translation wrote. For a refusal this writes its line, and answers 0.
@@ -55,13 +57,13 @@ fn member_line(answer: Membership) {
 }
 
 fn reduce(rule: &[u8], scratch: &mut [u8]) {
-    let mut out = [9u8; 12308];
+    let mut out = [9u8; RULE_SIZE];
     reduced_line(rules::reduce(rule, &mut out, scratch), &out);
 }
 
 // Translates an automaton. The command says whether its rule is written, reduced, or asked for the lasso of letter 0.
 fn tell(line: &[u8], automaton: &[u8], scratch: &mut [u8]) {
-    let mut out = [9u8; 12308];
+    let mut out = [9u8; RULE_SIZE];
     let length = written(rules::automaton_rule(automaton, &mut out, scratch));
     let rule = example_text::front(&out, length);
     match example_text::command(line) {
@@ -100,7 +102,7 @@ fn run_all(text: &[u8], scratch: &mut [u8]) {
 
 // The idle automaton has an initial state that idles and a final one that loops, so that nothing is accepted.
 fn main() {
-    let mut scratch = [7u8; 65536];
+    let mut scratch = [7u8; SCRATCH_SIZE];
     run_all(
         b"M10: translate: 2 1 2 2 4 0 0 0 1 0 1 0 1 0 1 1 1 0\n\
         M10 reduced: reduce: 2 1 2 2 4 0 0 0 1 0 1 0 1 0 1 1 1 0\n\

@@ -4,6 +4,8 @@
 //
 // Word 0 has no letters, and word 16 · w + a + 1 is word w with the letter a after it: those of up to three letters are below 4,369.
 // The entry of word w for the states p and q is at 36 · w + 6 · p + q.
+use rules::RULE_SIZE;
+use rules::SCRATCH_SIZE;
 use rules::Translated;
 ghost use Prim.Native.Nat.{_<_};
 
@@ -165,8 +167,8 @@ fn rule_line(answer: Translated, rule: &[u8]) {
 
 fn run(line: &[u8]) {
     let mut file = [0u8; 82];
-    let mut rule = [9u8; 12308];
-    let mut scratch = [7u8; 65536];
+    let mut rule = [9u8; RULE_SIZE];
+    let mut scratch = [7u8; SCRATCH_SIZE];
     example_text::numbers(line, 2, &mut file);
     example_text::label(line);
     rule_line(rules::automaton_rule(&file, &mut rule, &mut scratch), &rule);

@@ -3,6 +3,7 @@
 use rules::InPlaceAnswer;
 use rules::Monitor;
 use rules::Moved;
+use rules::SCRATCH_SIZE;
 
 // The answer of a call that was lent a monitor, with the monitor that it left.
 fn with_monitor(told: InPlaceAnswer, monitor: Monitor) -> Moved {
@@ -85,7 +86,7 @@ fn run_all(text: &[u8], scratch: &mut [u8]) {
 }
 
 fn main() {
-    let mut scratch = [7u8; 65536];
+    let mut scratch = [7u8; SCRATCH_SIZE];
     run_all(
         b"# Events of W from a fresh monitor on, a letter that is none of W's, and a rule that does not associate.\n\
         W, 1: event: 2 0 0 0 1 2 0 1 1 0 0 0: 1\n\
