@@ -69,7 +69,6 @@ enum duknavet_refusal {
     DUKNAVET_UNREACHABLE = 6,          /* an element is no word's value: the least */
     DUKNAVET_NOT_LINKED = 7,           /* a marked pair is not linked: its first byte */
     DUKNAVET_DUPLICATE = 8,            /* a pair or transition stands twice: the first byte of the later */
-    DUKNAVET_NO_IDEMPOTENT_POWER = 9,  /* never answered: an associative table always has one */
     DUKNAVET_UNKNOWN_LETTER = 10,      /* a word or event has a letter of k or more: its position; 0 for an event */
     DUKNAVET_WORD_LENGTH = 11,         /* u or v is too short or long, or a verdict lacks a value: 0 */
     DUKNAVET_NOT_STRONG = 12,          /* the rule is not strong: 0 */

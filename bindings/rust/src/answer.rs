@@ -24,8 +24,6 @@ pub enum Refusal {
     NotLinked = 7,
     /// A pair or a transition stands twice. Place: the first byte of the later.
     Duplicate = 8,
-    /// No power of an element is idempotent. Never answered: an associative table always has one.
-    NoIdempotentPower = 9,
     /// A word or an event has a letter that the rule does not have. Place: its position, 0 for an event.
     UnknownLetter = 10,
     /// u (input 1) or v (input 2) does not have 1 to [`WORD`](crate::WORD) letters, or a verdict is wanted of a monitor that
@@ -40,7 +38,7 @@ pub enum Refusal {
 }
 
 impl Refusal {
-    /// The refusal's number, 1 to 14.
+    /// The refusal's number, 1 to 14, never 9.
     pub fn number(self) -> u8 {
         self as u8
     }
@@ -56,7 +54,6 @@ impl Refusal {
             6 => Refusal::Unreachable,
             7 => Refusal::NotLinked,
             8 => Refusal::Duplicate,
-            9 => Refusal::NoIdempotentPower,
             10 => Refusal::UnknownLetter,
             11 => Refusal::WordLength,
             12 => Refusal::NotStrong,
@@ -150,7 +147,7 @@ mod tests {
         for number in 0..=255 {
             match Refusal::from_number(number) {
                 Some(refusal) => assert_eq!(refusal.number(), number),
-                None => assert!(number == 0 || number > 14),
+                None => assert!(number == 0 || number == 9 || number > 14),
             }
         }
     }
@@ -170,7 +167,7 @@ mod tests {
 
     #[test]
     fn what_packs_no_answer_panics() {
-        for packed in [0x0000_010f, 0x0100, 0x0001, 0x0301] {
+        for packed in [0x0000_010f, 0x0000_0109, 0x0100, 0x0001, 0x0301] {
             assert!(catch_unwind(|| unpack(packed)).is_err());
         }
         assert!(catch_unwind(|| unpack_bool(0x2_0000)).is_err());

@@ -5,7 +5,7 @@ use native.Mathlib.Omega.{arith}
 use mathlib.Core.Path.{_≡_, subst}
 use mathlib.Core.List.{List, [], _∷_, _++_}
 use Rattle.answer.specs.declared.Refusal.{Refusal}
-use Rattle.answer.specs.declared.Refusal.the-variants.{Truncated, CountOutOfRange, EntryOutOfRange, TrailingBytes, NotAssociative, Unreachable, NotLinked, Duplicate, NoIdempotentPower, UnknownLetter, WordLength, NotStrong, BufferTooShort, TooManyMatrices}
+use Rattle.answer.specs.declared.Refusal.the-variants.{Truncated, CountOutOfRange, EntryOutOfRange, TrailingBytes, NotAssociative, Unreachable, NotLinked, Duplicate, UnknownLetter, WordLength, NotStrong, BufferTooShort, TooManyMatrices}
 use Rattle.answer.specs.Refusals.{numberOf}
 use Rattle.answer.specs.Checks.{passed, numbered, Check, Passes, firstOf, FirstFailure}
 use Rattle.answer.proofs.Order.{FirstCase, decides-now, hands-on, first-case, first-passes, first-fails, none-left}
@@ -51,7 +51,6 @@ number-range NotAssociative = (omega arith, omega arith)
 number-range Unreachable = (omega arith, omega arith)
 number-range NotLinked = (omega arith, omega arith)
 number-range Duplicate = (omega arith, omega arith)
-number-range NoIdempotentPower = (omega arith, omega arith)
 number-range UnknownLetter = (omega arith, omega arith)
 number-range WordLength = (omega arith, omega arith)
 number-range NotStrong = (omega arith, omega arith)

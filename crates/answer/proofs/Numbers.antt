@@ -1,9 +1,10 @@
--- No two refusals have one number: the number names the refusal. Assumes nothing.
+-- No two refusals have one number: the number names the refusal; and none has the number 9. Assumes nothing.
 use Prim.Native.Nat.{ℕ, zero, suc}
 use mathlib.Core.Path.{_≡_, refl, sym, ap, _∙_}
 use mathlib.Core.List.{List, [], _∷_}
+use native.Mathlib.Omega.{arith}
 use Rattle.answer.specs.declared.Refusal.{Refusal}
-use Rattle.answer.specs.declared.Refusal.the-variants.{Truncated, CountOutOfRange, EntryOutOfRange, TrailingBytes, NotAssociative, Unreachable, NotLinked, Duplicate, NoIdempotentPower, UnknownLetter, WordLength, NotStrong, BufferTooShort, TooManyMatrices}
+use Rattle.answer.specs.declared.Refusal.the-variants.{Truncated, CountOutOfRange, EntryOutOfRange, TrailingBytes, NotAssociative, Unreachable, NotLinked, Duplicate, UnknownLetter, WordLength, NotStrong, BufferTooShort, TooManyMatrices}
 use Rattle.answer.specs.Refusals.{numberOf}
 
 -- the place of a number in a list, the last refusal where the list ends
@@ -12,10 +13,10 @@ at [] n = TooManyMatrices
 at (r ∷ rs) zero = r
 at (r ∷ rs) (suc n) = at rs n
 
--- the refusal of a number
+-- the refusal of a number; 0 and 9, which none has, have the last
 unfoldable refusalOf : ℕ → Refusal
 unfolding at
-refusalOf n = at (TooManyMatrices ∷ Truncated ∷ CountOutOfRange ∷ EntryOutOfRange ∷ TrailingBytes ∷ NotAssociative ∷ Unreachable ∷ NotLinked ∷ Duplicate ∷ NoIdempotentPower ∷ UnknownLetter ∷ WordLength ∷ NotStrong ∷ BufferTooShort ∷ []) n
+refusalOf n = at (TooManyMatrices ∷ Truncated ∷ CountOutOfRange ∷ EntryOutOfRange ∷ TrailingBytes ∷ NotAssociative ∷ Unreachable ∷ NotLinked ∷ Duplicate ∷ TooManyMatrices ∷ UnknownLetter ∷ WordLength ∷ NotStrong ∷ BufferTooShort ∷ []) n
 
 back : (r : Refusal) → refusalOf (numberOf r) ≡ r
 unfolding refusalOf at
@@ -27,7 +28,6 @@ back NotAssociative = refl
 back Unreachable = refl
 back NotLinked = refl
 back Duplicate = refl
-back NoIdempotentPower = refl
 back UnknownLetter = refl
 back WordLength = refl
 back NotStrong = refl
@@ -36,3 +36,19 @@ back TooManyMatrices = refl
 
 pub same-number : (r r′ : Refusal) → numberOf r ≡ numberOf r′ → r ≡ r′
 same-number r r′ e = sym (back r) ∙ ap refusalOf e ∙ back r′
+
+-- no refusal has the number 9
+pub nine-unused : (r : Refusal) → numberOf r ≡ 9 → ⊥
+nine-unused Truncated e = omega (arith, e)
+nine-unused CountOutOfRange e = omega (arith, e)
+nine-unused EntryOutOfRange e = omega (arith, e)
+nine-unused TrailingBytes e = omega (arith, e)
+nine-unused NotAssociative e = omega (arith, e)
+nine-unused Unreachable e = omega (arith, e)
+nine-unused NotLinked e = omega (arith, e)
+nine-unused Duplicate e = omega (arith, e)
+nine-unused UnknownLetter e = omega (arith, e)
+nine-unused WordLength e = omega (arith, e)
+nine-unused NotStrong e = omega (arith, e)
+nine-unused BufferTooShort e = omega (arith, e)
+nine-unused TooManyMatrices e = omega (arith, e)

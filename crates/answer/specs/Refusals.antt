@@ -1,9 +1,9 @@
 -- Document 01's table of refusals, "Order of the checks": the number of each kind. Assumes nothing.
 use Prim.Native.Nat.{ℕ}
 use Rattle.answer.specs.declared.Refusal.{Refusal}
-use Rattle.answer.specs.declared.Refusal.the-variants.{Truncated, CountOutOfRange, EntryOutOfRange, TrailingBytes, NotAssociative, Unreachable, NotLinked, Duplicate, NoIdempotentPower, UnknownLetter, WordLength, NotStrong, BufferTooShort, TooManyMatrices}
+use Rattle.answer.specs.declared.Refusal.the-variants.{Truncated, CountOutOfRange, EntryOutOfRange, TrailingBytes, NotAssociative, Unreachable, NotLinked, Duplicate, UnknownLetter, WordLength, NotStrong, BufferTooShort, TooManyMatrices}
 
--- the column "Number", by the column "Trade word"
+-- the column "Number", by the column "Trade word"; 9 is no kind's number (document 02, Job 10)
 abbrev pub numberOf : Refusal → ℕ
 numberOf Truncated = 1  -- cut short
 numberOf CountOutOfRange = 2  -- miscount
@@ -13,7 +13,6 @@ numberOf NotAssociative = 5  -- not associative
 numberOf Unreachable = 6  -- unreached
 numberOf NotLinked = 7  -- unlinked
 numberOf Duplicate = 8  -- repeated
-numberOf NoIdempotentPower = 9  -- unsettled
 numberOf UnknownLetter = 10  -- foreign letter
 numberOf WordLength = 11  -- word length
 numberOf NotStrong = 12  -- weak

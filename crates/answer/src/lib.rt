@@ -21,8 +21,6 @@ pub enum Refusal {
     NotLinked,
     // Document 01: repeated. A pair or a transition stands twice.
     Duplicate,
-    // Document 01: unsettled. No power of an element within its range is idempotent.
-    NoIdempotentPower,
     // Document 01: foreign letter.
     UnknownLetter,
     // Document 01: word length. A word has no letter or too many, or a monitor has no value.
@@ -35,7 +33,7 @@ pub enum Refusal {
     TooManyMatrices,
 }
 
-// Document 01's number of a refusal.
+// Document 01's number of a refusal. 9 is no refusal's number.
 pub fn number(r: Refusal) -> u8
     ensures { λ n. ⌜ n ≡ numberOf r ⌝ }
 {
@@ -48,7 +46,6 @@ pub fn number(r: Refusal) -> u8
         Refusal::Unreachable => 6,
         Refusal::NotLinked => 7,
         Refusal::Duplicate => 8,
-        Refusal::NoIdempotentPower => 9,
         Refusal::UnknownLetter => 10,
         Refusal::WordLength => 11,
         Refusal::NotStrong => 12,

@@ -18,9 +18,8 @@ use Rattle.formats.proofs.Tables.{all-associate-none}
 use Rattle.formats.specs.Sections.{Section, countBytes, countAt}
 use Rattle.formats.proofs.Sections.{SectionGood, good-passes}
 use Rattle.formats.specs.RuleFile.{elementsOf, lettersAt, marksAt, marksOf, ruleEnd, morphismOf, markStart, markCycle, elementsSection, lettersSection, marksSection}
-use Rattle.formats.specs.RuleChecks.{tableChecks, markChecks, powerChecks, ruleChecks}
+use Rattle.formats.specs.RuleChecks.{tableChecks, markChecks, ruleChecks}
 use Rattle.rule_marks.proofs.MarkOrder.{GoodMark, marks-pass}
-use Rattle.rule_check.proofs.TablePassed.{lawful-powers-pass}
 use Rattle.formats.proofs.OneVerdict.{rule-single}
 use Rattle.examples.specs.Examples.{ChecksTo}
 
@@ -69,7 +68,7 @@ module _ (bytes : List ℕ) where
 
   -- where they pass, the table and the marks decide
   pub after-layout : {v : Verdict} → T layout-test
-      → FirstFailure (tableChecks 1 (morphismOf bytes) ++ (markChecks 1 (morphismOf bytes) bytes (marksAt bytes) 0 (marksOf bytes) ++ powerChecks 1 (morphismOf bytes))) v
+      → FirstFailure (tableChecks 1 (morphismOf bytes) ++ markChecks 1 (morphismOf bytes) bytes (marksAt bytes) 0 (marksOf bytes)) v
       → FirstFailure (ruleChecks 1 bytes) v
   unfolding layout-test ruleChecks
   after-layout t f =
@@ -126,8 +125,7 @@ module _ (bytes : List ℕ) where
       after-layout (T-and-left layout-test _ t)
       (first-passes (record { nowhere = λ place f. all-associate-none (record { associate = law .associative }) f })
       (first-passes (record { nowhere = λ place f. f .no-word (reached .word-of place (f .inside)) })
-      (passed-before _ _ (marks-pass 1 (marksOf bytes) (record { good = λ j h. mark-elim j (all-elim (marksOf bytes) mark-test marks j h) }))
-      (lawful-powers-pass 1 law))))
+      (marks-pass 1 (marksOf bytes) (record { good = λ j h. mark-elim j (all-elim (marksOf bytes) mark-test marks j h) }))))
 
 -- a verdict of the checks is the only one
 pub checks-to : {bytes : List ℕ} {v : Verdict} → FirstFailure (ruleChecks 1 bytes) v → ChecksTo bytes v

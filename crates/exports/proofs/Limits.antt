@@ -12,7 +12,7 @@ use Rattle.answer.specs.Refusals.{numberOf}
 use Rattle.answer.specs.Checks.{Check, passed, refused, FirstFailure}
 use Rattle.answer.proofs.Limits.{Limited, limited-nil, limited-cons, limited-append, number-range}
 use Rattle.theory.specs.Rules.{Morphism}
-use Rattle.formats.specs.TableChecks.{NotAssociativeAt, UnreachedAt, NoIdempotentPowerAt}
+use Rattle.formats.specs.TableChecks.{NotAssociativeAt, UnreachedAt}
 use Rattle.formats.specs.Sections.{twoBytes, sectionChecks}
 use Rattle.formats.proofs.Sections.{passed-good}
 use Rattle.sections.proofs.Limits.{section-limited, list-limited}
@@ -81,7 +81,7 @@ module _ (bytes : List ℕ) where
         ),
       ))
 
-  -- 4, 5, 6, 7 and 8, 9
+  -- 4, 5, 6, 7 and 8
   content-limited : FirstFailure (layoutChecks 1 bytes) passed → Limited Near (contentChecks 1 bytes)
   unfolding ruleEnd marksAt lettersAt
   content-limited all =
@@ -91,9 +91,7 @@ module _ (bytes : List ℕ) where
       let c-small = marks-small bytes all in
       limited-cons (λ place (f : TrailingAt _ _ place). near (omega arith) (omega (arith, f .is-place)))
       (λ _. limited-append (tableChecks 1 (morphismOf bytes)) (table-limited (morphismOf bytes) n-small)
-      (λ _. limited-append (markChecks 1 (morphismOf bytes) bytes (marksAt bytes) 0 (marksOf bytes))
-      (marks-limited 1 (morphismOf bytes) bytes (marksAt bytes) 0 (marksOf bytes) (omega arith) (omega arith))
-      (λ _. limited-cons (λ place (f : NoIdempotentPowerAt (morphismOf bytes) place). near (omega arith) (omega (arith, f .inside))) (λ _. limited-nil))))
+      (λ _. marks-limited 1 (morphismOf bytes) bytes (marksAt bytes) 0 (marksOf bytes) (omega arith) (omega arith)))
 
   -- a rule, with the scratch that is lent
   pub checked-limited : (scratch : List ℕ) → Limited Near (checkedChecks 1 bytes scratch)

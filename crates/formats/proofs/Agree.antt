@@ -1,16 +1,12 @@
 -- Two morphisms with the same size and the same letters that agree on elements and letters: what the rule checks say of one
 -- they say of the other, for values, words, products and powers look at the table below the size only. Assumes nothing.
-use Prim.Native.Nat.{ℕ, zero, suc, _<_}
+use Prim.Native.Nat.{ℕ, _<_}
 use mathlib.Core.Path.{_≡_, refl, sym, ap, subst, _∙_}
 use mathlib.Core.List.{List}
 use Rattle.theory.specs.Words.{Over, over-nil, over-cons}
 use Rattle.theory.specs.Rules.{Morphism, Lawful, Value, element, join, value, WordOf, AllReached}
-use Rattle.theory.specs.Pairs.{Idempotent, Linked, power}
+use Rattle.theory.specs.Pairs.{Idempotent, Linked}
 use Rattle.theory.proofs.Values.{Inside, inside-none, inside-element, value-inside}
-use Rattle.theory.proofs.Powers.{times-inside, idempotent-power}
-use Rattle.theory.proofs.Conjugacy.{semigroup}
-use Rattle.formats.specs.TableChecks.{HasIdempotentPower}
-use Rattle.formats.proofs.Tables.{power-times}
 
 -- the second morphism has the first one's size, letters, products and images
 pub record Agree (m m′ : Morphism) : Type 0 where
@@ -18,10 +14,6 @@ pub record Agree (m m′ : Morphism) : Type 0 where
   pub same-letters : m′ .letters ≡ m .letters
   pub same-product : (a b : ℕ) → a < m .size → b < m .size → m′ .product a b ≡ m .product a b
   pub same-image : (a : ℕ) → a < m .letters → m′ .image a ≡ m .image a
-
--- a power of an element is an element
-power-inside : {m : Morphism} {x : ℕ} → Lawful m → x < m .size → (i : ℕ) → power m x i < m .size
-power-inside {m} {x} law h i = rw (power-times m x i) (times-inside (semigroup law) h h i)
 
 module _ {m m′ : Morphism} (agree : Agree m m′) where
   -- an element of one is an element of the other
@@ -89,31 +81,3 @@ module _ {m m′ : Morphism} (agree : Agree m m′) where
             ∙ law .associative a b c ha hb hc
             ∙ sym (agree .same-product a (m .product b c) ha (law .closed b c hb hc))
             ∙ ap (m′ .product a) (sym (agree .same-product b c hb hc))
-
-    -- both have the same powers of an element
-    pub agree-power : {x : ℕ} → x < m .size → (i : ℕ) → power m′ x i ≡ power m x i
-    unfolding power
-    agree-power h zero = refl
-    agree-power {x} h (suc i) =
-        ap (λ (y : ℕ). m′ .product y x) (agree-power h i) ∙ agree .same-product (power m x i) x (power-inside law h i) h
-
-    -- so an element with an idempotent power keeps it
-    pub agree-settles : {x : ℕ} → x < m .size → HasIdempotentPower m x → HasIdempotentPower m′ x
-    agree-settles {x} h s = record {
-      index = s .index;
-      below = below-second (s .below);
-      idempotent = rw (agree-power h (s .index)) (agree-idempotent (s .idempotent));
-    }
-
--- every element of a lawful table has an idempotent power
-pub lawful-settles : {m : Morphism} {x : ℕ} → Lawful m → x < m .size → HasIdempotentPower m x
-lawful-settles {m} {x} law h =
-    let p = idempotent-power (semigroup law) h in
-    record {
-      index = p .index;
-      below = p .below;
-      idempotent = record {
-        inside = power-inside law h (p .index);
-        square = rw power-times (p .square);
-      };
-    }

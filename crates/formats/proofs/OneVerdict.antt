@@ -4,12 +4,12 @@ use mathlib.Core.Path.{subst}
 use mathlib.Core.List.{List}
 use Rattle.answer.proofs.Order.{AllSingle, single-nil, single-at, single-cons, single-append}
 use Rattle.theory.specs.Rules.{Morphism}
-use Rattle.formats.proofs.Tables.{not-associative-unique, unsettled-unique, unreached-unique}
+use Rattle.formats.proofs.Tables.{not-associative-unique, unreached-unique}
 use Rattle.formats.proofs.SectionList.{list-single}
 use Rattle.formats.proofs.RuleSections.{ruleSections, rule-list}
 use Rattle.formats.specs.RuleFile.{marksAt, marksOf, morphismOf}
 use Rattle.formats.proofs.Buffers.{buffer-single}
-use Rattle.formats.specs.RuleChecks.{UnlinkedAt, TrailingAt, RepeatedAt, layoutChecks, tableChecks, markChecks, powerChecks, contentChecks, ruleChecks}
+use Rattle.formats.specs.RuleChecks.{UnlinkedAt, TrailingAt, RepeatedAt, layoutChecks, tableChecks, markChecks, contentChecks, ruleChecks}
 use Rattle.formats.specs.Calls.{checkedChecks}
 
 module _ (input : ℕ) where
@@ -27,10 +27,6 @@ module _ (input : ℕ) where
       single-cons (single-at (λ place (a : UnlinkedAt _ _ _ _ place). a .is-place))
       (single-cons (single-at (λ place (a : RepeatedAt _ _ _ place). a .is-place)) (marks-single m bytes at (suc i) count))
 
-  -- 9
-  powers-single : (m : Morphism) → AllSingle (powerChecks input m)
-  powers-single m = single-cons (record { one-place = λ p q a b. unsettled-unique a b }) single-nil
-
   module _ (bytes : List ℕ) where
     -- 1 to 3
     layout-single : AllSingle (layoutChecks input bytes)
@@ -39,7 +35,7 @@ module _ (input : ℕ) where
     content-single : AllSingle (contentChecks input bytes)
     content-single =
         single-cons (single-at (λ place (a : TrailingAt _ _ place). a .is-place))
-        (single-append (table-single (morphismOf bytes)) (single-append (marks-single (morphismOf bytes) bytes (marksAt bytes) 0 (marksOf bytes)) (powers-single (morphismOf bytes))))
+        (single-append (table-single (morphismOf bytes)) (marks-single (morphismOf bytes) bytes (marksAt bytes) 0 (marksOf bytes)))
 
     -- every check of a rule file fails at one place at most
     pub rule-single : AllSingle (ruleChecks input bytes)

@@ -16,7 +16,7 @@ use Rattle.formats.specs.RuleFile.{lettersAt, marksAt, marksOf, markStar
 use Rattle.formats.specs.RuleChecks.{layoutChecks, markChecks, ruleChecks, RepeatedAt}
 use Rattle.formats.specs.ReadBack.{ReadsBack, FileShape, WrittenRule}
 use Rattle.formats.specs.WrittenFile.{markNumbers, fileOf, FitsFormat}
-use Rattle.formats.proofs.Agree.{Agree, agree-lawful, agree-linked, agree-reached, lawful-settles}
+use Rattle.formats.proofs.Agree.{Agree, agree-lawful, agree-linked, agree-reached}
 use Rattle.formats.proofs.Stands.{elements-are, letters-are, letters-from, marks-from, marks-are, ends-there, product-stands, image-stands, start-stands, cycle-stands}
 use Rattle.formats.proofs.Marks.{number-marked, marking-stands, marks-apart}
 use Rattle.formats.proofs.GoodSections.{NamesElements, lawful-names, elements-pass, letters-pass, marks-pass, file-short, file-over}
@@ -89,7 +89,7 @@ module _ (m : Morphism) (marks : Marking) (fits : FitsFormat m) (law : Lawful m)
       (sym (elements-are m marks)) (sym (marks-from m marks))
       (marks-pass m marks fits (lawful-names law) input (marksAt (fileOf m marks)))))
 
-  -- a written rule passes every check, whatever its number among the inputs: 1 to 3, then 4, 5, 6, then 7 and 8, then 9
+  -- a written rule passes every check, whatever its number among the inputs: 1 to 3, then 4, 5, 6, then 7 and 8
   pub file-passes : AllReached m → (input : ℕ) → FirstFailure (ruleChecks input (fileOf m marks)) passed
   unfolding ruleChecks
   file-passes reached input =
@@ -97,8 +97,7 @@ module _ (m : Morphism) (marks : Marking) (fits : FitsFormat m) (law : Lawful m)
       (first-passes (record { nowhere = λ place f. omega (arith, f .longer, ends-there m marks) })
       (first-passes (record { nowhere = λ place f. all-associate-none (record { associate = agree-lawful agrees law .associative }) f })
       (first-passes (record { nowhere = λ place f. f .no-word (agree-reached agrees law reached .word-of place (f .inside)) })
-      (passed-before _ _ (marks-checked input 0 (marksOf (fileOf m marks)) (omega (arith, marks-are m marks)))
-      (first-passes (record { nowhere = λ place f. f .unsettled (lawful-settles (agree-lawful agrees law) (f .inside)) }) none-left)))))
+      (marks-checked input 0 (marksOf (fileOf m marks)) (omega (arith, marks-are m marks))))))
 
   -- so a written rule keeps what its file promises
   pub written-rule : {entry exit : List ℕ} {r : ℕ} → AllReached m → AtFront (fileOf m marks) entry exit r → WrittenRule m marks entry exit r

@@ -1,29 +1,14 @@
--- The checks 5, 6 and 9 of a table fail at one place at most. Assumes nothing.
-use Prim.Native.Nat.{ℕ, _+_, _<_, zero, suc}
-use mathlib.Core.Path.{_≡_, refl, sym, ap}
+-- The checks 5 and 6 of a table fail at one place at most. Assumes nothing.
+use Prim.Native.Nat.{ℕ, _<_}
+use mathlib.Core.Path.{_≡_, sym}
 use native.Mathlib.Omega.{arith}
 use Rattle.theory.specs.Rules.{Morphism}
-use Rattle.theory.specs.Pairs.{Idempotent, power}
-use Rattle.formats.specs.TableChecks.{Associates, TripleBefore, by-a, by-b, by-c, NotAssociativeAt, NoIdempotentPowerAt, UnreachedAt}
+use Rattle.formats.specs.TableChecks.{Associates, TripleBefore, by-a, by-b, by-c, NotAssociativeAt, UnreachedAt}
 use Rattle.finite.proofs.Numbers.{Compared, lesser, level, greater, compared}
-use Rattle.theory.proofs.Powers.{times}
 
 -- every triple associates
 pub record AllAssociate (m : Morphism) : Type 0 where
   pub associate : (a b c : ℕ) → a < m .size → b < m .size → c < m .size → Associates m a b c
-
--- e is the power of x with the least exponent that is idempotent; the exponent is one above `index`
-pub record LeastPower (m : Morphism) (x e exponent : ℕ) : Type 0 where
-  pub index : ℕ
-  pub below : index < m .size
-  pub is-exponent : exponent ≡ index + 1
-  pub is-power : e ≡ power m x index
-  pub idempotent : Idempotent m e
-  pub least : (i : ℕ) → i < index → Idempotent m (power m x i) → ⊥
-
--- no power with an exponent 1 to n is idempotent
-pub record NoPower (m : Morphism) (x : ℕ) : Type 0 where
-  pub none : (i : ℕ) → i < m .size → Idempotent m (power m x i) → ⊥
 
 -- of two triples one stands before the other, or they are equal
 data TriplesCompared (a b c a′ b′ c′ : ℕ) : Type 0 where
@@ -55,21 +40,6 @@ not-associative-unique {m} {p} {q} s t = go (triples-compared (s .a) (s .b) (s .
 -- where all triples associate, line 5 refuses nothing
 pub all-associate-none : {m : Morphism} {p : ℕ} → AllAssociate m → NotAssociativeAt m p → ⊥
 all-associate-none all s = s .differs (all .associate (s .a) (s .b) (s .c) (s .a-inside) (s .b-inside) (s .c-inside))
-
--- a power, written by factors as the theory of powers does
-pub power-times : (m : Morphism) (x i : ℕ) → power m x i ≡ times (m .product) x x i
-unfolding power times
-power-times m x zero = refl
-power-times m x (suc i) = ap (λ (y : ℕ). m .product y x) (power-times m x i)
-
--- the place of line 9 is one
-pub unsettled-unique : {m : Morphism} {p q : ℕ} → NoIdempotentPowerAt m p → NoIdempotentPowerAt m q → p ≡ q
-unsettled-unique {m} {p} {q} s t = go (compared p q)
-  where
-    go : Compared p q → p ≡ q
-    go (lesser h) = absurd (s .unsettled (t .least p h))
-    go (level e) = e
-    go (greater h) = absurd (t .unsettled (s .least q h))
 
 -- the least element that is no word's value is one
 pub unreached-unique : {m : Morphism} {p q : ℕ} → UnreachedAt m p → UnreachedAt m q → p ≡ q

@@ -1,14 +1,14 @@
 -- Every check of a rule file, in document 01's order: "1 to 3 section by section .., then 4, 5 .., 6, then 7 before 8 pair by
--- pair, then 9". Assumes nothing.
+-- pair". There is no check 9 (document 02, Job 10): a table that associates has what it asked for. Assumes nothing.
 use Prim.Native.Nat.{ℕ, zero, suc, _+_, _*_, _<_}
 use mathlib.Core.Path.{_≡_}
 use mathlib.Core.List.{List, [], _∷_, _++_}
 use lib.ListN.{length, drop}
-use Rattle.answer.specs.declared.Refusal.the-variants.{TrailingBytes, NotAssociative, Unreachable, NotLinked, Duplicate, NoIdempotentPower, BufferTooShort}
+use Rattle.answer.specs.declared.Refusal.the-variants.{TrailingBytes, NotAssociative, Unreachable, NotLinked, Duplicate, BufferTooShort}
 use Rattle.answer.specs.Checks.{Check}
 use Rattle.theory.specs.Rules.{Morphism}
 use Rattle.theory.specs.Pairs.{Linked}
-use Rattle.formats.specs.TableChecks.{NotAssociativeAt, UnreachedAt, NoIdempotentPowerAt}
+use Rattle.formats.specs.TableChecks.{NotAssociativeAt, UnreachedAt}
 use Rattle.formats.specs.Sections.{twoBytes, sectionChecks}
 use Rattle.formats.specs.RuleFile.{elementsOf, lettersAt, marksAt, marksOf, ruleEnd, morphismOf, markStart, markCycle, markWidth, elementsSection, lettersSection, marksSection}
 
@@ -55,17 +55,12 @@ tableChecks input m =
     ∷ record { refusal = Unreachable; input = input; Fails = UnreachedAt m }
     ∷ []
 
--- 9
-abbrev pub powerChecks : ℕ → Morphism → List Check
-powerChecks input m = record { refusal = NoIdempotentPower; input = input; Fails = NoIdempotentPowerAt m } ∷ []
-
--- 4, then 5, 6, then 7 and 8, then 9
+-- 4, then 5, 6, then 7 and 8
 abbrev pub contentChecks : ℕ → List ℕ → List Check
 contentChecks input bytes =
     trailingCheck input (ruleEnd bytes) bytes
     ∷ (tableChecks input (morphismOf bytes)
-    ++ (markChecks input (morphismOf bytes) bytes (marksAt bytes) 0 (marksOf bytes)
-    ++ powerChecks input (morphismOf bytes)))
+    ++ markChecks input (morphismOf bytes) bytes (marksAt bytes) 0 (marksOf bytes))
 
 -- a rule file, as an input of the given number
 unfoldable pub ruleChecks : ℕ → List ℕ → List Check

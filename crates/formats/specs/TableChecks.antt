@@ -1,8 +1,7 @@
--- The lines 5, 6 and 9 of document 01's table of refusals, for any morphism. Assumes nothing.
+-- The lines 5 and 6 of document 01's table of refusals, for any morphism. Assumes nothing.
 use Prim.Native.Nat.{ℕ, _+_, _*_, _<_}
 use mathlib.Core.Path.{_≡_}
 use Rattle.theory.specs.Rules.{Morphism, WordOf}
-use Rattle.theory.specs.Pairs.{Idempotent, power}
 
 -- (a·b)·c = a·(b·c)
 abbrev pub Associates : Morphism → ℕ → ℕ → ℕ → Type 0
@@ -31,15 +30,3 @@ pub record UnreachedAt (m : Morphism) (place : ℕ) : Type 0 where
   pub inside : place < m .size
   pub no-word : WordOf m place → ⊥
   pub least : (s : ℕ) → s < place → WordOf m s
-
--- some power with an exponent 1 to n of the element is idempotent
-pub record HasIdempotentPower (m : Morphism) (x : ℕ) : Type 0 where
-  pub index : ℕ
-  pub below : index < m .size
-  pub idempotent : Idempotent m (power m x index)
-
--- 9 "no power 1 to n of an element is idempotent": "the least"
-pub record NoIdempotentPowerAt (m : Morphism) (place : ℕ) : Type 0 where
-  pub inside : place < m .size
-  pub unsettled : HasIdempotentPower m place → ⊥
-  pub least : (x : ℕ) → x < place → HasIdempotentPower m x

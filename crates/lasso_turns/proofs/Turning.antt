@@ -10,15 +10,13 @@ use native.Mathlib.Nat.{mod-lt}
 use lib.Dec.{T}
 use Rattle.finite.specs.Search.{anyBelow}
 use Rattle.theory.specs.Rules.{Lawful, Pairs}
+use Rattle.theory.specs.Pairs.{LeastPower}
+use Rattle.theory.proofs.IdempotentPowers.{least-power-is}
 use Rattle.theory.proofs.Powers.{times, idempotent-of, settling}
 use Rattle.theory.proofs.Membership.{turn-look, turn-test, past-mod}
-use Rattle.rule_table.specs.declared.Power.{Power}
-use Rattle.rule_table.specs.declared.Power.the-variants.{Idempotent as Idempotent-power, Nothing as No-power}
 use Rattle.rule_table.specs.Table.{Table}
 use Rattle.formats.specs.Table.{productAt, morphismAt}
-use Rattle.formats.proofs.Tables.{LeastPower, NoPower}
-use Rattle.rule_table.specs.Answers.{PowerAnswer}
-use Rattle.rule_table.proofs.Facts.{product-below, least-power-is}
+use Rattle.rule_table.proofs.Facts.{product-below}
 use Rattle.lasso_turns.proofs.Looks.{NoneBelow, none-start, none-next, any-true, any-false}
 
 -- e is the idempotent power of r, s is p·e·r^j, and no pair (p·e·r^i, e) with i below j is in P
@@ -30,14 +28,6 @@ pub record TurnLooked (bytes : List ℕ) (n k : ℕ) (P : Pairs) (p r e s j : �
   pub is-power : e ≡ idempotent-of n (productAt bytes n) r
   pub is-value : s ≡ times (productAt bytes n) (productAt bytes n p e) r j
   pub none : NoneBelow (turn-look (morphismAt bytes n k) P p r e) j
-
--- what the search for the idempotent power answered, by its case
-module _ (bytes : List ℕ) (n k x : ℕ) (a : Power) (answer : PowerAnswer bytes n k x a) where
-  pub power-found : {e exponent : ℕ} → a ≡ Idempotent-power e exponent → LeastPower (morphismAt bytes n k) x e exponent
-  power-found eq = subst (PowerAnswer bytes n k x) eq answer
-
-  pub power-missing : a ≡ No-power → NoPower (morphismAt bytes n k) x
-  power-missing eq = subst (PowerAnswer bytes n k x) eq answer
 
 module _ {bytes : List ℕ} {n k : ℕ} {p r e : ℕ} where
   -- s is p·e, and no pair was looked at

@@ -1,5 +1,4 @@
 // The cuts of one turn of a lasso's cycle: whether, at some cut, a power of the turn's value gives a marked pair.
-use rule_table::Power;
 use rule_table::idempotent_power;
 use rule_table::product;
 use scratch::BEGINNINGS_BASE;
@@ -8,10 +7,10 @@ ghost use mathlib.Core.Path.{_≡_};
 ghost use Prim.Native.Nat.{_≤_, _<_};
 ghost use lib.ListN.{length};
 ghost use Rattle.theory.specs.Rules.{Lawful};
+ghost use Rattle.theory.specs.Pairs.{LeastPower};
 ghost use Rattle.theory.proofs.Membership.{turn-test};
 ghost use Rattle.rule_table.specs.Table.{Table};
 ghost use Rattle.formats.specs.Table.{morphismAt};
-ghost use Rattle.formats.proofs.Tables.{LeastPower};
 ghost use Rattle.lasso_turns.specs.Cuts.{markedIn, CutValues, someCut};
 ghost use Rattle.scratch.specs.Map.{beginningsBase};
 
@@ -51,12 +50,8 @@ pub fn turn_accepts(rule: &[u8], n: usize, k: usize, marks: &[u8], p: usize, r: 
     requires { ⌜ (p < n) × (r < n) ⌝ }
     ensures { λ b. ⌜ b ≡ turn-test (morphismAt (now (rule .entry)) n k) (markedIn (now (marks .entry))) p r ⌝ }
 {
-    match idempotent_power(rule, n, k, r) {
-        Power::Idempotent { element, exponent } => {
-            powers_marked(rule, n, k, marks, p, r, element, exponent)
-        }
-        Power::Nothing => false,
-    }
+    let power = idempotent_power(rule, n, k, r);
+    powers_marked(rule, n, k, marks, p, r, power.element, power.exponent)
 }
 
 // Whether some cut of one turn of v, after u of value s, is marked.

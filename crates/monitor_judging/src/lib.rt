@@ -2,7 +2,6 @@
 use answer::Refusal;
 use mark_strong::decide;
 use promises::MonitorVerdict;
-use rule_table::Power;
 use rule_table::idempotent_power;
 use rule_table::product;
 use scratch::SECOND_BASE;
@@ -35,15 +34,8 @@ pub fn accepted_values(
     requires { ⌜ scratchSize ≤ length (now scratch) ⌝ }
     ensures { λ r. ⌜ r ≡ pairsFrom (now (scratch .entry)) secondBase (settled-start (morphismAt (now (rule .entry)) n k) before since) (settled-cycle (morphismAt (now (rule .entry)) n k) since) ⌝ }
 {
-    let f = match idempotent_power(rule, n, k, since) {
-        Power::Idempotent {
-            element,
-            exponent: _,
-        } => element,
-        Power::Nothing => {
-            return false;
-        }
-    };
+    let power = idempotent_power(rule, n, k, since);
+    let f = power.element;
     let s = product(rule, n, before, f);
     0 < scratch[SECOND_BASE + (s * 64 + f)]
 }

@@ -2,7 +2,7 @@
 -- marks, one outcome more, one column more. Where the table holds the closure of a marking, they are its acceptance.
 -- Assumes nothing.
 use Prim.Native.Nat.{ℕ, _+_, _*_, _≤_, _<_}
-use mathlib.Core.Path.{_≡_, refl, ap, subst, _∙_}
+use mathlib.Core.Path.{_≡_, refl, ap, _∙_}
 use mathlib.Core.Logic.{_≢_}
 use mathlib.Core.List.{List}
 use native.Mathlib.Omega.{arith}
@@ -13,36 +13,18 @@ use lib.ListN.{length, getD, set}
 use lib.Seq.{getD-set-same, getD-set-other}
 use Rattle.finite.proofs.Search.{bit}
 use Rattle.theory.specs.Rules.{Morphism, Lawful, Pairs}
+use Rattle.theory.specs.Pairs.{LeastPower}
+use Rattle.theory.proofs.IdempotentPowers.{least-power-is}
 use Rattle.theory.proofs.Powers.{idempotent-inside}
 use Rattle.theory.proofs.Conjugacy.{semigroup}
 use Rattle.theory.proofs.Strength.{settled-start, settled-cycle}
 use Rattle.theory.proofs.Closure.{closure-test, acceptance}
-use Rattle.rule_table.specs.declared.Power.{Power}
-use Rattle.rule_table.specs.declared.Power.the-variants.{Idempotent as Idempotent-power, Nothing as No-power}
-use Rattle.formats.specs.Table.{morphismAt}
-use Rattle.formats.proofs.Tables.{LeastPower}
-use Rattle.rule_table.specs.Answers.{PowerAnswer}
-use Rattle.rule_table.proofs.Facts.{least-power-is, no-power-absurd}
 use Rattle.scratch.specs.Map.{blocksBase, outcomesBase, pairsFrom, secondBase}
 use Rattle.reduce_first_round.specs.Map.{outcomeOf, outcomeAt}
 use Rattle.scratch.specs.Bytes.{UnchangedOutside}
 use Rattle.reduce_first_round.specs.Steps.{ColumnWritten, OutcomesWritten}
 use Rattle.scratch.proofs.Unchanged.{unchanged-none, unchanged-both, unchanged-set}
 use Rattle.formats.specs.RuleChecks.{scratchSize}
-
--- what the search for the idempotent power answered, by its case
-module _ (bytes : List ℕ) (n k z : ℕ) (a : Power) (answer : PowerAnswer bytes n k z a) (law : Lawful (morphismAt bytes n k)) (hz : z < n) where
-  pub power-settled : {e exponent : ℕ} → a ≡ Idempotent-power e exponent → e ≡ settled-cycle (morphismAt bytes n k) z
-  power-settled {e} {exponent} eq =
-      let found : LeastPower (morphismAt bytes n k) z e exponent = subst (PowerAnswer bytes n k z) eq answer in
-      least-power-is law hz found .is-power
-
-  pub power-there : a ≡ No-power → ⊥
-  power-there eq = no-power-absurd law hz (subst (PowerAnswer bytes n k z) eq answer)
-
--- the idempotent power is an element
-pub settled-below : {m : Morphism} {z f : ℕ} → Lawful m → z < m .size → f ≡ settled-cycle m z → f < m .size
-settled-below law hz e = rw e (idempotent-inside (semigroup law) hz)
 
 -- one look in a table of marks, as a number
 module _ (scratch : List ℕ) (f : ℕ) {s t : ℕ} (e : t ≡ s) where
@@ -80,11 +62,11 @@ module _ {m : Morphism} (law : Lawful m) (small : m .size ≤ 64) where
   column-none z l = record { column = λ s h. absurd (omega arith); others = λ s y h f. refl; kept = unchanged-none outcomesBase blocksBase l }
 
   -- one outcome more of a column
-  pub column-more : {z s f found : ℕ} {entry now : List ℕ} → z < m .size → s < m .size → scratchSize ≤ length entry → f ≡ settled-cycle m z
-      → found ≡ bit (pairsFrom now 4096 (m .product s f) f) → ColumnWritten m z s entry now
+  pub column-more : {z s f exponent found : ℕ} {entry now : List ℕ} → z < m .size → s < m .size → scratchSize ≤ length entry → LeastPower m z f exponent
+      → found ≡ bit (pairsFrom now secondBase (m .product s f) f) → ColumnWritten m z s entry now
       → ColumnWritten m z (s + 1) entry (set now (outcomesBase + (s * 64 + z)) found)
   unfolding outcomeAt outcomeOf
-  column-more {z} {s} {f} {found} {entry} {now} hz hs room is-power is-found w = record {
+  column-more {z} {s} {f} {found = found} {entry} {now} hz hs room power is-found w = record {
     column = λ r h. row r h (ℕ-discrete r s);
     others = λ r y h g.
         let d : y ≢ z = g in
@@ -93,7 +75,7 @@ module _ {m : Morphism} (law : Lawful m) (small : m .size ≤ 64) where
   }
     where
       right : found ≡ outcomeOf m entry s z
-      right = is-found ∙ ap (λ (e : ℕ). bit (pairsFrom now 4096 (m .product s e) e)) is-power ∙ outcome-kept s z (w .kept) hs hz
+      right = is-found ∙ ap (λ (e : ℕ). bit (pairsFrom now secondBase (m .product s e) e)) (least-power-is law hz power .is-power) ∙ outcome-kept s z (w .kept) hs hz
 
       row : (r : ℕ) → r < s + 1 → Dec (r ≡ s) → outcomeAt (set now (outcomesBase + (s * 64 + z)) found) r z ≡ outcomeOf m entry r z
       row r h (yes e) =

@@ -1,6 +1,5 @@
 // Outcomes and round 0: the outcome of each pair of values, and the blocks of the elements that no outcome tells apart. All stands
 // in one lent slice, as specs/Map says.
-use rule_table::Power;
 use rule_table::idempotent_power;
 use rule_table::product;
 use scratch::BLOCKS_BASE;
@@ -11,7 +10,6 @@ ghost use Prim.Native.Nat.{_≤_, _<_};
 ghost use lib.ListN.{length};
 ghost use Rattle.finite.proofs.Search.{bit};
 ghost use Rattle.theory.specs.Rules.{Lawful};
-ghost use Rattle.theory.proofs.Strength.{settled-cycle};
 ghost use Rattle.rule_table.specs.Table.{Table};
 ghost use Rattle.formats.specs.Table.{productAt, morphismAt};
 ghost use Rattle.scratch.specs.Map.{pairsFrom, blocksBase, secondBase};
@@ -19,26 +17,6 @@ ghost use Rattle.minimality.specs.Rounds.{SameOutcomes, Together};
 ghost use Rattle.reduce_first_round.specs.Map.{outcomeAt};
 ghost use Rattle.reduce_first_round.specs.Steps.{Tells, LeastRelated, ColumnWritten, OutcomesWritten, BlocksWritten};
 ghost use Rattle.formats.specs.RuleChecks.{scratchSize};
-
-// The idempotent power of an element of a lawful table.
-pub fn idempotent_power_of(rule: &[u8], n: usize, k: usize, z: usize) -> usize
-    requires { ⌜ Table (now rule) n k ⌝ }
-    requires { ⌜ Lawful (morphismAt (now rule) n k) ⌝ }
-    requires { ⌜ z < n ⌝ }
-    ensures { λ r. ⌜ r ≡ settled-cycle (morphismAt (now (rule .entry)) n k) z ⌝ }
-{
-    match idempotent_power(rule, n, k, z) {
-        Power::Idempotent {
-            element,
-            exponent: _,
-        } => {
-            return element;
-        }
-        Power::Nothing => {
-            return z;
-        }
-    }
-}
 
 // Whether the table of marks has the pair (s·f, f), as a number.
 pub fn outcome(rule: &[u8], n: usize, k: usize, scratch: &[u8], s: usize, f: usize) -> u8
@@ -62,7 +40,8 @@ pub fn outcome_column(rule: &[u8], n: usize, k: usize, scratch: &mut [u8], z: us
     requires { ⌜ scratchSize ≤ length (now scratch) ⌝ }
     ensures { λ r. ⌜ ColumnWritten (morphismAt (now (rule .entry)) n k) z n (now (scratch .entry)) (now (scratch .exit)) ⌝ }
 {
-    let f = idempotent_power_of(rule, n, k, z);
+    let power = idempotent_power(rule, n, k, z);
+    let f = power.element;
     for s in 0..n {
         let found = outcome(rule, n, k, scratch, s, f);
         scratch[OUTCOMES_BASE + (s * 64 + z)] = found;

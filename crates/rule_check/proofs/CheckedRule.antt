@@ -32,7 +32,7 @@ module _ (input : ℕ) (bytes : List ℕ) (all : FirstFailure (ruleChecks input 
 
   marks-passed : GoodMarks (morphismOf bytes) bytes (marksAt bytes) (marksOf bytes)
   marks-passed =
-      passed-marks input (marksOf bytes) (passed-first _ _ (passed-last (tableChecks input (morphismOf bytes)) _ (passes-tail content-passed)))
+      passed-marks input (marksOf bytes) (passed-last (tableChecks input (morphismOf bytes)) _ (passes-tail content-passed))
 
   -- every check passes: the file is a good rule
   pub good-rule : GoodRule bytes

@@ -11,7 +11,7 @@ use Rattle.theory.specs.Rules.{Morphism}
 use Rattle.rule_table.specs.Table.{Table}
 use Rattle.formats.specs.Table.{morphismAt}
 use Rattle.formats.specs.RuleFile.{elementsOf, lettersAt, marksAt, marksOf, ruleEnd, morphismOf, markWidth, markStart, markCycle, marksIn, markingOf}
-use Rattle.formats.specs.RuleChecks.{layoutChecks, tableChecks, markChecks, powerChecks}
+use Rattle.formats.specs.RuleChecks.{layoutChecks, tableChecks, markChecks}
 use Rattle.rule_layout.specs.declared.Shape.{Shape}
 use Rattle.rule_layout.specs.Answers.{LayoutPassed}
 use Rattle.rule_marks.specs.declared.Fault.{Fault}
@@ -85,9 +85,6 @@ module _ (bytes : List ℕ) (shape : Shape) (p : LayoutPassed bytes shape) where
   -- what is said of the counts that were read is said of the file
   pub of-table : (answer : Fault) → FaultAnswer (λ input. tableChecks input (morphismAt bytes n k)) answer → FaultAnswer (λ input. tableChecks input (morphismOf bytes)) answer
   of-table answer f = subst (λ (m : Morphism). FaultAnswer (λ input. tableChecks input m) answer) morphism-is f
-
-  pub of-powers : (answer : Fault) → FaultAnswer (λ input. powerChecks input (morphismAt bytes n k)) answer → FaultAnswer (λ input. powerChecks input (morphismOf bytes)) answer
-  of-powers answer f = subst (λ (m : Morphism). FaultAnswer (λ input. powerChecks input m) answer) morphism-is f
 
   pub of-marks : (answer : Fault) → FaultAnswer (λ input. markChecks input (morphismAt bytes n k) bytes (1 + n * n + (1 + k)) 0 count) answer
       → FaultAnswer (λ input. markChecks input (morphismOf bytes) bytes (marksAt bytes) 0 (marksOf bytes)) answer

@@ -24,7 +24,7 @@ use Rattle.rule_reach.specs.Reach.{Empty, WordOrder, WithoutAnswer, placeAt}
 use Rattle.rule_reach.proofs.Words.{first-unreached, none-without-absurd}
 use Rattle.rule_associating.specs.Tests.{AllFound, AssociatesAnswer}
 use Rattle.formats.specs.RuleFile.{marksAt, marksOf, ruleEnd, morphismOf}
-use Rattle.formats.specs.RuleChecks.{trailingCheck, tableChecks, markChecks, powerChecks, contentChecks}
+use Rattle.formats.specs.RuleChecks.{trailingCheck, tableChecks, markChecks, contentChecks}
 use Rattle.rule_marks.specs.declared.Fault.{Fault}
 use Rattle.rule_marks.specs.declared.Fault.the-variants.{Nothing as No-fault, Refused}
 use Rattle.rule_marks.specs.Faults.{FaultAnswer}
@@ -80,7 +80,7 @@ module _ (bytes : List ℕ) where
       first-fails (trailingCheck input (ruleEnd bytes) bytes) (record { longer = omega (arith, length-drop end bytes, e); is-place = e })
 
   module _ {end : ℕ} (e : end ≡ ruleEnd bytes) (h : length (drop end bytes) ≤ 0) where
-    nothing-follows : (input : ℕ) {v : Verdict} → FirstFailure (tableChecks input (morphismOf bytes) ++ (markChecks input (morphismOf bytes) bytes (marksAt bytes) 0 (marksOf bytes) ++ powerChecks input (morphismOf bytes))) v
+    nothing-follows : (input : ℕ) {v : Verdict} → FirstFailure (tableChecks input (morphismOf bytes) ++ markChecks input (morphismOf bytes) bytes (marksAt bytes) 0 (marksOf bytes)) v
         → FirstFailure (contentChecks input bytes) v
     nothing-follows input f =
         first-passes (record { nowhere = λ place t. omega (arith, length-drop end bytes, e, t .longer) }) f
@@ -90,14 +90,9 @@ module _ (bytes : List ℕ) where
     table-refuses f input = nothing-follows input (refused-before _ _ (f input))
 
     module _ (table : (input : ℕ) → FirstFailure (tableChecks input (morphismOf bytes)) passed) where
-      pub marks-refuse : {number place : ℕ} → ((input : ℕ) → FirstFailure (markChecks input (morphismOf bytes) bytes (marksAt bytes) 0 (marksOf bytes)) (numbered number input place))
-          → (input : ℕ) → FirstFailure (contentChecks input bytes) (numbered number input place)
-      marks-refuse f input = nothing-follows input (passed-before _ _ (table input) (refused-before _ _ (f input)))
-
-      pub powers-decide : ((input : ℕ) → FirstFailure (markChecks input (morphismOf bytes) bytes (marksAt bytes) 0 (marksOf bytes)) passed)
-          → (answer : Fault) → FaultAnswer (λ input. powerChecks input (morphismOf bytes)) answer → FaultAnswer (λ input. contentChecks input bytes) answer
-      powers-decide marks No-fault f = λ input. nothing-follows input (passed-before _ _ (table input) (passed-before _ _ (marks input) (f input)))
-      powers-decide marks (Refused r place) f = λ input. nothing-follows input (passed-before _ _ (table input) (passed-before _ _ (marks input) (f input)))
+      pub marks-decide : {v : ℕ → Verdict} → ((input : ℕ) → FirstFailure (markChecks input (morphismOf bytes) bytes (marksAt bytes) 0 (marksOf bytes)) (v input))
+          → (input : ℕ) → FirstFailure (contentChecks input bytes) (v input)
+      marks-decide f input = nothing-follows input (passed-before _ _ (table input) (f input))
 
 -- words find every element
 pub all-found : {bytes : List ℕ} {n k : ℕ} {entry exit : List ℕ} {count : ℕ} → 256 ≤ length entry → WordOrder bytes n k entry exit count

@@ -3,15 +3,15 @@ use Prim.Native.Nat.{ℕ, _<_}
 use mathlib.Core.Logic.{⊎-elim, by-cases}
 use native.Mathlib.Decide.{ℕ-discrete}
 use Rattle.answer.specs.Checks.{passed, FirstFailure}
-use Rattle.answer.proofs.Order.{first-passes, none-left, passes-head, passes-tail}
+use Rattle.answer.proofs.Order.{passes-head, passes-tail}
 use Rattle.finite.proofs.Numbers.{strong}
 use Rattle.theory.specs.Rules.{Morphism, Lawful, AllReached}
 use Rattle.theory.proofs.ShortWords.{unreached-or-all, word-of-dec}
-use Rattle.formats.specs.TableChecks.{Associates, TripleBefore, by-a, by-b, by-c, NoIdempotentPowerAt}
+use Rattle.formats.specs.TableChecks.{Associates, TripleBefore, by-a, by-b, by-c}
 use Rattle.rule_table.specs.Answers.{FirstTriple}
 use Rattle.formats.proofs.Tables.{AllAssociate}
-use Rattle.rule_table.proofs.Facts.{first-triple-place, no-power-absurd}
-use Rattle.formats.specs.RuleChecks.{tableChecks, powerChecks}
+use Rattle.rule_table.proofs.Facts.{first-triple-place}
+use Rattle.formats.specs.RuleChecks.{tableChecks}
 
 -- where no triple is the first that does not associate, each associates if those before it do
 module _ {m : Morphism} (none : (a b c : ℕ) → FirstTriple m a b c → ⊥) where
@@ -51,12 +51,3 @@ module _ {m : Morphism} {input : ℕ} (all : FirstFailure (tableChecks input m) 
       (λ f. absurd (passes-head (passes-tail all) .nowhere (f .at)
       (record { inside = f .below; no-word = f .holds; least = λ s h. by-cases (word-of-dec law s) (λ w. w) (λ g. absurd (f .first s h g)) })))
       (λ r. r) (unreached-or-all law)
-
--- 9 fails nowhere in a lawful table
-pub lawful-settles : {m : Morphism} {place : ℕ} → Lawful m → NoIdempotentPowerAt m place → ⊥
-lawful-settles law u =
-    no-power-absurd law (u .inside) (record { none = λ i h d. u .unsettled (record { index = i; below = h; idempotent = d }) })
-
--- so it passes
-pub lawful-powers-pass : {m : Morphism} (input : ℕ) → Lawful m → FirstFailure (powerChecks input m) passed
-lawful-powers-pass input law = first-passes (record { nowhere = λ place u. lawful-settles law u }) none-left

@@ -87,8 +87,7 @@ pub fn rest_after(bytes: &[u8], end: usize) -> &[u8]
     &bytes[end..]
 }
 
-// The checks of a file whose sections are there: nothing follows, the table, the marks. The powers of a table that associates settle
-// (theory/proofs/Powers), so their check is passed.
+// The checks of a file whose sections are there: nothing follows, the table, the marks.
 fn content_fault(rule: &[u8], shape: Shape, scratch: &mut [u8]) -> Fault
     requires { ⌜ LayoutPassed (now rule) shape ⌝ }
     requires { ⌜ BlankMarks (now scratch) ⌝ }

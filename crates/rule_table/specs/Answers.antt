@@ -4,11 +4,9 @@ use mathlib.Core.List.{List}
 use Rattle.theory.specs.Rules.{Morphism}
 use Rattle.rule_table.specs.declared.Triple.{Triple}
 use Rattle.rule_table.specs.declared.Triple.the-variants.{At, Nothing}
-use Rattle.rule_table.specs.declared.Power.{Power}
-use Rattle.rule_table.specs.declared.Power.the-variants.{Idempotent as Idempotent-power, Nothing as No-power}
 use Rattle.formats.specs.Table.{morphismAt}
 use Rattle.formats.specs.TableChecks.{Associates, TripleBefore}
-use Rattle.formats.proofs.Tables.{AllAssociate, LeastPower, NoPower}
+use Rattle.formats.proofs.Tables.{AllAssociate}
 
 -- the triple is the first, by a, then b, then c, that does not associate
 pub record FirstTriple (m : Morphism) (a b c : ℕ) : Type 0 where
@@ -21,7 +19,3 @@ pub record FirstTriple (m : Morphism) (a b c : ℕ) : Type 0 where
 abbrev pub TripleAnswer : List ℕ → ℕ → ℕ → Triple → Type 0
 TripleAnswer bytes n k (At a b c) = FirstTriple (morphismAt bytes n k) a b c
 TripleAnswer bytes n k Nothing = AllAssociate (morphismAt bytes n k)
-
-abbrev pub PowerAnswer : List ℕ → ℕ → ℕ → ℕ → Power → Type 0
-PowerAnswer bytes n k x (Idempotent-power e exponent) = LeastPower (morphismAt bytes n k) x e exponent
-PowerAnswer bytes n k x No-power = NoPower (morphismAt bytes n k) x

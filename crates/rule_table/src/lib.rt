@@ -2,9 +2,11 @@
 // These functions are shared by the calls of the library and ask for bytes whose first two sections were checked.
 ghost use mathlib.Core.Path.{_≡_};
 ghost use Prim.Native.Nat.{_<_};
+ghost use Rattle.theory.specs.Rules.{Lawful};
+ghost use Rattle.theory.specs.Pairs.{LeastPower};
 ghost use Rattle.rule_table.specs.Table.{Table, ProductNeeds, ImageNeeds};
-ghost use Rattle.formats.specs.Table.{productAt, imageAt};
-ghost use Rattle.rule_table.specs.Answers.{TripleAnswer, PowerAnswer};
+ghost use Rattle.formats.specs.Table.{productAt, imageAt, morphismAt};
+ghost use Rattle.rule_table.specs.Answers.{TripleAnswer};
 
 // The product of two elements.
 pub fn product(rule: &[u8], n: usize, a: usize, b: usize) -> usize
@@ -51,27 +53,30 @@ pub fn first_not_associative(rule: &[u8], n: usize, k: usize) -> Triple
     found
 }
 
-// The first power of an element that is idempotent, with its exponent, among the exponents 1 to n.
-pub enum Power {
-    Idempotent { element: usize, exponent: usize },
-    Nothing,
+// The first power of an element that is idempotent, with its exponent.
+pub struct Power {
+    pub element: usize,
+    pub exponent: usize,
 }
 
+// A table that associates has one among the exponents 1 to n, so the search needs no bound.
 pub fn idempotent_power(rule: &[u8], n: usize, k: usize, x: usize) -> Power
     requires { ⌜ Table (now rule) n k ⌝ }
+    requires { ⌜ Lawful (morphismAt (now rule) n k) ⌝ }
     requires { ⌜ x < n ⌝ }
-    ensures { λ r. ⌜ PowerAnswer (now (rule .entry)) n k x r ⌝ }
+    ensures { λ r. ⌜ LeastPower (morphismAt (now (rule .entry)) n k) x (r .element) (r .exponent) ⌝ }
 {
     let mut p = x;
-    for i in 0..n {
+    let mut i = 0;
+    loop {
         let square = product(rule, n, p, p);
         if square == p {
-            return Power::Idempotent {
+            return Power {
                 element: p,
                 exponent: i + 1,
             };
         }
         p = product(rule, n, p, x);
+        i += 1;
     }
-    Power::Nothing
 }

@@ -1,6 +1,6 @@
 -- What the definitions of tables, levels, lassos, acceptance, pairs, counts and inclusion leave out: for each a case that it
 -- excludes, and for one that asks several things a case for each. Assumes nothing.
-use Prim.Native.Nat.{ℕ}
+use Prim.Native.Nat.{ℕ, zero, suc}
 use mathlib.Core.Path.{_≡_, refl}
 use mathlib.Core.List.{List, [], _∷_}
 use native.Mathlib.Omega.{arith}
@@ -8,7 +8,7 @@ use lib.Dec.{T}
 use Rattle.theory.specs.Words.{Over, over-cons, Lasso}
 use Rattle.theory.specs.Rules.{Morphism, Lawful, Pairs, level, marked, WordOf, AllReached}
 use Rattle.theory.specs.Acceptance.{Accepts}
-use Rattle.theory.specs.Pairs.{Linked, LinkedOnly, Conjugate, LeastConjugate, Counted, counted-none, counted-one, counted-other, ClassCounts}
+use Rattle.theory.specs.Pairs.{Idempotent, HasIdempotentPower, Linked, LinkedOnly, Conjugate, LeastConjugate, Counted, counted-none, counted-one, counted-other, ClassCounts}
 use Rattle.theory.specs.Inclusion.{Included, Witness}
 use Rattle.theory.proofs.ShortWords.{reached-intro}
 use Rattle.theory.proofs.TableTests.{conjugate-intro, least-intro, least-elim, counted-same}
@@ -129,3 +129,12 @@ accepted-second w = w .refused-second W-accepts
 
 pub refused-first : {P : Pairs} → ¬ Witness W (marks first-mark) P (0 ∷ []) (1 ∷ [])
 refused-first w = W-refuses (w .accepted-first)
+
+-- where no element is its own square, which is no associative table, 0 has no idempotent power
+pub no-idempotent-power : ¬ HasIdempotentPower (table ((1 ∷ 0 ∷ []) ∷ (1 ∷ 0 ∷ []) ∷ []) (0 ∷ [])) 0
+no-idempotent-power p = none _ (p .idempotent)
+  where
+    none : (e : ℕ) → Idempotent (table ((1 ∷ 0 ∷ []) ∷ (1 ∷ 0 ∷ []) ∷ []) (0 ∷ [])) e → ⊥
+    none zero i = omega (arith, i .square)
+    none (suc zero) i = omega (arith, i .square)
+    none (suc (suc e)) i = omega (arith, i .inside)

@@ -3,6 +3,7 @@ pub mod Periods
 pub mod Values
 pub mod Powers
 pub mod Conjugacy
+pub mod IdempotentPowers
 pub mod BestConjugates
 pub mod Turns
 pub mod Cuts

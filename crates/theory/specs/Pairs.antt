@@ -14,6 +14,21 @@ unfoldable pub power : Morphism → ℕ → ℕ → ℕ
 power m x zero = x
 power m x (suc i) = m .product (power m x i) x
 
+-- some power of the element with an exponent 1 to n is idempotent
+pub record HasIdempotentPower (m : Morphism) (x : ℕ) : Type 0 where
+  pub index : ℕ
+  pub below : index < m .size
+  pub idempotent : Idempotent m (power m x index)
+
+-- e is the idempotent power of x with the least exponent; the exponent, 1 to n, is one above `index`
+pub record LeastPower (m : Morphism) (x e exponent : ℕ) : Type 0 where
+  pub index : ℕ
+  pub below : index < m .size
+  pub is-exponent : exponent ≡ index + 1
+  pub is-power : e ≡ power m x index
+  pub idempotent : Idempotent m e
+  pub least : (i : ℕ) → i < index → Idempotent m (power m x i) → ⊥
+
 -- "A pair (s, e) is linked if e is idempotent and s·e = s."
 pub record Linked (m : Morphism) (s e : ℕ) : Type 0 where
   pub inside : s < m .size

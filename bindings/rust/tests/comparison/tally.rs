@@ -43,7 +43,7 @@ pub fn refusal(number: u8, input: u8) -> String {
 /// A call, and for each of its inputs the numbers of the refusals.
 type Refusals = (&'static str, &'static [(u8, &'static [u8])]);
 
-/// Which refusals each call can answer, with their inputs: every number that applies to it but 9, which no input can have.
+/// Which refusals each call can answer, with their inputs: every number that applies to it.
 /// A rule's checks are 1 to 8; a second marks section has no table and no letters, so not 5 and 6.
 const REFUSALS: [Refusals; 10] = [
     ("classes", &[(1, &[1, 2, 3, 4, 5, 6, 7, 8, 13])]),

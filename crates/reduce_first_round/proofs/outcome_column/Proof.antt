@@ -4,7 +4,7 @@ use native.Mathlib.Omega.{arith}
 use Rattle.formats.specs.Table.{morphismAt}
 use Rattle.reduce_first_round.specs.Steps.{ColumnWritten}
 use Rattle.scratch.proofs.Unchanged.{unchanged-room}
-use Rattle.reduce_first_round.proofs.OutcomeBytes.{settled-below, column-none, column-more, column-all}
+use Rattle.reduce_first_round.proofs.OutcomeBytes.{column-none, column-more, column-all}
 use Rattle.reduce_first_round.proofs.outcome_column.Statement.{statement}
 use Rattle.reduce_first_round.proofs.outcome_column.Tie as tie
 
@@ -14,8 +14,8 @@ Inv-loop rule n k scratch₀ z f s₀ scratch s = ColumnWritten (morphismAt rule
 abbrev μ-loop : tie.MeasureT-loop
 μ-loop rule n k scratch₀ z f s₀ scratch s = n - s
 
-idempotent-power-of-requires : tie.Need-idempotent-power-of-requires Inv-loop μ-loop
-idempotent-power-of-requires c κs = (c .before .before .pre .0, (c .before .before .pre .1 .0, c .before .before .pre .1 .1 .0))
+idempotent-power-requires : tie.Need-idempotent-power-requires Inv-loop μ-loop
+idempotent-power-requires c κs = (c .before .before .pre .0, (c .before .before .pre .1 .0, c .before .before .pre .1 .1 .0))
 
 loop-holds : tie.Need-loop-holds Inv-loop μ-loop
 loop-holds c =
@@ -25,8 +25,7 @@ loop-holds c =
 outcome-requires : tie.Need-outcome-requires Inv-loop μ-loop
 outcome-requires c κs =
     let b = c .before .before .before .before .before .before in
-    let h = settled-below (b .pre .1 .0) (b .pre .1 .1 .0) (c .before .before .before .idempotent-power-of .ensures) in
-    (b .pre .0, ((c .before .loop-test .taken, h), unchanged-room (c .before .before .loop .inv .kept) (b .pre .1 .1 .1)))
+    (b .pre .0, ((c .before .loop-test .taken, c .before .before .before .idempotent-power .ensures .idempotent .inside), unchanged-room (c .before .before .loop .inv .kept) (b .pre .1 .1 .1)))
 
 mul-scratch : tie.Need-mul-scratch Inv-loop μ-loop
 mul-scratch c = omega (arith, c .before .before .before .before .before .before .before .pre .0 .small)
@@ -52,7 +51,7 @@ loop-again : tie.Need-loop-again Inv-loop μ-loop
 loop-again c =
     let b = c .before .before .before .before .before .before .before in
     column-more (b .pre .1 .0) (b .pre .0 .small) (b .pre .1 .1 .0) (c .before .before .loop-test .taken) (b .pre .1 .1 .1)
-    (c .before .before .before .before .idempotent-power-of .ensures) (c .outcome .ensures) (c .before .before .before .loop .inv)
+    (c .before .before .before .before .idempotent-power .ensures) (c .outcome .ensures) (c .before .before .before .loop .inv)
 
 same-length : tie.Need-same-length Inv-loop μ-loop
 same-length c = c .before .loop .inv .kept .same-length
@@ -68,7 +67,7 @@ outcome-column-spec =
     (tie.spec
     Inv-loop
     μ-loop
-    idempotent-power-of-requires
+    idempotent-power-requires
     loop-holds
     outcome-requires
     mul-scratch

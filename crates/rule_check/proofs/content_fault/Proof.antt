@@ -8,12 +8,8 @@ use lib.ListN.{length, drop}
 use Rattle.answer.specs.Checks.{passed, FirstFailure}
 use Rattle.formats.specs.RuleFile.{morphismOf, markWidth, marksAt, marksOf}
 use Rattle.formats.specs.RuleChecks.{tableChecks, markChecks}
-use Rattle.rule_check.proofs.Faults.{no-fault, fault-refused, trailing, table-refuses, marks-refuse, powers-decide}
+use Rattle.rule_check.proofs.Faults.{no-fault, fault-refused, trailing, table-refuses, marks-decide}
 use Rattle.rule_check.proofs.Content.{square-small, k-small, count-small, end-is, end-in, table-is, marks-room, of-table, of-marks, of-laid, laid-said, kept-said}
-use Rattle.rule_marks.specs.declared.Fault.the-variants.{Nothing as No-fault}
-use Rattle.rule_table.proofs.Facts.{table-lawful}
-use Rattle.rule_check.proofs.Passed.{table-of}
-use Rattle.rule_check.proofs.TablePassed.{table-associates, lawful-powers-pass}
 use borrow.Author.Needs.{needs}
 use Rattle.rule_check.proofs.content_fault.Statement.{statement}
 use Rattle.rule_check.proofs.content_fault.Tie as tie
@@ -95,7 +91,7 @@ returns-3 : tie.Need-returns-3
 returns-3 c =
     let b = c .before .before .before .before .before .before .before .before .before .before .before .before .before .before in
     let m = c .before .before .before .before .before .mark-fault in (
-      marks-refuse (b .args .rule .now) (end-is _ _ (b .pre .0)) (follows (c .before .before .before .before .before .before .before .before .before .before)) (table-passes (c .before .before .before .before .before .before .before))
+      marks-decide (b .args .rule .now) (end-is _ _ (b .pre .0)) (follows (c .before .before .before .before .before .before .before .before .before .before)) (table-passes (c .before .before .before .before .before .before .before))
           (fault-refused (λ input. markChecks input (morphismOf (b .args .rule .now)) (b .args .rule .now) (marksAt (b .args .rule .now)) 0 (marksOf (b .args .rule .now))) (m .result)
           (of-marks _ _ (b .pre .0) (m .result) (m .ensures .0)) (c .before .refusal2 .given .1)),
       kept-said _ _ _ _ _ _ (m .result) (m .ensures .1) (c .before .refusal2 .given .1),
@@ -109,10 +105,9 @@ returns-4 c =
     let b = c .before .before .before .before .before .before .before .before .before .before .before .before .before in
     let m = c .before .before .before .before .mark-fault in
     let table = table-passes (c .before .before .before .before .before .before) in (
-      powers-decide (b .args .rule .now) (end-is _ _ (b .pre .0)) (follows (c .before .before .before .before .before .before .before .before .before)) table
+      marks-decide (b .args .rule .now) (end-is _ _ (b .pre .0)) (follows (c .before .before .before .before .before .before .before .before .before)) table
           (no-fault (λ input. markChecks input (morphismOf (b .args .rule .now)) (b .args .rule .now) (marksAt (b .args .rule .now)) 0 (marksOf (b .args .rule .now))) (m .result)
-          (of-marks _ _ (b .pre .0) (m .result) (m .ensures .0)) (c .enum-told2 .given .1))
-          No-fault (λ input. lawful-powers-pass input (table-lawful (table-of (b .args .rule .now) (b .pre .0 .refusal 1)) (table-associates (table 1)))),
+          (of-marks _ _ (b .pre .0) (m .result) (m .ensures .0)) (c .enum-told2 .given .1)),
       of-laid _ _ (b .pre .0) (laid-said _ _ _ _ _ _ (m .result) (m .ensures .1) (c .enum-told2 .given .1)),
     )
 

@@ -47,14 +47,13 @@ fn check_marks(
     Ok(())
 }
 
-/// 9, which cannot fail behind 5.
-fn check_powers(rule: &mut Rule) -> Result<(), Refusal> {
+/// The idempotent power of every element.
+fn find_powers(rule: &mut Rule) {
     let mut powers = [(0, 0); 64];
     for (s, power) in powers[..rule.n].iter_mut().enumerate() {
-        *power = rule.find_power(s).ok_or((9, 1, s as u64))?;
+        *power = rule.find_power(s);
     }
     rule.powers = Some(powers);
-    Ok(())
 }
 
 /// Every check of a rule file; its marks stand in memory then.
@@ -79,7 +78,7 @@ pub fn check<'a>(
     check_table(strategy, &rule)?;
     check_marks(&rule, pairs, 1, marks_at + 2, &mut memory[MARKS..SECOND])?;
     if strategy == Strategy::Plain {
-        check_powers(&mut rule)?;
+        find_powers(&mut rule);
     }
     Ok(rule)
 }

@@ -74,24 +74,21 @@ impl Rule<'_> {
 
     /// The first idempotent power of an element with an exponent of 1 to n, and that exponent.
     #[inline]
-    fn find_power(&self, s: usize) -> Option<(usize, usize)> {
+    fn find_power(&self, s: usize) -> (usize, usize) {
         let mut power = s;
-        for exponent in 1..=self.n {
-            if self.product(power, power) == power {
-                return Some((power, exponent));
-            }
+        let mut exponent = 1;
+        while self.product(power, power) != power {
             power = self.product(power, s);
+            exponent += 1;
         }
-        None
+        (power, exponent)
     }
 
     #[inline]
     fn power(&self, s: usize) -> (usize, usize) {
         match &self.powers {
             Some(powers) => powers[s],
-            None => self
-                .find_power(s)
-                .expect("powers settle in a table that associates"),
+            None => self.find_power(s),
         }
     }
 }
