@@ -1,7 +1,9 @@
 //! Tests over the sources of the repository: they read the files of `crates/` and call nothing.
 
+mod copies;
 mod faces;
 mod floors;
 mod imports;
 mod reading;
+mod sizes;
 mod walk;

@@ -3,6 +3,7 @@
 use std::collections::{BTreeMap, BTreeSet};
 
 use super::reading::code::{Code, Function};
+use super::reading::library::{code_path, Library};
 use super::reading::module::Module;
 use super::reading::names::{Names, Used};
 use super::reading::repository::Repository;
@@ -32,26 +33,18 @@ pub enum Place {
 /// Every file, read.
 pub struct Sources {
     modules: BTreeMap<String, Module>,
-    /// The code of each library.
-    codes: BTreeMap<String, Code>,
+    library: Library,
 }
 
 impl Sources {
     pub fn of(repository: &Repository) -> Sources {
         let modules = repository.ending(".antt");
-        let codes = repository.ending("/src/lib.rt");
         Sources {
             modules: modules
                 .map(|(path, text)| (path.to_string(), Module::read(text)))
                 .collect(),
-            codes: codes
-                .map(|(path, text)| (path.to_string(), Code::read(text)))
-                .collect(),
+            library: Library::of(repository),
         }
-    }
-
-    fn code(&self, home: &str) -> Option<&Code> {
-        self.codes.get(&code_path(home))
     }
 
     /// The places that a word can mean in a file: the one of its name, or those of the operators that it is a part of.
@@ -59,7 +52,7 @@ impl Sources {
         let module = self.modules.get(path);
         let imports = match module {
             Some(module) => &module.imports,
-            None => &self.codes[path].ghost_imports,
+            None => &self.library.at(path).expect("a file").ghost_imports,
         };
         // a whole way, as `Rattle.answer.specs.Checks.Check`, or one that begins with a module brought in
         if let Some((item, between)) = used.members.split_last() {
@@ -107,7 +100,7 @@ impl Sources {
         let home = library.split('·').next().unwrap_or(library);
         if way.get(2).is_some_and(|word| word == "declared") {
             let name = way.get(3).ok_or_else(missing)?;
-            let code = self.code(home).ok_or_else(missing)?;
+            let code = self.library.code(home).ok_or_else(missing)?;
             let declared = code.type_named(name).ok_or_else(missing)?;
             let known = match way.get(4).map(String::as_str) {
                 None => item == name,
@@ -136,12 +129,9 @@ impl Sources {
 
     /// The type that a name has in the code of a crate.
     fn type_in(&self, home: &str, name: &str) -> Option<Place> {
-        let code = self.code(home)?;
-        if code.type_named(name).is_some() {
-            return Some(Place::Declared(home.to_string(), name.to_string()));
-        }
-        let brought = code.imports.iter().find(|import| import.item == name)?;
-        self.type_in(&brought.home, name)
+        let declares = |code: &Code, name: &str| code.type_named(name).is_some();
+        let home = self.library.home_of(home, name, declares)?;
+        Some(Place::Declared(home, name.to_string()))
     }
 }
 
@@ -168,7 +158,11 @@ impl<'a> Walk<'a> {
 
     /// Follows every call that the library's face passes on, and every type; a constant needs a floor to stand on.
     pub fn follow_face(mut self) -> Walk<'a> {
-        let face = self.sources.code("rules").expect("the library's face");
+        let face = self
+            .sources
+            .library
+            .code("rules")
+            .expect("the library's face");
         for (line, form) in &face.unread {
             self.fault(format!(
                 "crates/rules/src/lib.rt:{line}: {form} is not read here"
@@ -176,7 +170,7 @@ impl<'a> Walk<'a> {
         }
         for passed in face.imports.iter().filter(|import| import.passed_on) {
             let home = passed.home.as_str();
-            let code = self.sources.code(home);
+            let code = self.sources.library.code(home);
             match code.and_then(|code| code.function_named(&passed.item)) {
                 Some(function) => self.follow_function(home, function),
                 None if code.is_some_and(|code| code.has_constant(&passed.item)) => {
@@ -196,7 +190,11 @@ impl<'a> Walk<'a> {
 
     /// Follows every public function of a crate.
     pub fn follow_crate(mut self, home: &str) -> Walk<'a> {
-        let code = self.sources.code(home).expect("the code of the crate");
+        let code = self
+            .sources
+            .library
+            .code(home)
+            .expect("the code of the crate");
         for function in code.functions.iter().filter(|function| function.public) {
             self.follow_function(home, function);
         }
@@ -253,7 +251,11 @@ impl<'a> Walk<'a> {
     }
 
     fn follow_type(&mut self, home: &str, name: &str, from: &str) {
-        let code = self.sources.code(home).expect("the code of the type");
+        let code = self
+            .sources
+            .library
+            .code(home)
+            .expect("the code of the type");
         let declared = code.type_named(name).expect("the type");
         let here = format!("{name} (crates/{}:{})", code_path(home), declared.line);
         if !HOMES_OF_TYPES.contains(&home) {
@@ -296,8 +298,4 @@ impl<'a> Walk<'a> {
     fn fault(&mut self, text: String) {
         self.faults.insert(text);
     }
-}
-
-fn code_path(home: &str) -> String {
-    format!("{home}/src/lib.rt")
 }

@@ -1,6 +1,9 @@
-//! A file of Rattle code: what it brings in, the types and constants it declares, and its functions with their clauses.
+//! A file of Rattle code: what it brings in, the types and the constants it declares, and its functions with their clauses.
 
 use super::module::{imports, Import};
+use super::tokens::{
+    closing, find, is, is_identifier, is_type, split, tokens, without_comments, Token,
+};
 use super::words::{words, Word};
 
 /// `use home::item;`
@@ -21,6 +24,17 @@ pub struct DeclaredType {
     pub variants: Vec<String>,
     /// The declared types that its fields have.
     pub types: Vec<String>,
+    /// The fields' types of each case; a struct has one case.
+    pub cases: Vec<Vec<Vec<Token>>>,
+}
+
+/// `const name: kind = value;`
+#[derive(Debug)]
+pub struct Constant {
+    pub name: String,
+    pub line: usize,
+    pub kind: Vec<Token>,
+    pub value: Vec<Token>,
 }
 
 #[derive(Debug)]
@@ -29,10 +43,13 @@ pub struct Function {
     pub line: usize,
     pub public: bool,
     pub parameters: Vec<String>,
+    /// The types of its parameters, as they are written.
+    pub kinds: Vec<Vec<Token>>,
     /// The declared types of its parameters and of its answer.
     pub types: Vec<String>,
     pub requires: Vec<Vec<Word>>,
     pub ensures: Vec<Vec<Word>>,
+    pub body: Vec<Token>,
 }
 
 #[derive(Debug, Default)]
@@ -40,22 +57,14 @@ pub struct Code {
     pub imports: Vec<CodeImport>,
     pub ghost_imports: Vec<Import>,
     pub types: Vec<DeclaredType>,
+    pub constants: Vec<Constant>,
     pub functions: Vec<Function>,
-    /// The names of its constants.
-    pub constants: Vec<String>,
+    /// The tokens outside `use` items, clauses and constants.
+    pub written: Vec<Token>,
     /// The identifiers outside `use` items and clauses.
     pub identifiers: Vec<String>,
     /// `use` items of a form that is not read here.
     pub unread: Vec<(usize, String)>,
-}
-
-/// A token of code: an identifier, a number, or one other character.
-struct Token {
-    text: String,
-    line: usize,
-    /// Where it begins and ends in the text.
-    from: usize,
-    to: usize,
 }
 
 impl Code {
@@ -70,8 +79,9 @@ impl Code {
                 "use" => code.import(&tokens, at),
                 "enum" | "struct" => code.declared_type(&tokens, at),
                 "fn" => code.function(&text, &tokens, at),
-                "const" => code.constant(&tokens, at),
+                "const" if is(&tokens, at + 2, ":") => code.constant(&tokens, at),
                 other => {
+                    code.written.push(tokens[at].clone());
                     if is_identifier(other) {
                         code.identifiers.push(other.to_string());
                     }
@@ -88,10 +98,6 @@ impl Code {
 
     pub fn type_named(&self, name: &str) -> Option<&DeclaredType> {
         self.types.iter().find(|declared| declared.name == name)
-    }
-
-    pub fn has_constant(&self, name: &str) -> bool {
-        self.constants.iter().any(|constant| constant == name)
     }
 
     fn ghost_import(&mut self, text: &str, tokens: &[Token], at: usize) -> usize {
@@ -122,21 +128,45 @@ impl Code {
         end + 1
     }
 
-    /// Its name; its type and its value are read on as any code.
+    pub fn has_constant(&self, name: &str) -> bool {
+        self.constants.iter().any(|constant| constant.name == name)
+    }
+
     fn constant(&mut self, tokens: &[Token], at: usize) -> usize {
-        self.constants.push(tokens[at + 1].text.clone());
-        at + 2
+        // an array's type has a semicolon of its own
+        let length = split(&tokens[at..], ";")[0].len();
+        let item = &tokens[at + 3..at + length];
+        let (kind, value) = match &split(item, "=")[..] {
+            [kind, value] => (kind.to_vec(), value.to_vec()),
+            _ => (item.to_vec(), Vec::new()),
+        };
+        let identifiers = item.iter().filter(|t| is_identifier(&t.text));
+        self.identifiers.extend(identifiers.map(|t| t.text.clone()));
+        self.constants.push(Constant {
+            name: tokens[at + 1].text.clone(),
+            line: tokens[at].line,
+            kind,
+            value,
+        });
+        at + length + 1
     }
 
     fn declared_type(&mut self, tokens: &[Token], at: usize) -> usize {
-        let open = find(tokens, at, "{");
+        let opens = |t: &Token| ["{", "(", ";"].contains(&t.text.as_str());
+        let open = at + tokens[at..].iter().take_while(|t| !opens(t)).count();
         let end = closing(tokens, open);
         let is_enum = tokens[at].text == "enum";
+        let inner = tokens.get(open + 1..end).unwrap_or(&[]);
+        let cases = match is_enum {
+            true => split(inner, ",").into_iter().map(case_fields).collect(),
+            false => vec![fields(inner)],
+        };
         let mut declared = DeclaredType {
             name: tokens[at + 1].text.clone(),
             line: tokens[at].line,
             variants: Vec::new(),
             types: Vec::new(),
+            cases,
         };
         let mut depth = 0;
         for token in &tokens[open..end] {
@@ -152,6 +182,8 @@ impl Code {
         }
         self.identifiers.extend(declared.types.iter().cloned());
         self.types.push(declared);
+        self.written
+            .extend_from_slice(&tokens[at..tokens.len().min(end + 1)]);
         end + 1
     }
 
@@ -167,9 +199,11 @@ impl Code {
                 .take_while(|t| is_identifier(&t.text))
                 .any(|t| t.text == "pub"),
             parameters: Vec::new(),
+            kinds: fields(&tokens[open + 1..close]),
             types: Vec::new(),
             requires: Vec::new(),
             ensures: Vec::new(),
+            body: Vec::new(),
         };
         for index in open..close {
             if is(tokens, index + 1, ":") && is_identifier(&tokens[index].text) {
@@ -201,8 +235,30 @@ impl Code {
         let types = tokens[at..answer].iter().filter(|t| is_type(&t.text));
         function.types = types.map(|t| t.text.clone()).collect();
         self.identifiers.extend(function.types.iter().cloned());
+        if is(tokens, next, "{") {
+            function.body = tokens[next + 1..closing(tokens, next)].to_vec();
+        }
         self.functions.push(function);
+        self.written.extend_from_slice(&tokens[at..answer]);
         next
+    }
+}
+
+/// The types of fields or parameters, as `pub name: type` or, in a tuple struct, `type`.
+fn fields(tokens: &[Token]) -> Vec<Vec<Token>> {
+    let kind = |field: &[Token]| match field.iter().position(|t| t.text == ":") {
+        Some(at) => field[at + 1..].to_vec(),
+        None => field.iter().filter(|t| t.text != "pub").cloned().collect(),
+    };
+    let all = split(tokens, ",").into_iter();
+    all.filter(|field| !field.is_empty()).map(kind).collect()
+}
+
+/// The types of the fields of a variant, as `Name`, `Name(type, ..)` or `Name { name: type, .. }`.
+fn case_fields(variant: &[Token]) -> Vec<Vec<Token>> {
+    match variant.len() {
+        0..=2 => Vec::new(),
+        length => fields(&variant[2..length - 1]),
     }
 }
 
@@ -211,104 +267,4 @@ fn placed(text: &str, line: usize) -> Vec<Word> {
     let mut found = words(text);
     found.iter_mut().for_each(|word| word.line += line - 1);
     found
-}
-
-fn is(tokens: &[Token], at: usize, text: &str) -> bool {
-    tokens.get(at).is_some_and(|token| token.text == text)
-}
-
-fn find(tokens: &[Token], from: usize, text: &str) -> usize {
-    (from..tokens.len())
-        .find(|&at| is(tokens, at, text))
-        .unwrap_or(tokens.len() - 1)
-}
-
-/// Where the bracket closes that stands at the place.
-fn closing(tokens: &[Token], open: usize) -> usize {
-    let mut depth = 0;
-    for (at, token) in tokens.iter().enumerate().skip(open) {
-        match token.text.as_str() {
-            "(" | "{" | "[" => depth += 1,
-            ")" | "}" | "]" => depth -= 1,
-            _ => {}
-        }
-        if depth == 0 {
-            return at;
-        }
-    }
-    tokens.len() - 1
-}
-
-fn is_identifier(text: &str) -> bool {
-    text.starts_with(|c: char| c.is_alphabetic() || c == '_')
-}
-
-/// By their spelling: declared types begin with a capital letter, those of the language do not.
-fn is_type(text: &str) -> bool {
-    text.starts_with(|c: char| c.is_ascii_uppercase())
-}
-
-fn tokens(text: &str) -> Vec<Token> {
-    let mut found = Vec::new();
-    let mut line = 1;
-    let mut places = text.char_indices().peekable();
-    while let Some((from, first)) = places.next() {
-        if first == '\n' {
-            line += 1;
-        }
-        if first.is_whitespace() {
-            continue;
-        }
-        let mut to = from + first.len_utf8();
-        if first.is_alphanumeric() || first == '_' {
-            while let Some(&(at, next)) = places.peek() {
-                if !next.is_alphanumeric() && next != '_' {
-                    break;
-                }
-                to = at + next.len_utf8();
-                places.next();
-            }
-        }
-        found.push(Token {
-            text: text[from..to].to_string(),
-            line,
-            from,
-            to,
-        });
-    }
-    found
-}
-
-/// The text with spaces for its comments and for what stands in quotes, so that places and lines stay.
-fn without_comments(text: &str) -> String {
-    let characters: Vec<char> = text.chars().collect();
-    let mut left = String::with_capacity(text.len());
-    let mut at = 0;
-    while at < characters.len() {
-        let end = match characters[at] {
-            '/' if characters.get(at + 1) == Some(&'/') => (at..characters.len())
-                .find(|&end| characters[end] == '\n')
-                .unwrap_or(characters.len()),
-            '"' => {
-                let mut end = at + 1;
-                while end < characters.len() && characters[end] != '"' {
-                    end += if characters[end] == '\\' { 2 } else { 1 };
-                }
-                end + 1
-            }
-            // a character, and not a lifetime
-            '\'' if characters.get(at + 2) == Some(&'\'') => at + 3,
-            '\'' if characters.get(at + 1) == Some(&'\\') => at + 4,
-            other => {
-                left.push(other);
-                at += 1;
-                continue;
-            }
-        };
-        for &character in &characters[at..end.min(characters.len())] {
-            left.push(if character == '\n' { '\n' } else { ' ' });
-        }
-        at = end;
-    }
-    left
 }

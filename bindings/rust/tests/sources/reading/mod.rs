@@ -2,7 +2,9 @@
 //! cannot be read is told apart from what is not there, so that a gap here makes a test fail and never pass.
 
 pub mod code;
+pub mod library;
 pub mod module;
 pub mod names;
 pub mod repository;
+pub mod tokens;
 pub mod words;

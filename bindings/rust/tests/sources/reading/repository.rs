@@ -1,10 +1,13 @@
-//! The files of `crates/`, from the disk or made up.
+//! The files of `crates/` and the list of the crates, from the disk or made up.
 
-use std::collections::BTreeMap;
+use std::collections::{BTreeMap, BTreeSet};
 use std::fs;
 use std::path::Path;
 
-/// Texts by their paths from `crates/` on, as `answer/specs/Checks.antt`.
+/// The name of the list of the crates, which stands beside `crates/`.
+const LIST: &str = "crates.txt";
+
+/// Texts by their paths from `crates/` on, as `answer/specs/Checks.antt`, and that of `crates.txt`.
 pub struct Repository {
     files: BTreeMap<String, String>,
 }
@@ -12,9 +15,11 @@ pub struct Repository {
 impl Repository {
     /// The repository that this package stands in.
     pub fn here() -> Repository {
-        let crates = Path::new(env!("CARGO_MANIFEST_DIR")).join("../../crates");
+        let root = Path::new(env!("CARGO_MANIFEST_DIR")).join("../..");
         let mut files = BTreeMap::new();
-        collect(&crates, "", &mut files);
+        collect(&root.join("crates"), "", &mut files);
+        let list = fs::read_to_string(root.join(LIST)).expect("the list of the crates");
+        files.insert(LIST.to_string(), list);
         Repository { files }
     }
 
@@ -27,6 +32,24 @@ impl Repository {
 
     pub fn text(&self, path: &str) -> Option<&str> {
         self.files.get(path).map(String::as_str)
+    }
+
+    /// The crates, and every crate below them: those that a line of the list names, `name: used used ..`, and so on down.
+    pub fn with_all_below(&self, crates: &[&str]) -> BTreeSet<&str> {
+        let list = self.text(LIST).expect("the list of the crates");
+        let lines = list.lines().filter(|line| !line.starts_with('#'));
+        let uses: BTreeMap<&str, &str> = lines.filter_map(|line| line.split_once(':')).collect();
+        let mut found = BTreeSet::new();
+        let mut waiting: Vec<&str> = crates.to_vec();
+        while let Some(name) = waiting.pop() {
+            let (name, used) = uses
+                .get_key_value(name)
+                .unwrap_or_else(|| panic!("{LIST} has no line of {name}"));
+            if found.insert(*name) {
+                waiting.extend(used.split_whitespace());
+            }
+        }
+        found
     }
 
     /// The files with the ending, as `.antt`.
