@@ -65,7 +65,7 @@ const REFUSALS: [Refusals; 10] = [
 ];
 
 /// Outcomes that must occur at least so often.
-const LEAST: [(&str, &str, u64); 27] = [
+const LEAST: [(&str, &str, u64); 34] = [
     ("classes", "counts", 1000),
     ("strong", "weak", 100),
     ("strong", "strong, marks closed", 1000),
@@ -77,6 +77,7 @@ const LEAST: [(&str, &str, u64); 27] = [
     ("member", "not accepted", 1000),
     ("member", "a word of 4224 letters", 20),
     ("complement", "written", 1000),
+    ("complement", "marks exchanged, and found", 1000),
     ("included", "included", 1000),
     ("included", "not included", 100),
     ("included", "not included, v of 3 or more", 20),
@@ -92,7 +93,13 @@ const LEAST: [(&str, &str, u64); 27] = [
     ("reduce", "smaller", 100),
     ("reduce", "as large", 100),
     ("reduce", "64 elements", 1),
+    ("reduce", "marks exchanged, and found", 500),
+    ("reduce", "elements exchanged, and found", 1000),
+    ("reduce", "the same from another numbering", 1000),
     ("automaton_rule", "written", 1000),
+    ("automaton_rule", "marks exchanged, and found", 500),
+    ("automaton_rule", "elements exchanged, and found", 1000),
+    ("automaton_rule", "the same from another numbering", 1000),
 ];
 
 /// What occurred too seldom, or though it cannot.

@@ -29,15 +29,37 @@ impl Comparison {
         let (answer, (automaton, count)) = found?;
         let written = out.written(answer.length).to_vec();
         let rule = checks::rule(&written).expect("a rule file");
-        if let Err(fault) = compare(&automaton, count, &rule) {
+        let ordered = self.ordered("automaton_rule", &rule, true);
+        if let Err(fault) = compare(&automaton, count, &rule).and(ordered) {
             panic!("rule of the automaton {bytes:?}: {fault}");
         }
+        self.translate_backwards(&automaton, &written);
         self.runs(&automaton, &rule);
         self.tally.count("automaton_rule", "written");
         if count == 64 {
             self.tally.count("automaton_rule", "64 matrices");
         }
         Some(written)
+    }
+
+    /// The same automaton, with other numbers for its states and its transitions in another order, has the same bytes for its rule.
+    fn translate_backwards(&mut self, automaton: &Automaton, written: &[u8]) {
+        let last = automaton.states() as u8 - 1;
+        let transitions = automaton.transitions.iter().rev();
+        let other = Automaton {
+            kinds: automaton.kinds.iter().rev().copied().collect(),
+            letters: automaton.letters,
+            transitions: transitions
+                .map(|(p, a, q)| (last - p, *a, last - q))
+                .collect(),
+        };
+        let bytes = other.bytes();
+        let (mut out, mut scratch) = (vec![0; RULE_OUT], vec![0; SCRATCH]);
+        let answer = duknavet::automaton_rule(&bytes, &mut out, &mut scratch);
+        let length = answer.expect("as few matrices").length;
+        assert_eq!(&out[..length], written, "rule of the automaton {bytes:?}");
+        self.tally
+            .count("automaton_rule", "the same from another numbering");
     }
 
     /// The rule and the automaton accept the same of some lassos.
@@ -60,7 +82,7 @@ impl Comparison {
     }
 }
 
-/// The rule's elements are the matrices, renumbered, and its marks those of the linked pairs that are to be marked.
+/// The rule's elements are the matrices, in some numbering, and its marks are the linked pairs that are to be marked, by s, then by e.
 fn compare(automaton: &Automaton, count: usize, rule: &Rule) -> Result<(), String> {
     let m = &rule.morphism;
     if m.letters() != automaton.letters || m.n != count {
@@ -93,11 +115,10 @@ fn compare(automaton: &Automaton, count: usize, rule: &Rule) -> Result<(), Strin
     if (0..m.n).any(repeated) {
         return Err("two elements have one matrix".to_string());
     }
-    let mut marks = rule.marks.clone();
-    marks.sort_unstable();
+    let marks = &rule.marks;
     let mut expected = m.linked_pairs();
     expected.retain(|(s, e)| automaton.marks(&matrices[*s as usize], &matrices[*e as usize]));
-    match marks == expected {
+    match *marks == expected {
         true => Ok(()),
         false => Err(format!("marks {marks:?}, expected {expected:?}")),
     }

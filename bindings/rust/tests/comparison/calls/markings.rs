@@ -126,9 +126,14 @@ impl Comparison {
         let accepted = |(s, e): &Pair| outcomes[*s as usize * m.n + *e as usize];
         let mut expected = m.linked_pairs();
         expected.retain(|pair| !accepted(pair));
-        let mut marks = written.marks;
-        marks.sort_unstable();
-        assert_eq!(marks, expected, "marks of the complement of {inputs:?}");
+        // both by s, then by e
+        assert_eq!(
+            written.marks, expected,
+            "marks of the complement of {inputs:?}"
+        );
+        if let Err(fault) = self.ordered("complement", &written, false) {
+            panic!("complement of {inputs:?}: {fault}");
+        }
         self.tally.count("complement", "written");
     }
 

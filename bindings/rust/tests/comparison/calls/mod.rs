@@ -7,6 +7,8 @@ mod monitors;
 mod reductions;
 
 use crate::definitions::checks::Refusal;
+use crate::definitions::order;
+use crate::definitions::rule::Rule;
 use crate::lending::{Lent, Stale};
 use crate::random::Random;
 use crate::tally::{refusal, Tally};
@@ -91,6 +93,35 @@ impl Comparison {
                 panic!("{call} on {inputs:?}: {answer:?}, expected {expected:?}")
             }
         }
+    }
+
+    /// Holds a written rule to the order of its marks and, where the call numbers the elements, to that of first words; and the
+    /// check itself to rules in another order: with two marks or two elements exchanged it must find the fault.
+    fn ordered(&mut self, call: &str, rule: &Rule, numbered: bool) -> Result<(), String> {
+        order::marks_rise(&rule.marks)?;
+        let middle = rule.marks.len() / 2;
+        if middle > 0 {
+            let mut marks = rule.marks.clone();
+            marks.swap(middle - 1, middle);
+            if order::marks_rise(&marks).is_ok() {
+                return Err("two marks can be exchanged".to_string());
+            }
+            self.tally.count(call, "marks exchanged, and found");
+        }
+        if !numbered {
+            return Ok(());
+        }
+        order::by_first_words(&rule.morphism)?;
+        let middle = rule.morphism.n / 2;
+        if middle > 0 {
+            let mut number: Vec<u8> = rule.morphism.elements().collect();
+            number.swap(middle - 1, middle);
+            if order::by_first_words(&order::renumbered(rule, &number).morphism).is_ok() {
+                return Err("two elements can be exchanged".to_string());
+            }
+            self.tally.count(call, "elements exchanged, and found");
+        }
+        Ok(())
     }
 }
 

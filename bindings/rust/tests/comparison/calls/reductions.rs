@@ -1,10 +1,11 @@
-//! Reduction: strong, the same lassos, the marks that it must have, and no larger than the syntactic classes.
+//! Reduction: strong, the same lassos, the marks that it must have, no larger than the syntactic classes, and in its order.
 
 use super::markings::outcomes;
 use super::{lengths, Comparison};
 use crate::definitions::acceptance::{accepts, Marking};
 use crate::definitions::contexts;
 use crate::definitions::cycles::Decided;
+use crate::definitions::order;
 use crate::definitions::rule::Morphism;
 use crate::definitions::splits;
 use crate::subject::{Known, Subject};
@@ -23,9 +24,11 @@ impl Comparison {
         let Some((answer, ())) = found else { return };
         let written = Subject::new(out.written(answer.length).to_vec());
         let (known, reduced) = (subject.known(), written.known());
-        if let Err(fault) = compare(known, reduced) {
+        let ordered = self.ordered("reduce", &reduced.rule, true);
+        if let Err(fault) = compare(known, reduced).and(ordered) {
             panic!("reduction of {inputs:?}: {fault}");
         }
+        self.reduce_backwards(known, &written.bytes);
         let size = reduced.morphism().n;
         let outcome = match size < known.morphism().n {
             true => "smaller",
@@ -35,6 +38,17 @@ impl Comparison {
         if size == 64 {
             self.tally.count("reduce", "64 elements");
         }
+    }
+
+    /// The same rule, with its elements numbered backwards and so its marks in another order, has the same bytes for its reduction.
+    fn reduce_backwards(&mut self, known: &Known, written: &[u8]) {
+        let bytes = order::backwards(&known.rule).bytes();
+        let (mut out, mut scratch) = (vec![0; RULE_OUT], vec![0; SCRATCH]);
+        let answer = duknavet::reduce(&bytes, &mut out, &mut scratch);
+        let length = answer.expect("a strong rule").length;
+        assert_eq!(&out[..length], written, "reduction of {bytes:?}");
+        self.tally
+            .count("reduce", "the same from another numbering");
     }
 }
 

@@ -6,5 +6,6 @@ pub mod checks;
 pub mod conjugacy;
 pub mod contexts;
 pub mod cycles;
+pub mod order;
 pub mod rule;
 pub mod splits;
