@@ -100,12 +100,17 @@ fn run_all(text: &[u8], scratch: &mut [u8]) {
     }
 }
 
-// The idle automaton has an initial state that idles and a final one that loops, so that nothing is accepted.
+// The idle automaton has an initial state that idles and a final one that loops, so that nothing is accepted. M10 with its states exchanged
+// and its transitions in another order has the same rule, byte by byte; with its letters exchanged it has another, whose elements have the
+// first words 0, 1 and 1 0.
 fn main() {
     let mut scratch = [7u8; SCRATCH_SIZE];
     run_all(
         b"M10: translate: 2 1 2 2 4 0 0 0 1 0 1 0 1 0 1 1 1 0\n\
         M10 reduced: reduce: 2 1 2 2 4 0 0 0 1 0 1 0 1 0 1 1 1 0\n\
+        M10, states exchanged: translate: 2 2 1 2 4 0 0 1 1 1 0 0 1 1 1 0 0 0\n\
+        M10, states exchanged, reduced: reduce: 2 2 1 2 4 0 0 1 1 1 0 0 1 1 1 0 0 0\n\
+        M10, letters exchanged: translate: 2 1 2 2 4 0 0 1 1 1 0 0 1 1 1 0 0 0\n\
         : cuts: 2 1 2 2 4 0 0 0 1 0 1 0 1 0 1 1 1 0\n\
         idle: translate: 2 1 2 1 2 0 0 0 0 1 0 1\n\
         idle, u 0, v 0: member: 2 1 2 1 2 0 0 0 0 1 0 1\n\

@@ -174,6 +174,10 @@ fn main() {
         M7 Z with letter 0 only: list: 2 0 1 1 0 1 1 1 0 0 0\n\
         M7 Z with letter 0 only: strength: 2 0 1 1 0 1 1 1 0 0 0\n\
         M7 Z with letter 0 only: complement: 2 0 1 1 0 1 1 1 0 0 0\n\
+        # Letter 0 alone from some place on. The elements, both letters, letter 1, letter 0, are not numbered by first words, and the complement\n\
+        # keeps them so; its marks stand by s, then by e, in whatever order the rule lists its own.\n\
+        letter 0 alone: complement: 3 0 0 0 0 1 0 0 0 2 2 2 1 2 0 2 2 0 2\n\
+        letter 0 alone, marks by s: complement: 3 0 0 0 0 1 0 0 0 2 2 2 1 2 0 0 2 2 2\n\
         M8: list: 2 1 0 0 0 1 0 0 0\n\
         M8: strength: 2 1 0 0 0 1 0 0 0\n\
         M8: complement: 2 1 0 0 0 1 0 0 0\n\

@@ -77,6 +77,12 @@ fn main() {
         # A reduction of a reduction has as many elements.\n\
         W: reduce: 2 0 0 0 1 2 0 1 1 0 0 0\n\
         W again: again: 2 0 0 0 1 2 0 1 1 0 0 0\n\
+        # From some place on only one of two letters comes. An element says which letters occur. Whatever their numbers and the order of the\n\
+        # marks are, the same bytes are written, the elements with the first words 0, 1 and 0 1 in this order, the marks by s, then by e.\n\
+        one letter, both first: reduce: 3 0 0 0 0 1 0 0 0 2 2 2 1 4 0 0 1 2 2 0 2 1 1\n\
+        one letter, 1 before 0: reduce: 3 0 2 2 2 1 2 2 2 2 2 1 0 4 0 2 1 1 1 0 0 2 0\n\
+        one letter, by first words: reduce: 3 0 2 2 2 1 2 2 2 2 2 0 1 4 0 2 1 2 0 1 1 0 0\n\
+        W with its elements exchanged: reduce: 2 0 1 1 1 2 1 0 1 0 1 1\n\
         # A set of letters occurs again and again, and is accepted where it is even. No two of the 64 sets can stand for each other.\n\
         64 sets of letters: reduce: 64 unions 16 1 2 4 8 16 32 0 1 2 4 8 16 32 0 1 2 109 1 marks\n\
         # The remainders by 64 with the mark (0, 0), every letter of image 1, so that every lasso is accepted.\n\
