@@ -36,6 +36,16 @@ pub fn refused_line(number: u8, input: usize, place: usize) {
     three_line(b"refused ", number as usize, b" in ", input, b" at ", place);
 }
 
+// Writes whether a lasso is accepted, and after how many turns its cycle settles.
+pub fn decided_line(accepted: bool, turns: usize) {
+    if accepted {
+        word_and(b"accepted, turns ", turns);
+    } else {
+        word_and(b"not accepted, turns ", turns);
+    }
+    word(b"\n");
+}
+
 // Writes a line's label, if it has one.
 pub fn label(line: &[u8]) {
     let name = part(line, b':', 0);

@@ -3,14 +3,15 @@
 -- (`-fits`): the refusals by Limits, the results by what their promises say. Assumes nothing.
 use Prim.Native.Nat.{ℕ, _+_, _*_, _≤_}
 use mathlib.Core.Path.{_≡_, sym, ap, _∙_, subst}
+use mathlib.Core.Bool.{Bool, true, false}
 use mathlib.Core.List.{List, [], _∷_, _++_}
 use native.Mathlib.Omega.{arith}
 use native.Mathlib.Nat.{mul-le-mul}
 use Rattle.answer.proofs.Order.{passed-first, passes-tail}
 use Rattle.answer.proofs.Limits.{Limited, limited-nil, limited-cons, limited-append}
 use Rattle.theory.specs.Rules.{Morphism, Marking}
-use Rattle.theory.specs.Pairs.{LinkedPairs, Classes}
-use Rattle.formats.specs.RuleFile.{elementsOf, lettersOf}
+use Rattle.theory.specs.Pairs.{LinkedPairs, Classes, LeastExponent}
+use Rattle.formats.specs.RuleFile.{elementsOf, lettersOf, oneIf}
 use Rattle.formats.specs.RuleChecks.{ruleSize, bufferCheck}
 use Rattle.formats.specs.Calls.{checkedChecks}
 use Rattle.rule_check.proofs.Calls.{called-good}
@@ -34,7 +35,7 @@ use Rattle.promises.specs.declared.Inclusion.{Inclusion}
 use Rattle.promises.specs.declared.Inclusion.the-variants.{Included, NotIncluded, Refused as Not-compared}
 use Rattle.promises.specs.Inclusion.{InclusionPromise}
 use Rattle.promises.specs.declared.Membership.{Membership}
-use Rattle.promises.specs.declared.Membership.the-variants.{Accepted, NotAccepted, Refused as Not-a-member}
+use Rattle.promises.specs.declared.Membership.the-variants.{Decided, Refused as Not-a-member}
 use Rattle.promises.specs.Member.{MemberPromise}
 use Rattle.promises.specs.declared.Moved.{Moved}
 use Rattle.promises.specs.declared.Moved.the-variants.{To, Refused as Not-moved}
@@ -45,7 +46,7 @@ use Rattle.promises.specs.declared.Strength.{Strength}
 use Rattle.promises.specs.declared.Strength.the-variants.{Strong, Weak, Refused as Not-decided}
 use Rattle.promises.specs.Strong.{StrongPromise}
 use Rattle.promises.specs.declared.MonitorVerdict.{MonitorVerdict}
-use Rattle.promises.specs.declared.MonitorVerdict.the-variants.{Accepted as Judged-accepted, NotAccepted as Judged-not-accepted, Refused as Not-judged}
+use Rattle.promises.specs.declared.MonitorVerdict.the-variants.{Decided as Judged, Refused as Not-judged}
 use Rattle.packing.specs.Packing.{unpack, listedContents, strengthContents, membershipContents, complementedContents, reducedContents, translatedContents, inclusionContents, monitorContents, movedContents, monitorVerdictContents, packMonitor}
 use Rattle.packing.proofs.ReadBack.{FieldsFit, Fits, read-back}
 use Rattle.packing.proofs.Contents.{listed-told, strength-told, membership-told, complemented-told, reduced-told, translated-told, inclusion-told, judged-told, moved-told}
@@ -57,6 +58,11 @@ use Rattle.exports.proofs.Monitors.{mark-fits, event-fits}
 -- yes or no
 bit-fits : {a : ℕ} → a ≤ 1 → FieldsFit a 0 0
 bit-fits h = record { first = omega arith; second = omega arith; third = omega arith }
+
+-- a lasso accepted or not, and turns
+decided-fits : {m : Morphism} {x turns : ℕ} (accepted : Bool) → m .size ≤ 64 → LeastExponent m x turns → FieldsFit (oneIf accepted) turns 0
+decided-fits true h l = record { first = omega arith; second = omega (arith, l .is-exponent, l .below); third = omega arith }
+decided-fits false h l = record { first = omega arith; second = omega (arith, l .is-exponent, l .below); third = omega arith }
 
 -- the length of a written rule
 written-fits : {m : Morphism} {marks : Marking} {entry exit : List ℕ} {r : ℕ} → WrittenRule m marks entry exit r → FieldsFit r 0 0
@@ -93,8 +99,8 @@ strength-fits {bytes} {entry} (Not-decided r i place) p = refused-fits r (checke
 
 -- member
 member-fits : {bytes u v entry exit : List ℕ} (answer : Membership) → MemberPromise bytes u v entry exit answer → Fits (membershipContents answer)
-member-fits Accepted p = bit-fits (omega arith)
-member-fits NotAccepted p = bit-fits (omega arith)
+member-fits {bytes} {entry = entry} (Decided accepted turns) p =
+    decided-fits accepted (called-good 1 bytes entry (passed-first (checkedChecks 1 bytes entry) _ (p .refusal)) .table .small) (p .answered .1 .turns-are)
 member-fits {bytes} {u} {v} {entry} (Not-a-member r i place) p =
     refused-fits r (limited-append (checkedChecks 1 bytes entry) (checked-limited bytes entry) (λ _. lasso-limited (lettersOf bytes) u v)) (p .refusal)
 
@@ -150,8 +156,9 @@ mark-answer-fits {bytes} {f} {entry} (Not-moved g r i place) p = refused-fits r 
 
 -- verdict
 verdict-fits : {bytes : List ℕ} {f : Monitor} {entry exit : List ℕ} (answer : MonitorVerdict) → VerdictPromise bytes f entry exit answer → Fits (monitorVerdictContents answer)
-verdict-fits Judged-accepted p = bit-fits (omega arith)
-verdict-fits Judged-not-accepted p = bit-fits (omega arith)
+verdict-fits {bytes} {f} {entry} (Judged accepted turns) p =
+    decided-fits accepted
+    (called-good 1 bytes entry (passed-first (checkedChecks 1 bytes entry) _ (passed-first (monitorChecks bytes f entry) _ (p .refusal))) .table .small) (p .answered .1)
 verdict-fits {bytes} {f} {entry} (Not-judged r i place) p =
     refused-fits r (limited-append (monitorChecks bytes f entry) (monitor-limited bytes f entry)
     (λ _. limited-cons (λ place (a : NoneAt _ place). at-zero (a .is-place))

@@ -33,7 +33,7 @@ pub extern "C" fn duknavet_strong(rule: &[u8], scratch: &mut [u8]) -> u64
     pack_strength(rules::strong(rule, scratch))
 }
 
-// 1 for a lasso that is accepted, 0 for another.
+// 1 for a lasso that is accepted, 0 for another; and how many turns settle the value of v.
 #[no_mangle]
 pub extern "C" fn duknavet_member(rule: &[u8], u: &[u8], v: &[u8], scratch: &mut [u8]) -> u64
     ensures { λ r. ⌜ ExportedMember (now (rule .entry)) (now (u .entry)) (now (v .entry)) (now (scratch .entry)) (now (scratch .exit)) r ⌝ }
@@ -94,7 +94,7 @@ pub extern "C" fn duknavet_mark(rule: &[u8], before: usize, since: usize, scratc
     pack_moved(rules::mark(rule, Monitor { before, since }, scratch))
 }
 
-// 1 where the lassos with the monitor's values are accepted, 0 where they are not.
+// 1 where the lassos with the monitor's values are accepted, 0 where they are not; and how many turns settle the value of since.
 #[no_mangle]
 pub extern "C" fn duknavet_verdict(
     rule: &[u8],

@@ -11,3 +11,4 @@ pub mod Explore
 pub mod Explored
 pub mod Discovery
 pub mod Select
+pub mod Tells

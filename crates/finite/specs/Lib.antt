@@ -2,3 +2,4 @@ pub mod Letters
 pub mod Search
 pub mod Select
 pub mod Shortlex
+pub mod Tells

@@ -1,10 +1,10 @@
--- What the answer of `accepts` says of acceptance: for a set of linked pairs that the marks in the lent bytes hold, `true` is
--- acceptance and `false` is not. Assumes nothing.
+-- What the answer of `accepts` says of acceptance, for a set of linked pairs that the marks in the lent bytes hold. Assumes nothing.
 use Prim.Native.Nat.{ℕ}
 use mathlib.Core.Path.{_≡_, sym, _∙_, subst}
-use mathlib.Core.Bool.{Bool, true, false}
+use mathlib.Core.Bool.{Bool}
 use mathlib.Core.List.{List}
 use lib.Dec.{T}
+use Rattle.finite.specs.Tells.{Tells}
 use Rattle.finite.proofs.Tests.{true-T}
 use Rattle.theory.specs.Rules.{Lawful, Pairs}
 use Rattle.theory.specs.Pairs.{LinkedOnly}
@@ -25,11 +25,9 @@ module _ {bytes : List ℕ} {n k : ℕ} {P : Pairs} {u v : List ℕ} (table : Ta
     answer-is : b ≡ accepts-test (morphismAt bytes n k) P u v
     answer-is = answer ∙ sym (accepts-test-agrees law agrees (word-u .over) (word-v .over))
 
-    -- `true` means that the lasso is accepted
-    pub accepted : b ≡ true → Accepts (morphismAt bytes n k) P u v
-    accepted e = accepts-test-elim law linked (word-u .over) (word-v .over) (word-v .some) (true-T (sym answer-is ∙ e))
-
-    -- `false` means that it is not
-    pub not-accepted : b ≡ false → Accepts (morphismAt bytes n k) P u v → ⊥
-    not-accepted e a =
-        subst T (sym answer-is ∙ e) (accepts-test-intro law linked (word-u .over) (word-v .over) (word-v .some) a)
+    -- so it tells whether the lasso is accepted
+    pub accepted-told : Tells (Accepts (morphismAt bytes n k) P u v) b
+    accepted-told = record {
+      holds = λ e. accepts-test-elim law linked (word-u .over) (word-v .over) (word-v .some) (true-T (sym answer-is ∙ e));
+      fails = λ e a. subst T (sym answer-is ∙ e) (accepts-test-intro law linked (word-u .over) (word-v .over) (word-v .some) a);
+    }

@@ -32,12 +32,13 @@ pub fn word_value(rule: &[u8], n: usize, k: usize, w: &[u8]) -> usize
     s
 }
 
-// The values of the beginnings of a word.
-fn beginnings(rule: &[u8], n: usize, k: usize, w: &[u8], scratch: &mut [u8], base: usize)
+// The values of the beginnings of a word. Answers that of the whole word.
+fn beginnings(rule: &[u8], n: usize, k: usize, w: &[u8], scratch: &mut [u8], base: usize) -> usize
     requires { ⌜ Table (now rule) n k ⌝ }
     requires { ⌜ Lawful (morphismAt (now rule) n k) ⌝ }
     requires { ⌜ CallWord k (now w) ⌝ }
     requires { ⌜ base + length (now w) ≤ length (now scratch) ⌝ }
+    ensures whole { λ r. ⌜ value (morphismAt (now (rule .entry)) n k) (now (w .entry)) ≡ element r ⌝ }
     ensures values { λ r. ⌜ Beginnings (morphismAt (now (rule .entry)) n k) (now (w .entry)) (now (scratch .exit)) base ⌝ }
     ensures others { λ r. ⌜ KeptAround (now (scratch .entry)) (now (scratch .exit)) base (length (now (w .entry))) ⌝ }
 {
@@ -48,6 +49,7 @@ fn beginnings(rule: &[u8], n: usize, k: usize, w: &[u8], scratch: &mut [u8], bas
         s = product(rule, n, s, h);
         scratch[base + j] = (s % 256) as u8;
     }
+    s
 }
 
 // The values of the ends of a word.
@@ -70,17 +72,25 @@ fn ends(rule: &[u8], n: usize, k: usize, w: &[u8], scratch: &mut [u8], base: usi
     }
 }
 
+// Whether a lasso is accepted, and the value of its cycle.
+pub struct Tested {
+    pub accepted: bool,
+    pub cycle: usize,
+}
+
 // Whether the lasso is accepted under the marks that stand in scratch. The bytes of scratch behind the marks are used.
-pub fn accepts(rule: &[u8], n: usize, k: usize, u: &[u8], v: &[u8], scratch: &mut [u8]) -> bool
+pub fn accepts(rule: &[u8], n: usize, k: usize, u: &[u8], v: &[u8], scratch: &mut [u8]) -> Tested
     requires { ⌜ Table (now rule) n k ⌝ }
     requires { ⌜ Lawful (morphismAt (now rule) n k) ⌝ }
     requires { ⌜ CallWord k (now u) ⌝ }
     requires { ⌜ CallWord k (now v) ⌝ }
     requires { ⌜ scratchSize ≤ length (now scratch) ⌝ }
-    ensures { λ b. ⌜ b ≡ accepts-test (morphismAt (now (rule .entry)) n k) (markedIn (now (scratch .entry))) (now (u .entry)) (now (v .entry)) ⌝ }
+    ensures acceptance { λ r. ⌜ r .accepted ≡ accepts-test (morphismAt (now (rule .entry)) n k) (markedIn (now (scratch .entry))) (now (u .entry)) (now (v .entry)) ⌝ }
+    ensures cycle { λ r. ⌜ value (morphismAt (now (rule .entry)) n k) (now (v .entry)) ≡ element (r .cycle) ⌝ }
 {
     let s = word_value(rule, n, k, u);
-    beginnings(rule, n, k, v, scratch, BEGINNINGS_BASE);
+    let cycle = beginnings(rule, n, k, v, scratch, BEGINNINGS_BASE);
     ends(rule, n, k, v, scratch, ENDS_BASE);
-    some_cut(rule, n, k, scratch, s, v.len())
+    let accepted = some_cut(rule, n, k, scratch, s, v.len());
+    Tested { accepted, cycle }
 }

@@ -1,7 +1,7 @@
 -- What each way through the call for membership promises. Assumes nothing.
-use Prim.Native.Nat.{ℕ, _≤_}
+use Prim.Native.Nat.{ℕ, _≤_, _<_}
 use mathlib.Core.Path.{_≡_, refl, sym, ap, _∙_, subst}
-use mathlib.Core.Bool.{Bool, true, false}
+use mathlib.Core.Bool.{Bool}
 use mathlib.Core.List.{List}
 use native.Mathlib.Omega.{arith}
 use lib.ListN.{length, replicate}
@@ -9,10 +9,12 @@ use lib.Dec.{leb}
 use Rattle.answer.specs.declared.Refusal.{Refusal}
 use Rattle.answer.specs.Checks.{passed, refused, FirstFailure}
 use Rattle.answer.proofs.Order.{refused-before, passed-before}
-use Rattle.theory.specs.Rules.{Morphism, Lawful, marked, level}
+use Rattle.finite.specs.Tells.{Tells}
+use Rattle.theory.specs.Rules.{Morphism, Lawful, marked, level, element, value}
 use Rattle.theory.specs.Acceptance.{Accepts}
-use Rattle.theory.specs.Pairs.{LinkedOnly}
+use Rattle.theory.specs.Pairs.{LinkedOnly, LeastPower, TurnsOf}
 use Rattle.theory.proofs.Words.{over-from}
+use Rattle.theory.proofs.Values.{inside-of}
 use Rattle.theory.proofs.Membership.{accepts-test}
 use Rattle.rule_table.specs.Table.{Table}
 use Rattle.formats.specs.Table.{morphismAt}
@@ -30,8 +32,8 @@ use Rattle.formats.specs.WordChecks.{lassoChecks}
 use Rattle.lasso_words.specs.Answers.{GoodWord, GoodLasso, LassoAnswer}
 use Rattle.lasso_cuts.specs.WordValues.{CallWord}
 use Rattle.lasso_turns.specs.Cuts.{markedIn}
-use Rattle.lasso_cuts.proofs.Accepted.{Agrees, accepted, not-accepted}
-use Rattle.promises.specs.declared.Membership.the-variants.{Accepted, NotAccepted, Refused}
+use Rattle.lasso_cuts.proofs.Accepted.{Agrees, accepted-told}
+use Rattle.promises.specs.declared.Membership.the-variants.{Decided, Refused}
 use Rattle.promises.specs.Member.{MemberPromise}
 
 -- the words' answer, known by its case
@@ -97,24 +99,22 @@ module _ (bytes u v entry : List ℕ) where
       words-passed : FirstFailure (lassoChecks (lettersOf bytes) u v) passed
       words-passed = subst (λ (k : ℕ). FirstFailure (lassoChecks k u v) passed) (p .scratch .shape-is .letters) (g .refusal)
 
-      module _ {b : Bool} (answer : b ≡ accepts-test (morphismAt bytes (shape .elements) (shape .letters)) (markedIn mid) u v)
-          (was exit : List ℕ) (kept : length was ≡ length mid) (z : exit ≡ replicate (length was) 0) where
-        -- the lasso is accepted
-        pub says-yes : b ≡ true → MemberPromise bytes u v entry exit Accepted
-        says-yes e = record {
-          refusal = passed-before _ _ (p .refusal) words-passed;
-          answered =
-              subst (λ (m : Morphism). Accepts m (pairsOf bytes) u v) (shape-morphism (p .scratch .shape-is))
-              (accepted table lawful linked start-word cycle-word mid agrees answer e);
-          scratch = left was exit kept z;
-        }
+      -- the value of the cycle is an element
+      pub cycle-inside : {x : ℕ} → value (morphismAt bytes (shape .elements) (shape .letters)) v ≡ element x → x < shape .elements
+      cycle-inside = inside-of lawful (cycle-word .over)
 
-        -- or it is not
-        pub says-no : b ≡ false → MemberPromise bytes u v entry exit NotAccepted
-        says-no e = record {
-          refusal = passed-before _ _ (p .refusal) words-passed;
-          answered = λ a.
-              not-accepted table lawful linked start-word cycle-word mid agrees answer e
-              (subst (λ (m : Morphism). Accepts m (pairsOf bytes) u v) (sym (shape-morphism (p .scratch .shape-is))) a);
-          scratch = left was exit kept z;
-        }
+      -- the lasso is decided
+      pub decided : {b : Bool} {x e turns : ℕ} → b ≡ accepts-test (morphismAt bytes (shape .elements) (shape .letters)) (markedIn mid) u v
+          → value (morphismAt bytes (shape .elements) (shape .letters)) v ≡ element x
+          → LeastPower (morphismAt bytes (shape .elements) (shape .letters)) x e turns
+          → (was exit : List ℕ) → length was ≡ length mid → exit ≡ replicate (length was) 0 → MemberPromise bytes u v entry exit (Decided b turns)
+      decided {b} {x} {turns = turns} answer cycle power was exit kept z = record {
+        refusal = passed-before _ _ (p .refusal) words-passed;
+        answered = (
+          subst (λ (m : Morphism). Tells (Accepts m (pairsOf bytes) u v) b) (shape-morphism (p .scratch .shape-is))
+              (accepted-told table lawful linked start-word cycle-word mid agrees answer),
+          subst (λ (m : Morphism). TurnsOf m v turns) (shape-morphism (p .scratch .shape-is))
+              (record { cycle = x; cycle-value = cycle; turns-are = power .exponent-is }),
+        );
+        scratch = left was exit kept z;
+      }

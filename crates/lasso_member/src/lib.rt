@@ -1,10 +1,12 @@
-// Whether a rule accepts a lasso: u, then v for ever. Any rule that passes its checks is asked, weak ones too.
+// Whether a rule accepts a lasso: u, then v for ever; and after how many turns of v its value settles. Any rule that passes its checks
+// is asked, weak ones too.
 use lasso_cuts::accepts;
 use lasso_words::LassoFault;
 use lasso_words::lasso_fault;
 use promises::Membership;
 use rule_check::Checked;
 use rule_check::check;
+use rule_table::idempotent_power;
 use sections::zero;
 ghost use Rattle.promises.specs.Member.{MemberPromise};
 
@@ -42,10 +44,11 @@ pub fn member(rule: &[u8], u: &[u8], v: &[u8], scratch: &mut [u8]) -> Membership
             };
         }
     }
-    let accepted = accepts(rule, n, k, u, v, scratch);
+    let tested = accepts(rule, n, k, u, v, scratch);
+    let power = idempotent_power(rule, n, k, tested.cycle);
     zero(scratch);
-    if accepted {
-        return Membership::Accepted;
+    Membership::Decided {
+        accepted: tested.accepted,
+        turns: power.exponent,
     }
-    Membership::NotAccepted
 }

@@ -11,7 +11,7 @@ use lib.Dec.{T}
 use Rattle.finite.specs.Search.{anyBelow}
 use Rattle.theory.specs.Rules.{Lawful, Pairs}
 use Rattle.theory.specs.Pairs.{LeastPower}
-use Rattle.theory.proofs.IdempotentPowers.{least-power-is}
+use Rattle.theory.proofs.IdempotentPowers.{least-power-is, least-power-idempotent}
 use Rattle.theory.proofs.Powers.{times, idempotent-of, settling}
 use Rattle.theory.proofs.Membership.{turn-look, turn-test, past-mod}
 use Rattle.rule_table.specs.Table.{Table}
@@ -37,8 +37,8 @@ module _ {bytes : List ℕ} {n k : ℕ} {p r e : ℕ} where
   turn-start P t law hp hr l es = record {
     table = t;
     r-inside = hr;
-    e-inside = l .idempotent .inside;
-    s-inside = product-below t hp (l .idempotent .inside) es;
+    e-inside = least-power-idempotent l .inside;
+    s-inside = product-below t hp (least-power-idempotent l .inside) es;
     is-power = least-power-is law hr l .is-power;
     is-value = es;
     none = none-start _;
@@ -83,7 +83,7 @@ pub record Looking (bytes : List ℕ) (n k : ℕ) (P : Pairs) (p r e exponent s 
 
 module _ {bytes : List ℕ} {n k : ℕ} {P : Pairs} {p r e exponent s j : ℕ} (l : Looking bytes n k P p r e exponent s j) where
   pub exponent-small : exponent ≤ n
-  exponent-small = omega (arith, l .power .is-exponent, l .power .below)
+  exponent-small = omega (arith, l .power .exponent-is .is-exponent, l .power .exponent-is .below)
 
   -- p·e·r^i comes again after as many as the exponent of e
   comes-again : (i : ℕ) → turn-look (morphismAt bytes n k) P p r e i ≡ turn-look (morphismAt bytes n k) P p r e (i % suc (settling n (productAt bytes n) r))

@@ -10,15 +10,16 @@ use lib.Dec.{T}
 use Rattle.answer.specs.declared.Refusal.the-variants.{NotStrong}
 use Rattle.theory.specs.Rules.{Morphism, Lawful, Pairs, element, value, AllReached}
 use Rattle.theory.specs.Acceptance.{Accepts, Strong}
-use Rattle.theory.specs.Pairs.{LinkedOnly}
+use Rattle.theory.specs.Pairs.{LinkedOnly, LeastExponent}
 use Rattle.theory.proofs.Strength.{settled-start, settled-cycle, settled-linked}
 use Rattle.theory.proofs.Closure.{closure-test, acceptance-passes, strong-acceptance}
 use Rattle.scratch.specs.Map.{pairsFrom}
 use Rattle.mark_search.specs.Search.{MarkingAt}
 use Rattle.mark_strong.specs.Deciding.{DecideNeeds, StrongIf, Decided}
-use Rattle.promises.specs.declared.MonitorVerdict.the-variants.{Accepted, NotAccepted, Refused}
+use Rattle.promises.specs.declared.MonitorVerdict.the-variants.{Decided as Is-decided, Refused}
 use Rattle.theory.specs.Words.{Lasso}
 use Rattle.theory.specs.Smallest.{LassosAccepted, LassosNotAccepted}
+use Rattle.promises.specs.Verdict.{LassosDecided}
 use Rattle.monitor_judging.specs.Judges.{Judges}
 use Rattle.formats.specs.RuleChecks.{scratchSize}
 
@@ -62,8 +63,8 @@ module _ {m : Morphism} {entry : List ℕ} (place : DecideNeeds m entry) {before
     says = λ P lp t. (subst (StrongIf m P) e (d .decision P lp t), refl);
   }
 
-  module _ {accepted : Bool} (look : accepted ≡ pairsFrom mid 4096 (settled-start m before since) (settled-cycle m since)) {exit : List ℕ}
-      (z : exit ≡ replicate (length mid) 0) (e : strong ≡ true) where
+  module _ {accepted : Bool} {turns : ℕ} (look : accepted ≡ pairsFrom mid 4096 (settled-start m before since) (settled-cycle m since))
+      (settles : LeastExponent m since turns) {exit : List ℕ} (z : exit ≡ replicate (length mid) 0) (e : strong ≡ true) where
     strong-marks : (P : Pairs) → LinkedOnly m P → MarkingAt (m .size) P entry 0 → Strong m P
     strong-marks P lp t = subst (StrongIf m P) e (d .decision P lp t)
 
@@ -73,20 +74,15 @@ module _ {m : Morphism} {entry : List ℕ} (place : DecideNeeds m entry) {before
         let l = settled-linked (place .lawful) hb hs in
         d .closure P lp t .same (settled-start m before since) (settled-cycle m since) (l .inside) (l .idempotent .inside) ∙ sym look
 
-    pub judged-accepted : accepted ≡ true → Judges m before since entry exit Accepted
-    judged-accepted a = record {
-      zeros = zeros-left z;
-      says = λ P lp t. (
-        strong-marks P lp t,
-        closure-accepts (place .lawful) (place .reached) hb hs lp (strong-marks P lp t) (rw (look-closure P lp t, a) tt),
-      );
-    }
+    -- so it decides
+    closure-told : (P : Pairs) → LinkedOnly m P → MarkingAt (m .size) P entry 0 → (b : Bool) → accepted ≡ b → LassosDecided m P before since b
+    closure-told P lp t true a =
+        closure-accepts (place .lawful) (place .reached) hb hs lp (strong-marks P lp t) (rw (look-closure P lp t, a) tt)
+    closure-told P lp t false a =
+        closure-rejects (place .lawful) (place .reached) hb hs lp (strong-marks P lp t) (λ h. rw (look-closure P lp t, a) at h)
 
-    pub judged-not-accepted : accepted ≡ false → Judges m before since entry exit NotAccepted
-    judged-not-accepted a = record {
+    pub judged-decided : Judges m before since entry exit (Is-decided accepted turns)
+    judged-decided = record {
       zeros = zeros-left z;
-      says = λ P lp t. (
-        strong-marks P lp t,
-        closure-rejects (place .lawful) (place .reached) hb hs lp (strong-marks P lp t) (λ h. rw (look-closure P lp t, a) at h),
-      );
+      says = λ P lp t. (strong-marks P lp t, (closure-told P lp t accepted refl, settles));
     }

@@ -8,7 +8,7 @@ use lib.Dec.{ltb}
 use lib.ListN.{getD}
 use Rattle.theory.specs.Rules.{Lawful}
 use Rattle.theory.specs.Pairs.{LeastPower}
-use Rattle.theory.proofs.IdempotentPowers.{least-power-is}
+use Rattle.theory.proofs.IdempotentPowers.{least-power-is, least-power-idempotent}
 use Rattle.theory.proofs.Strength.{settled-start, settled-cycle}
 use Rattle.rule_table.specs.Table.{Table}
 use Rattle.formats.specs.Table.{productAt, morphismAt}
@@ -19,7 +19,7 @@ use Rattle.scratch.specs.Map.{pairsFrom}
 module _ (bytes : List ℕ) (n k z : ℕ) {e exponent : ℕ} (law : Lawful (morphismAt bytes n k)) (hz : z < n) (found : LeastPower (morphismAt bytes n k) z e exponent) where
   -- the pair is within the table of marks
   pub pair-below : {before s : ℕ} → Table bytes n k → before < n → s ≡ productAt bytes n before e → s * 64 + e < 4096
-  pair-below table hb es = omega (arith, table .small, found .idempotent .inside, product-below table hb (found .idempotent .inside) es)
+  pair-below table hb es = omega (arith, table .small, least-power-idempotent found .inside, product-below table hb (least-power-idempotent found .inside) es)
 
   -- the byte that is read is that of the settled pair
   pub settled-byte : {s : ℕ} (before : ℕ) (scratch : List ℕ) → s ≡ productAt bytes n before e

@@ -7,16 +7,15 @@ use Rattle.answer.specs.declared.Refusal.the-variants.{NotStrong}
 use Rattle.answer.specs.Checks.{refused}
 use Rattle.theory.specs.Rules.{Morphism, Pairs}
 use Rattle.theory.specs.Acceptance.{Strong}
-use Rattle.theory.specs.Pairs.{LinkedOnly}
+use Rattle.theory.specs.Pairs.{LinkedOnly, LeastExponent}
 use Rattle.mark_search.specs.Search.{MarkingAt}
 use Rattle.promises.specs.declared.MonitorVerdict.{MonitorVerdict}
-use Rattle.promises.specs.declared.MonitorVerdict.the-variants.{Accepted, NotAccepted, Refused}
-use Rattle.theory.specs.Smallest.{LassosAccepted, LassosNotAccepted}
+use Rattle.promises.specs.declared.MonitorVerdict.the-variants.{Decided, Refused}
+use Rattle.promises.specs.Verdict.{LassosDecided}
 
 -- a strong marking with the answer for the values (before, since), or one that is not strong and 12
 abbrev pub JudgedBy : Morphism → Pairs → ℕ → ℕ → MonitorVerdict → Type 0
-JudgedBy m P before since Accepted = Strong m P × LassosAccepted m P before since
-JudgedBy m P before since NotAccepted = Strong m P × LassosNotAccepted m P before since
+JudgedBy m P before since (Decided accepted turns) = Strong m P × (LassosDecided m P before since accepted × LeastExponent m since turns)
 JudgedBy m P before since (Refused refusal input place) = (Strong m P → ⊥) × (refused refusal input place ≡ refused NotStrong 1 0)
 
 -- what the marks at the front of scratch say, and zeros are left

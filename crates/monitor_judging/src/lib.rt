@@ -10,6 +10,7 @@ ghost use mathlib.Core.Path.{_≡_};
 ghost use Prim.Native.Nat.{_≤_, _<_};
 ghost use lib.ListN.{length};
 ghost use Rattle.theory.specs.Rules.{Lawful};
+ghost use Rattle.theory.specs.Pairs.{LeastExponent};
 ghost use Rattle.theory.proofs.Strength.{settled-start, settled-cycle};
 ghost use Rattle.rule_table.specs.Table.{Table};
 ghost use Rattle.formats.specs.Table.{morphismAt};
@@ -18,8 +19,14 @@ ghost use Rattle.mark_strong.specs.Deciding.{DecideNeeds};
 ghost use Rattle.monitor_judging.specs.Judges.{Judges};
 ghost use Rattle.formats.specs.RuleChecks.{scratchSize};
 
-// Whether the table of marks from 4096 has the pair (before·f, f), f the idempotent power of since: the values of the same endless
-// words written with more turns in their start and their cycle.
+// Whether the lassos with two values are accepted, and the turns that settle the cycle's.
+pub struct Looked {
+    pub accepted: bool,
+    pub turns: usize,
+}
+
+// Whether the second table of marks has the pair (before·f, f), f the idempotent power of since: the values of the same endless
+// words written with more turns in their start and their cycle. The exponent of f is the number of turns.
 pub fn accepted_values(
     rule: &[u8],
     n: usize,
@@ -27,17 +34,22 @@ pub fn accepted_values(
     scratch: &[u8],
     before: usize,
     since: usize,
-) -> bool
+) -> Looked
     requires { ⌜ Table (now rule) n k ⌝ }
     requires { ⌜ Lawful (morphismAt (now rule) n k) ⌝ }
     requires { ⌜ (before < n) × (since < n) ⌝ }
     requires { ⌜ scratchSize ≤ length (now scratch) ⌝ }
-    ensures { λ r. ⌜ r ≡ pairsFrom (now (scratch .entry)) secondBase (settled-start (morphismAt (now (rule .entry)) n k) before since) (settled-cycle (morphismAt (now (rule .entry)) n k) since) ⌝ }
+    ensures acceptance { λ r. ⌜ r .accepted ≡ pairsFrom (now (scratch .entry)) secondBase (settled-start (morphismAt (now (rule .entry)) n k) before since) (settled-cycle (morphismAt (now (rule .entry)) n k) since) ⌝ }
+    ensures turns { λ r. ⌜ LeastExponent (morphismAt (now (rule .entry)) n k) since (r .turns) ⌝ }
 {
     let power = idempotent_power(rule, n, k, since);
     let f = power.element;
     let s = product(rule, n, before, f);
-    0 < scratch[SECOND_BASE + (s * 64 + f)]
+    let accepted = 0 < scratch[SECOND_BASE + (s * 64 + f)];
+    Looked {
+        accepted,
+        turns: power.exponent,
+    }
 }
 
 // Judges two elements by the marks in scratch: the marks must be strong, and then their closure decides. Scratch ends as zeros.
@@ -55,7 +67,7 @@ pub fn judge(
     ensures { λ r. ⌜ Judges (morphismAt (now (rule .entry)) n k) before since (now (scratch .entry)) (now (scratch .exit)) r ⌝ }
 {
     let strong = decide(rule, n, k, scratch);
-    let accepted = accepted_values(rule, n, k, scratch, before, since);
+    let looked = accepted_values(rule, n, k, scratch, before, since);
     zero(scratch);
     if !strong {
         return MonitorVerdict::Refused {
@@ -64,8 +76,8 @@ pub fn judge(
             place: 0,
         };
     }
-    if accepted {
-        return MonitorVerdict::Accepted;
+    MonitorVerdict::Decided {
+        accepted: looked.accepted,
+        turns: looked.turns,
     }
-    MonitorVerdict::NotAccepted
 }

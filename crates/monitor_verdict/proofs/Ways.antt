@@ -21,7 +21,7 @@ use Rattle.mark_strong.proofs.Calling.{checked-linked, marks-stand}
 use Rattle.promises.specs.declared.Monitor.{Monitor}
 use Rattle.promises.specs.Monitor.{ValueOutOfRange}
 use Rattle.promises.specs.declared.MonitorVerdict.{MonitorVerdict}
-use Rattle.promises.specs.declared.MonitorVerdict.the-variants.{Accepted, NotAccepted, Refused}
+use Rattle.promises.specs.declared.MonitorVerdict.the-variants.{Decided, Refused}
 use Rattle.promises.specs.Verdict.{verdictChecks, VerdictPromise}
 use Rattle.monitor_judging.specs.Judges.{JudgedBy, Judges}
 use Rattle.monitor_verdict.specs.Judging.{valueChecks, BothElements}
@@ -70,12 +70,7 @@ module _ (bytes : List ℕ) (f : Monitor) (entry : List ℕ) where
 
       says : {exit : List ℕ} (answer : MonitorVerdict) → exit ≡ afterCall entry → JudgedBy (morphismOf bytes) (pairsOf bytes) (f .before) (f .since) answer
           → VerdictPromise bytes f entry exit answer
-      says Accepted z k = record {
-        refusal = after-values (first-passes (record { nowhere = λ place t. t .weak (k .0) }) none-left);
-        answered = k .1;
-        scratch = z;
-      }
-      says NotAccepted z k = record {
+      says (Decided accepted turns) z k = record {
         refusal = after-values (first-passes (record { nowhere = λ place t. t .weak (k .0) }) none-left);
         answered = k .1;
         scratch = z;

@@ -1,5 +1,6 @@
 -- What a number holds tells the answer: two answers that hold the same are one. Assumes nothing.
 use Prim.Native.Nat.{ℕ}
+use mathlib.Core.Bool.{true, false}
 use mathlib.Core.Path.{_≡_, refl, sym, ap, _∙_}
 use Rattle.answer.specs.Checks.{numbered}
 use Rattle.answer.proofs.Verdicts.{same-refusal}
@@ -12,9 +13,9 @@ use Rattle.promises.specs.declared.Inclusion.the-variants.{Included, NotInclude
 use Rattle.promises.specs.declared.Complemented.{Complemented}
 use Rattle.promises.specs.declared.Complemented.the-variants.{Rule as Complement-rule, Refused as Not-complemented}
 use Rattle.promises.specs.declared.MonitorVerdict.{MonitorVerdict}
-use Rattle.promises.specs.declared.MonitorVerdict.the-variants.{Accepted as Judged-accepted, NotAccepted as Judged-not-accepted, Refused as Not-judged}
+use Rattle.promises.specs.declared.MonitorVerdict.the-variants.{Decided as Judged, Refused as Not-judged}
 use Rattle.promises.specs.declared.Membership.{Membership}
-use Rattle.promises.specs.declared.Membership.the-variants.{Accepted, NotAccepted, Refused as Not-a-member}
+use Rattle.promises.specs.declared.Membership.the-variants.{Decided, Refused as Not-a-member}
 use Rattle.promises.specs.declared.Monitor.{Monitor}
 use Rattle.promises.specs.declared.Moved.{Moved}
 use Rattle.promises.specs.declared.Moved.the-variants.{To, Refused as Not-moved}
@@ -47,14 +48,14 @@ strength-told (Not-decided r i p) Weak e = cc
 strength-told (Not-decided r i p) (Not-decided r′ i′ p′) e = same-refusal Not-decided r r′ i i′ p p′ (verdict-of e)
 
 pub membership-told : (x y : Membership) → membershipContents x ≡ membershipContents y → x ≡ y
-membership-told Accepted Accepted e = refl
-membership-told Accepted NotAccepted e = cc
-membership-told Accepted (Not-a-member r′ i′ p′) e = cc
-membership-told NotAccepted Accepted e = cc
-membership-told NotAccepted NotAccepted e = refl
-membership-told NotAccepted (Not-a-member r′ i′ p′) e = cc
-membership-told (Not-a-member r i p) Accepted e = cc
-membership-told (Not-a-member r i p) NotAccepted e = cc
+membership-told (Decided true t) (Decided true t′) e = cc
+membership-told (Decided true t) (Decided false t′) e = cc
+membership-told (Decided false t) (Decided true t′) e = cc
+membership-told (Decided false t) (Decided false t′) e = cc
+membership-told (Decided true t) (Not-a-member r′ i′ p′) e = cc
+membership-told (Decided false t) (Not-a-member r′ i′ p′) e = cc
+membership-told (Not-a-member r i p) (Decided true t′) e = cc
+membership-told (Not-a-member r i p) (Decided false t′) e = cc
 membership-told (Not-a-member r i p) (Not-a-member r′ i′ p′) e = same-refusal Not-a-member r r′ i i′ p p′ (verdict-of e)
 
 pub complemented-told : (x y : Complemented) → complementedContents x ≡ complementedContents y → x ≡ y
@@ -87,14 +88,14 @@ inclusion-told (Not-compared r i p) (NotIncluded a′ b′) e = cc
 inclusion-told (Not-compared r i p) (Not-compared r′ i′ p′) e = same-refusal Not-compared r r′ i i′ p p′ (verdict-of e)
 
 pub judged-told : (x y : MonitorVerdict) → monitorVerdictContents x ≡ monitorVerdictContents y → x ≡ y
-judged-told Judged-accepted Judged-accepted e = refl
-judged-told Judged-accepted Judged-not-accepted e = cc
-judged-told Judged-accepted (Not-judged r′ i′ p′) e = cc
-judged-told Judged-not-accepted Judged-accepted e = cc
-judged-told Judged-not-accepted Judged-not-accepted e = refl
-judged-told Judged-not-accepted (Not-judged r′ i′ p′) e = cc
-judged-told (Not-judged r i p) Judged-accepted e = cc
-judged-told (Not-judged r i p) Judged-not-accepted e = cc
+judged-told (Judged true t) (Judged true t′) e = cc
+judged-told (Judged true t) (Judged false t′) e = cc
+judged-told (Judged false t) (Judged true t′) e = cc
+judged-told (Judged false t) (Judged false t′) e = cc
+judged-told (Judged true t) (Not-judged r′ i′ p′) e = cc
+judged-told (Judged false t) (Not-judged r′ i′ p′) e = cc
+judged-told (Not-judged r i p) (Judged true t′) e = cc
+judged-told (Not-judged r i p) (Judged false t′) e = cc
 judged-told (Not-judged r i p) (Not-judged r′ i′ p′) e = same-refusal Not-judged r r′ i i′ p p′ (verdict-of e)
 
 monitor-told : (f g : Monitor) → monitorContents f ≡ monitorContents g → f ≡ g

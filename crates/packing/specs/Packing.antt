@@ -7,6 +7,7 @@ use Prim.Native.Nat.{ℕ, _+_, _*_, _/_, _%_}
 use mathlib.Core.Bool.{cond}
 use lib.Dec.{eqb}
 use Rattle.answer.specs.Refusals.{numberOf}
+use Rattle.formats.specs.RuleFile.{oneIf}
 use Rattle.promises.specs.declared.Translated.{Translated}
 use Rattle.promises.specs.declared.Translated.the-variants.{Rule as Automaton-rule, Refused as Not-translated}
 use Rattle.promises.specs.declared.Listed.{Listed}
@@ -16,7 +17,7 @@ use Rattle.promises.specs.declared.Complemented.the-variants.{Rule as Complemen
 use Rattle.promises.specs.declared.Inclusion.{Inclusion}
 use Rattle.promises.specs.declared.Inclusion.the-variants.{Included, NotIncluded, Refused as Not-compared}
 use Rattle.promises.specs.declared.Membership.{Membership}
-use Rattle.promises.specs.declared.Membership.the-variants.{Accepted, NotAccepted, Refused as Not-a-member}
+use Rattle.promises.specs.declared.Membership.the-variants.{Decided, Refused as Not-a-member}
 use Rattle.promises.specs.declared.Monitor.{Monitor}
 use Rattle.promises.specs.declared.Moved.{Moved}
 use Rattle.promises.specs.declared.Moved.the-variants.{To, Refused as Not-moved}
@@ -25,7 +26,7 @@ use Rattle.promises.specs.declared.Reduced.the-variants.{Rule as Reduced-rule, 
 use Rattle.promises.specs.declared.Strength.{Strength}
 use Rattle.promises.specs.declared.Strength.the-variants.{Strong, Weak, Refused as Not-decided}
 use Rattle.promises.specs.declared.MonitorVerdict.{MonitorVerdict}
-use Rattle.promises.specs.declared.MonitorVerdict.the-variants.{Accepted as Judged-accepted, NotAccepted as Judged-not-accepted, Refused as Not-judged}
+use Rattle.promises.specs.declared.MonitorVerdict.the-variants.{Decided as Judged, Refused as Not-judged}
 
 -- a refusal: its number, its input, its place
 unfoldable pub packRefusal : ℕ → ℕ → ℕ → ℕ
@@ -67,10 +68,9 @@ strengthContents (Not-decided refusal input place) = refusal-at (numberOf refusa
 abbrev pub packStrength : Strength → ℕ
 packStrength answer = pack (strengthContents answer)
 
--- 1 where the lasso is accepted
+-- 1 where the lasso is accepted, and the turns that settle its cycle
 abbrev pub membershipContents : Membership → Contents
-membershipContents Accepted = fields 1 0 0
-membershipContents NotAccepted = fields 0 0 0
+membershipContents (Decided accepted turns) = fields (oneIf accepted) turns 0
 membershipContents (Not-a-member refusal input place) = refusal-at (numberOf refusal) input place
 
 abbrev pub packMembership : Membership → ℕ
@@ -123,10 +123,9 @@ movedContents (Not-moved m refusal input place) = refusal-at (numberOf refusal) 
 abbrev pub packMoved : Moved → ℕ
 packMoved answer = pack (movedContents answer)
 
--- 1 where the lassos with the monitor's values are accepted
+-- 1 where the lassos with the monitor's values are accepted, and the turns that settle their cycles
 abbrev pub monitorVerdictContents : MonitorVerdict → Contents
-monitorVerdictContents Judged-accepted = fields 1 0 0
-monitorVerdictContents Judged-not-accepted = fields 0 0 0
+monitorVerdictContents (Judged accepted turns) = fields (oneIf accepted) turns 0
 monitorVerdictContents (Not-judged refusal input place) = refusal-at (numberOf refusal) input place
 
 abbrev pub packMonitorVerdict : MonitorVerdict → ℕ

@@ -3,12 +3,14 @@ use Prim.Native.Nat.{ℕ}
 use mathlib.Core.Path.{_≡_}
 use mathlib.Core.List.{List, _++_}
 use Rattle.answer.specs.Checks.{Check, Verdict, passed, refused, FirstFailure}
+use Rattle.finite.specs.Tells.{Tells}
 use Rattle.theory.specs.Acceptance.{Accepts}
+use Rattle.theory.specs.Pairs.{TurnsOf}
 use Rattle.formats.specs.RuleFile.{lettersOf, morphismOf, pairsOf}
 use Rattle.formats.specs.Calls.{checkedChecks, afterCall}
 use Rattle.formats.specs.WordChecks.{lassoChecks}
 use Rattle.promises.specs.declared.Membership.{Membership}
-use Rattle.promises.specs.declared.Membership.the-variants.{Accepted, NotAccepted, Refused}
+use Rattle.promises.specs.declared.Membership.the-variants.{Decided, Refused}
 
 -- the rule's checks, then those of u and v
 abbrev pub memberChecks : List ℕ → List ℕ → List ℕ → List ℕ → List Check
@@ -16,14 +18,14 @@ memberChecks bytes u v scratch = checkedChecks 1 bytes scratch ++ lassoChecks (l
 
 -- document 01's number, input and place of an answer
 abbrev pub memberVerdict : Membership → Verdict
-memberVerdict Accepted = passed
-memberVerdict NotAccepted = passed
+memberVerdict (Decided accepted turns) = passed
 memberVerdict (Refused refusal input place) = refused refusal input place
 
--- yes exactly if the rule accepts the lasso, no exactly if it does not
+-- yes exactly if the rule accepts the lasso, no exactly if it does not; and "how many turns of a cycle together have a value that repeating
+-- no longer changes", for v, "whether or not the lasso is accepted, weak rules included" (document 02, Job 6)
 abbrev pub MemberAnswer : List ℕ → List ℕ → List ℕ → Membership → Type 0
-MemberAnswer bytes u v Accepted = Accepts (morphismOf bytes) (pairsOf bytes) u v
-MemberAnswer bytes u v NotAccepted = Accepts (morphismOf bytes) (pairsOf bytes) u v → ⊥
+MemberAnswer bytes u v (Decided accepted turns) =
+    Tells (Accepts (morphismOf bytes) (pairsOf bytes) u v) accepted × TurnsOf (morphismOf bytes) v turns
 MemberAnswer bytes u v (Refused refusal input place) = Unit {0}
 
 pub record MemberPromise (bytes u v entry exit : List ℕ) (answer : Membership) : Type 0 where

@@ -1,8 +1,11 @@
 -- What `verdict` promises: whether the lassos with the values of a monitor are accepted. Document 01, "Follower". Assumes nothing.
 use Prim.Native.Nat.{ℕ}
 use mathlib.Core.Path.{_≡_}
+use mathlib.Core.Bool.{Bool, true, false}
 use mathlib.Core.List.{List, [], _∷_, _++_}
 use mathlib.Core.Logic.{_⊎_}
+use Rattle.theory.specs.Rules.{Morphism, Pairs}
+use Rattle.theory.specs.Pairs.{LeastExponent}
 use Rattle.theory.specs.Smallest.{LassosAccepted, LassosNotAccepted}
 use Rattle.answer.specs.declared.Refusal.the-variants.{WordLength}
 use Rattle.answer.specs.Checks.{Check, Verdict, passed, refused, FirstFailure}
@@ -12,7 +15,7 @@ use Rattle.promises.specs.declared.Monitor.{Monitor}
 use Rattle.promises.specs.Monitor.{noValue, monitorChecks}
 use Rattle.promises.specs.Weak.{weakCheck}
 use Rattle.promises.specs.declared.MonitorVerdict.{MonitorVerdict}
-use Rattle.promises.specs.declared.MonitorVerdict.the-variants.{Accepted, NotAccepted, Refused}
+use Rattle.promises.specs.declared.MonitorVerdict.the-variants.{Decided, Refused}
 
 -- 11 "a verdict is wanted with before or since none"; place 0
 pub record NoneAt (f : Monitor) (place : ℕ) : Type 0 where
@@ -28,14 +31,19 @@ verdictChecks bytes f scratch = monitorChecks bytes f scratch ++ noneCheck f ∷
 
 -- document 01's number, input and place of an answer
 abbrev pub monitorVerdictRefusal : MonitorVerdict → Verdict
-monitorVerdictRefusal Accepted = passed
-monitorVerdictRefusal NotAccepted = passed
+monitorVerdictRefusal (Decided accepted turns) = passed
 monitorVerdictRefusal (Refused refusal input place) = refused refusal input place
 
--- "that of the lasso whose start has value before and whose cycle has value since"
+-- the lassos with two values are accepted, or they are not
+abbrev pub LassosDecided : Morphism → Pairs → ℕ → ℕ → Bool → Type 0
+LassosDecided m P before since true = LassosAccepted m P before since
+LassosDecided m P before since false = LassosNotAccepted m P before since
+
+-- "that of the lasso whose start has value before and whose cycle has value since"; and how many turns settle the value of since, accepted or
+-- not (document 02, Job 6)
 abbrev pub VerdictAnswer : List ℕ → Monitor → MonitorVerdict → Type 0
-VerdictAnswer bytes f Accepted = LassosAccepted (morphismOf bytes) (pairsOf bytes) (f .before) (f .since)
-VerdictAnswer bytes f NotAccepted = LassosNotAccepted (morphismOf bytes) (pairsOf bytes) (f .before) (f .since)
+VerdictAnswer bytes f (Decided accepted turns) =
+    LassosDecided (morphismOf bytes) (pairsOf bytes) (f .before) (f .since) accepted × LeastExponent (morphismOf bytes) (f .since) turns
 VerdictAnswer bytes f (Refused refusal input place) = Unit {0}
 
 pub record VerdictPromise (bytes : List ℕ) (f : Monitor) (entry exit : List ℕ) (answer : MonitorVerdict) : Type 0 where

@@ -87,9 +87,12 @@ pub enum Translated {
     },
 }
 
+// Whether the lasso is accepted, and how many turns of v together have a value that repeating no longer changes.
 pub enum Membership {
-    Accepted,
-    NotAccepted,
+    Decided {
+        accepted: bool,
+        turns: usize,
+    },
     Refused {
         refusal: Refusal,
         input: usize,
@@ -124,9 +127,12 @@ pub enum InPlaceAnswer {
     },
 }
 
+// Whether the lassos with a monitor's values are accepted, and the same number of turns for the value of since.
 pub enum MonitorVerdict {
-    Accepted,
-    NotAccepted,
+    Decided {
+        accepted: bool,
+        turns: usize,
+    },
     Refused {
         refusal: Refusal,
         input: usize,

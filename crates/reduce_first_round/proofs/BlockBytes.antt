@@ -12,7 +12,8 @@ use lib.Seq.{getD-set-same, getD-set-other}
 use Rattle.finite.proofs.Numbers.{Compared, lesser, level, greater, compared}
 use Rattle.minimality.proofs.Blocks.{tabFrom, length-tab, getD-tab, IsBlocks, equal-related, related-equal}
 use Rattle.reduce_first_round.specs.Map.{BlocksAt}
-use Rattle.reduce_first_round.specs.Steps.{Tells, LeastRelated, BlocksWritten}
+use Rattle.finite.specs.Tells.{Tells}
+use Rattle.reduce_first_round.specs.Steps.{LeastRelated, BlocksWritten}
 use Rattle.scratch.proofs.Unchanged.{unchanged-none, unchanged-both, unchanged-set}
 
 -- no element below t is related to s

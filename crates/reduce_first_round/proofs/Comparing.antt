@@ -1,4 +1,4 @@
--- An answer that tells whether a fact holds, and the test of round 0: two elements compared by their outcomes with every
+-- The test of round 0: two elements compared by their outcomes with every
 -- element. Assumes nothing.
 use Prim.Native.Nat.{ℕ, _+_, _≤_, _<_}
 use mathlib.Core.Path.{_≡_, refl, sym, _∙_}
@@ -8,13 +8,8 @@ use native.Mathlib.Omega.{arith}
 use native.Mathlib.Decide.{ℕ-discrete}
 use Rattle.theory.specs.Rules.{Morphism}
 use Rattle.minimality.specs.Rounds.{SameOutcomes}
-use Rattle.reduce_first_round.specs.Steps.{Tells}
-
-pub told-yes : {P : Type 0} → P → Tells P true
-told-yes p = record { holds = λ e. p; fails = λ e. absurd (let z : _≡_ {A = ℕ} 0 1 = cc in omega arith) }
-
-pub told-no : {P : Type 0} → (P → ⊥) → Tells P false
-told-no f = record { holds = λ e. absurd (let z : _≡_ {A = ℕ} 0 1 = cc in omega arith); fails = λ e. f }
+use Rattle.finite.specs.Tells.{Tells}
+use Rattle.finite.proofs.Tells.{told-yes, told-no}
 
 -- a negated answer
 pub not-true : (b : Bool) → not b ≡ true → b ≡ false

@@ -14,8 +14,9 @@ use Rattle.rule_table.specs.Table.{Table}
 use Rattle.formats.specs.Table.{imageAt}
 use Rattle.minimality.specs.Rounds.{StillTogether}
 use Rattle.reduce_first_round.specs.Map.{InOneBlock}
-use Rattle.reduce_first_round.specs.Steps.{Tells, ProductsTogether}
-use Rattle.reduce_first_round.proofs.Comparing.{told-yes, told-no}
+use Rattle.finite.specs.Tells.{Tells}
+use Rattle.finite.proofs.Tells.{told-yes, told-no}
+use Rattle.reduce_first_round.specs.Steps.{ProductsTogether}
 
 -- the element of a letter
 pub letter-below : {bytes : List ℕ} {n k a h : ℕ} → Table bytes n k → a < k → h ≡ imageAt bytes n a → h < n

@@ -9,11 +9,6 @@ use Rattle.reduce_first_round.specs.Map.{outcomeOf, outcomeAt, BlocksAt}
 use Rattle.scratch.specs.Bytes.{UnchangedOutside}
 use Rattle.scratch.specs.Map.{blocksBase, nextBlocksBase, outcomesBase}
 
--- an answer tells whether a fact holds
-pub record Tells (P : Type 0) (answer : Bool) : Type 0 where
-  pub holds : answer ≡ true → P
-  pub fails : answer ≡ false → P → ⊥
-
 -- r is the least element that is related to s
 pub record LeastRelated (R : ℕ → ℕ → Type 0) (s r : ℕ) : Type 0 where
   pub at-most : r ≤ s

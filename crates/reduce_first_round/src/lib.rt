@@ -8,6 +8,7 @@ use scratch::SECOND_BASE;
 ghost use mathlib.Core.Path.{_≡_};
 ghost use Prim.Native.Nat.{_≤_, _<_};
 ghost use lib.ListN.{length};
+ghost use Rattle.finite.specs.Tells.{Tells};
 ghost use Rattle.finite.proofs.Search.{bit};
 ghost use Rattle.theory.specs.Rules.{Lawful};
 ghost use Rattle.rule_table.specs.Table.{Table};
@@ -15,7 +16,7 @@ ghost use Rattle.formats.specs.Table.{productAt, morphismAt};
 ghost use Rattle.scratch.specs.Map.{pairsFrom, blocksBase, secondBase};
 ghost use Rattle.minimality.specs.Rounds.{SameOutcomes, Together};
 ghost use Rattle.reduce_first_round.specs.Map.{outcomeAt};
-ghost use Rattle.reduce_first_round.specs.Steps.{Tells, LeastRelated, ColumnWritten, OutcomesWritten, BlocksWritten};
+ghost use Rattle.reduce_first_round.specs.Steps.{LeastRelated, ColumnWritten, OutcomesWritten, BlocksWritten};
 ghost use Rattle.formats.specs.RuleChecks.{scratchSize};
 
 // Whether the table of marks has the pair (s·f, f), as a number.

@@ -1,7 +1,7 @@
 -- How far the search for an idempotent power has come: the invariant of its loop, and what it gives where the search ends.
 -- Assumes nothing.
 use Prim.Native.Nat.{ℕ, _+_, _<_}
-use mathlib.Core.Path.{_≡_, refl, _∙_}
+use mathlib.Core.Path.{_≡_, refl, subst, _∙_}
 use mathlib.Core.List.{List}
 use native.Mathlib.Omega.{arith}
 use borrow.Author.Count.{below-more}
@@ -48,10 +48,12 @@ module _ {bytes : List ℕ} {n k x : ℕ} where
   pub tried-found : {p r i : ℕ} → Tried bytes n k x p i → r ≡ productAt bytes n p p → r ≡ p
       → LeastPower (morphismAt bytes n k) x p (i + 1)
   tried-found {p} {r} {i} t s e = record {
-    index = i;
-    below = tried-below t;
-    is-exponent = refl;
+    exponent-is = record {
+      index = i;
+      below = tried-below t;
+      is-exponent = refl;
+      idempotent = subst (Idempotent (morphismAt bytes n k)) (t .is-power) (record { inside = t .inside; square = cc });
+      least = t .none;
+    };
     is-power = t .is-power;
-    idempotent = record { inside = t .inside; square = cc };
-    least = t .none;
   }

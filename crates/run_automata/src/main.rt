@@ -46,8 +46,7 @@ fn reduced_line(answer: Reduced, out: &[u8]) {
 
 fn member_line(answer: Membership) {
     match answer {
-        Membership::Accepted => example_text::word(b"accepted\n"),
-        Membership::NotAccepted => example_text::word(b"not accepted\n"),
+        Membership::Decided { accepted, turns } => example_text::decided_line(accepted, turns),
         Membership::Refused {
             refusal,
             input,

@@ -7,8 +7,7 @@ use rules::SCRATCH_SIZE;
 
 fn answer_line(answer: Membership) {
     match answer {
-        Membership::Accepted => example_text::word(b"accepted\n"),
-        Membership::NotAccepted => example_text::word(b"not accepted\n"),
+        Membership::Decided { accepted, turns } => example_text::decided_line(accepted, turns),
         Membership::Refused {
             refusal,
             input,
@@ -108,6 +107,16 @@ fn main() {
         M6 Z, u 0, v 1: lasso: 2 0 1 1 0 2 1 0 1 0 0 0: 0: 1\n\
         M6 Z, u 0, v 0 0: lasso: 2 0 1 1 0 2 1 0 1 0 0 0: 0: 0 0\n\
         M7 Z with letter 0 only, u 0, v 0: lasso: 2 0 1 1 0 1 1 1 0 0 0: 0: 0\n\
+        Z, u 0, v 0: lasso: 2 0 1 1 0 2 1 0 1 0 0 0: 0: 0\n\
+        Z without marks, u 0, v 0: lasso: 2 0 1 1 0 2 1 0 0 0: 0: 0\n\
+        # The remainders by 4 under addition, with letters of image 1 and 2 and the mark (0, 0). A weak rule; both v have the value 2.\n\
+        remainders by 4, u 0, v 1: lasso: 4 0 1 2 3 1 2 3 0 2 3 0 1 3 0 1 2 2 1 2 1 0 0 0: 0: 1\n\
+        remainders by 4, u 0, v 0 0: lasso: 4 0 1 2 3 1 2 3 0 2 3 0 1 3 0 1 2 2 1 2 1 0 0 0: 0: 0 0\n\
+        # The remainders by 64 under addition, with one letter of image 1 and the mark (0, 0), then without it.\n\
+        cyclic group of 64, u 0, v 0: lasso: 64 sums 1 1 1 3*0: 0: 0\n\
+        cyclic group of 64, u 63 letters, v 0: lasso: 64 sums 1 1 1 3*0: 63*0: 0\n\
+        cyclic group of 64, u 0, v 32 letters: lasso: 64 sums 1 1 1 3*0: 0: 32*0\n\
+        cyclic group of 64 without marks, u 0, v 0: lasso: 64 sums 1 1 0 0: 0: 0\n\
         a foreign letter in u: lasso: 2 0 0 0 1 2 0 1 1 0 0 0: 0 1 2: 0 2\n\
         a foreign letter in v: lasso: 2 0 0 0 1 2 0 1 1 0 0 0: 0 1: 0 2\n\
         no letter in u, and a foreign one in v: lasso: 2 0 0 0 1 2 0 1 1 0 0 0: : 2\n\

@@ -86,16 +86,12 @@ fn inclusion_line(answer: Inclusion, u: &[u8], v: &[u8]) {
 
 fn verdict_line(answer: MonitorVerdict) {
     match answer {
-        MonitorVerdict::Accepted => example_text::word(b" accepted\n"),
-        MonitorVerdict::NotAccepted => example_text::word(b" not accepted\n"),
+        MonitorVerdict::Decided { accepted, turns } => example_text::decided_line(accepted, turns),
         MonitorVerdict::Refused {
             refusal,
             input,
             place,
-        } => {
-            example_text::word(b" ");
-            refused(refusal, input, place);
-        }
+        } => refused(refusal, input, place),
     }
 }
 
@@ -122,6 +118,7 @@ fn inclusion(rule: &[u8], second: &[u8], scratch: &mut [u8]) {
 // The verdict on the lassos with two values.
 fn verdict(rule: &[u8], before: usize, since: usize, scratch: &mut [u8]) {
     example_text::two(b"before ", before, b" since ", since);
+    example_text::word(b" ");
     verdict_line(rules::verdict(rule, Monitor { before, since }, scratch));
 }
 
@@ -191,6 +188,9 @@ fn main() {
         W: verdict: 2 0 0 0 1 2 0 1 1 0 0 0: 0: 64\n\
         W: verdict: 2 0 0 0 1 2 0 1 1 0 0 0: 2: 0\n\
         Z: verdict: 2 0 1 1 0 2 1 0 1 0 0 0: 0: 0\n\
+        M7 Z with letter 0 only: verdict: 2 0 1 1 0 1 1 1 0 0 0: 0: 1\n\
+        M7 Z with letter 0 only: verdict: 2 0 1 1 0 1 1 1 0 0 0: 1: 0\n\
+        Z without marks: verdict: 2 0 1 1 0 2 1 0 0 0: 0: 1\n\
         # The remainders by 64 under addition, with one letter of image 1 and the mark (0, 0).\n\
         cyclic group of 64: list: 64 sums 1 1 1 3*0\n\
         cyclic group of 64: strength: 64 sums 1 1 1 3*0\n\
@@ -201,6 +201,8 @@ fn main() {
         cyclic group of 64, 16 letters: strength: 64 sums 16 16*1 1 3*0\n\
         cyclic group of 64, 16 letters: complement: 64 sums 16 16*1 1 3*0\n\
         cyclic group of 64, 16 letters: verdict: 64 sums 16 16*1 1 3*0: 5: 7\n\
+        cyclic group of 64, 16 letters: verdict: 64 sums 16 16*1 1 3*0: 7: 48\n\
+        cyclic group of 64 without marks: verdict: 64 sums 1 1 0 0: 0: 1\n\
         # Every letter with both remainders, and four of them again. The mark is that of the longer words with remainder 0.\n\
         words and remainders by 2: list: 64 words 16 0 1 2 3 4 5 6 7 8 9 10 11 0 1 2 3 1 0 62 62\n\
         words and remainders by 2: strength: 64 words 16 0 1 2 3 4 5 6 7 8 9 10 11 0 1 2 3 1 0 62 62\n\

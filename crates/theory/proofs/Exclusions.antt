@@ -1,15 +1,17 @@
 -- What the definitions of tables, levels, lassos, acceptance, pairs, counts and inclusion leave out: for each a case that it
 -- excludes, and for one that asks several things a case for each. Assumes nothing.
 use Prim.Native.Nat.{ℕ, zero, suc}
-use mathlib.Core.Path.{_≡_, refl}
+use mathlib.Core.Path.{_≡_, refl, sym, subst}
 use mathlib.Core.List.{List, [], _∷_}
 use native.Mathlib.Omega.{arith}
 use lib.Dec.{T}
 use Rattle.theory.specs.Words.{Over, over-cons, Lasso}
-use Rattle.theory.specs.Rules.{Morphism, Lawful, Pairs, level, marked, WordOf, AllReached}
+use Rattle.theory.specs.Rules.{Morphism, Lawful, Pairs, level, marked, WordOf, AllReached, join, value}
 use Rattle.theory.specs.Acceptance.{Accepts}
-use Rattle.theory.specs.Pairs.{Idempotent, HasIdempotentPower, Linked, LinkedOnly, Conjugate, LeastConjugate, Counted, counted-none, counted-one, counted-other, ClassCounts}
+use Rattle.theory.specs.Pairs.{Idempotent, power, HasIdempotentPower, LeastExponent, TurnsOf, Linked, LinkedOnly, Conjugate, LeastConjugate, Counted, counted-none, counted-one, counted-other, ClassCounts}
 use Rattle.theory.specs.Inclusion.{Included, Witness}
+use Rattle.theory.proofs.Values.{element-same}
+use Rattle.theory.proofs.IdempotentPowers.{one-turns}
 use Rattle.theory.proofs.ShortWords.{reached-intro}
 use Rattle.theory.proofs.TableTests.{conjugate-intro, least-intro, least-elim, counted-same}
 use Rattle.theory.proofs.Computing.{computing, lasso-elim}
@@ -138,3 +140,34 @@ no-idempotent-power p = none _ (p .idempotent)
     none zero i = omega (arith, i .square)
     none (suc zero) i = omega (arith, i .square)
     none (suc (suc e)) i = omega (arith, i .inside)
+
+-- in Z's table 1·1 is 0 and 0·0 is 0: the letter 0, of image 1, settles with two turns, and not with one; the letter 1, of image 0, with one,
+-- and not with two
+pub two-turns : TurnsOf Z (0 ∷ []) 2
+unfolding value join power
+two-turns = record {
+  cycle = 1;
+  cycle-value = refl;
+  turns-are = record {
+    index = 1;
+    below = omega arith;
+    is-exponent = refl;
+    idempotent = record { inside = omega arith; square = refl };
+    least = λ i h d. one-not i (omega arith) (d .square);
+  };
+}
+  where
+    one-not : (i : ℕ) → i ≡ 0 → Z .product (power Z 1 i) (power Z 1 i) ≡ power Z 1 i → ⊥
+    one-not i e s =
+        let q : _≡_ {A = ℕ} 0 1 = subst (λ (j : ℕ). Z .product (power Z 1 j) (power Z 1 j) ≡ power Z 1 j) e s in
+        omega arith
+
+pub not-one-turn : ¬ TurnsOf Z (0 ∷ []) 1
+not-one-turn t = omega (arith, one-turns t two-turns)
+
+pub not-two-turns : ¬ TurnsOf Z (1 ∷ []) 2
+unfolding value join power
+not-two-turns t =
+    let e : t .cycle ≡ 0 = element-same (sym (t .cycle-value)) in
+    let l : LeastExponent Z 0 2 = subst (λ (x : ℕ). LeastExponent Z x 2) e (t .turns-are) in
+    l .least 0 (omega (arith, l .is-exponent)) (record { inside = omega arith; square = refl })

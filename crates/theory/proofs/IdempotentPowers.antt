@@ -1,15 +1,17 @@
 -- Every element of a lawful table has an idempotent power with an exponent 1 to n, and the least such exponent is one.
 -- Assumes nothing.
 use Prim.Native.Nat.{ℕ, zero, suc, _+_, _≤_, _<_}
-use mathlib.Core.Path.{_≡_, refl, ap, subst, _∙_}
+use mathlib.Core.Path.{_≡_, refl, sym, ap, subst, _∙_}
+use mathlib.Core.List.{List}
 use mathlib.Core.Logic.{_⊎_, inl, inr}
 use native.Mathlib.Omega.{arith}
 use native.Mathlib.Numerals.{add-one}
-use Rattle.finite.proofs.Numbers.{le-or-lt}
+use Rattle.finite.proofs.Numbers.{le-or-lt, Compared, lesser, level, greater, compared}
 use Rattle.theory.specs.Rules.{Morphism, Lawful}
-use Rattle.theory.specs.Pairs.{Idempotent, power, HasIdempotentPower, LeastPower}
+use Rattle.theory.specs.Pairs.{Idempotent, power, HasIdempotentPower, LeastExponent, LeastPower, TurnsOf}
 use Rattle.theory.proofs.Powers.{times, times-inside, idempotent-power, settling, idempotent-of, settling-below, settling-least, idempotent-square, idempotent-inside, idempotent-is}
 use Rattle.theory.proofs.Conjugacy.{semigroup}
+use Rattle.theory.proofs.Values.{element-same}
 
 -- a power, written by factors as the theory of powers does
 pub power-times : (m : Morphism) (x i : ℕ) → power m x i ≡ times (m .product) x x i
@@ -62,14 +64,33 @@ module _ {m : Morphism} {x : ℕ} (law : Lawful m) (hx : x < m .size) where
   -- what a search found is the idempotent power, at its least exponent
   pub least-power-is : {e exponent : ℕ} → LeastPower m x e exponent → IsSettling m x e exponent
   least-power-is {e} {exponent} l = record {
-    is-power = l .is-power ∙ power-times m x (l .index) ∙ idempotent-is (semigroup law) hx (l .index) square;
-    is-exponent = go (le-or-lt (l .index) (settling (m .size) (m .product) x));
+    is-power = l .is-power ∙ power-times m x (l .exponent-is .index) ∙ idempotent-is (semigroup law) hx (l .exponent-is .index) square;
+    is-exponent = go (le-or-lt (l .exponent-is .index) (settling (m .size) (m .product) x));
   }
     where
-      square : m .product (times (m .product) x x (l .index)) (times (m .product) x x (l .index)) ≡ times (m .product) x x (l .index)
-      square = power-square m x (l .index) (subst (Idempotent m) (l .is-power) (l .idempotent))
+      square : m .product (times (m .product) x x (l .exponent-is .index)) (times (m .product) x x (l .exponent-is .index)) ≡ times (m .product) x x (l .exponent-is .index)
+      square = power-square m x (l .exponent-is .index) (l .exponent-is .idempotent)
 
-      go : (l .index ≤ settling (m .size) (m .product) x) ⊎ (settling (m .size) (m .product) x < l .index)
+      go : (l .exponent-is .index ≤ settling (m .size) (m .product) x) ⊎ (settling (m .size) (m .product) x < l .exponent-is .index)
           → exponent ≡ settling (m .size) (m .product) x + 1
-      go (inl h) = omega (arith, l .is-exponent, settling-least (semigroup law) hx (l .index) square)
-      go (inr h) = absurd (l .least (settling (m .size) (m .product) x) h settling-idempotent)
+      go (inl h) = omega (arith, l .exponent-is .is-exponent, settling-least (semigroup law) hx (l .exponent-is .index) square)
+      go (inr h) = absurd (l .exponent-is .least (settling (m .size) (m .product) x) h settling-idempotent)
+
+-- the power that was found is idempotent
+pub least-power-idempotent : {m : Morphism} {x e exponent : ℕ} → LeastPower m x e exponent → Idempotent m e
+least-power-idempotent {m} l = subst (Idempotent m) (sym (l .is-power)) (l .exponent-is .idempotent)
+
+-- there is one least exponent
+pub one-exponent : {m : Morphism} {x exponent exponent′ : ℕ} → LeastExponent m x exponent → LeastExponent m x exponent′ → exponent ≡ exponent′
+one-exponent {exponent = exponent} {exponent′} a b = go (compared (a .index) (b .index))
+  where
+    go : Compared (a .index) (b .index) → exponent ≡ exponent′
+    go (lesser h) = absurd (b .least (a .index) h (a .idempotent))
+    go (level e) = omega (arith, a .is-exponent, b .is-exponent)
+    go (greater h) = absurd (a .least (b .index) h (b .idempotent))
+
+-- and one number of turns
+pub one-turns : {m : Morphism} {v : List ℕ} {turns turns′ : ℕ} → TurnsOf m v turns → TurnsOf m v turns′ → turns ≡ turns′
+one-turns {m} {turns′ = turns′} a b =
+    let same : b .cycle ≡ a .cycle = element-same (sym (b .cycle-value) ∙ a .cycle-value) in
+    one-exponent (a .turns-are) (subst (λ (x : ℕ). LeastExponent m x turns′) same (b .turns-are))

@@ -1,8 +1,9 @@
 -- Linked pairs, conjugacy and its classes. Document 01, "What a rule means" and "Classes". Assumes nothing.
 use Prim.Native.Nat.{ℕ, zero, suc, _+_, _*_, _/_, _%_, _≤_, _<_}
 use mathlib.Core.Path.{_≡_}
+use mathlib.Core.List.{List}
 use lib.Dec.{T}
-use Rattle.theory.specs.Rules.{Morphism, Pairs}
+use Rattle.theory.specs.Rules.{Morphism, Pairs, element, value}
 
 -- "An element e is idempotent if e·e = e."
 pub record Idempotent (m : Morphism) (e : ℕ) : Type 0 where
@@ -20,14 +21,24 @@ pub record HasIdempotentPower (m : Morphism) (x : ℕ) : Type 0 where
   pub below : index < m .size
   pub idempotent : Idempotent m (power m x index)
 
--- e is the idempotent power of x with the least exponent; the exponent, 1 to n, is one above `index`
-pub record LeastPower (m : Morphism) (x e exponent : ℕ) : Type 0 where
+-- "the least exponent, 1 to n", with which a power of x is idempotent; it is one above `index`
+pub record LeastExponent (m : Morphism) (x exponent : ℕ) : Type 0 where
   pub index : ℕ
   pub below : index < m .size
   pub is-exponent : exponent ≡ index + 1
-  pub is-power : e ≡ power m x index
-  pub idempotent : Idempotent m e
+  pub idempotent : Idempotent m (power m x index)
   pub least : (i : ℕ) → i < index → Idempotent m (power m x i) → ⊥
+
+-- e is the power with that exponent
+pub record LeastPower (m : Morphism) (x e exponent : ℕ) : Type 0 where
+  pub exponent-is : LeastExponent m x exponent
+  pub is-power : e ≡ power m x (exponent-is .index)
+
+-- "how many turns of a cycle together have a value that repeating no longer changes": the least exponent for the value of v
+pub record TurnsOf (m : Morphism) (v : List ℕ) (turns : ℕ) : Type 0 where
+  pub cycle : ℕ
+  pub cycle-value : value m v ≡ element cycle
+  pub turns-are : LeastExponent m cycle turns
 
 -- "A pair (s, e) is linked if e is idempotent and s·e = s."
 pub record Linked (m : Morphism) (s e : ℕ) : Type 0 where

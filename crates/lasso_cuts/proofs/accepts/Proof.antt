@@ -21,7 +21,7 @@ ends-requires c κs =
     let d = c .before .before .before .before in
     let p = d .before .before .before .before .before .before .pre in (
       p .0,
-      (p .1 .0, (p .1 .1 .1 .0, omega (arith, p .1 .1 .1 .0 .short, p .1 .1 .1 .1, c .before .before .before .beginnings .ensures .1 .same-length))),
+      (p .1 .0, (p .1 .1 .1 .0, omega (arith, p .1 .1 .1 .0 .short, p .1 .1 .1 .1, c .before .before .before .beginnings .ensures .1 .1 .same-length))),
     )
 
 -- both tables stand after the two passes
@@ -37,7 +37,7 @@ tables : (c : tie.After-ends)
 tables c =
     let b = c .before .before .before .before in
     let p = b .before .before .before .before .before .before .before .pre in
-    both-tables (p .1 .1 .1 .0 .short) (b .beginnings .ensures .0) (b .beginnings .ensures .1) (c .ends .ensures .0) (c .ends .ensures .1)
+    both-tables (p .1 .1 .1 .0 .short) (b .beginnings .ensures .1 .0) (b .beginnings .ensures .1 .1) (c .ends .ensures .0) (c .ends .ensures .1)
 
 some-cut-requires : tie.Need-some-cut-requires
 some-cut-requires c κs =
@@ -63,7 +63,7 @@ returns c =
     let e = c .before .before .before .before in
     let w = e .before .before .before .before .before .before in
     let p = w .before .before .before .before .before .pre in
-    membership (p .1 .0) (p .0 .small) (p .1 .1 .0 .over) (p .1 .1 .1 .0 .over) (w .word-value .ensures) (tables e) (c .some-cut .ensures)
+    (membership (p .1 .0) (p .0 .small) (p .1 .1 .0 .over) (p .1 .1 .1 .0 .over) (w .word-value .ensures) (tables e) (c .some-cut .ensures), e .before .before .before .before .beginnings .ensures .0)
 
 pub accepts-spec : {M : Type 1} → statement M
 accepts-spec =

@@ -7,7 +7,7 @@ use lib.ListN.{length}
 use mir.Facts.{fits-8-64}
 use Rattle.rule_table.proofs.Facts.{table-place}
 use Rattle.lasso_turns.specs.Cuts.{KeptAround}
-use Rattle.lasso_cuts.proofs.Passes.{letter-place, letter-inside, begun-inside}
+use Rattle.lasso_cuts.proofs.Passes.{letter-place, letter-inside, begun-inside, begun-all}
 use Rattle.lasso_cuts.proofs.Tables.{BeginningsTo, beginnings-start, beginnings-next, beginnings-values, beginnings-others}
 use Rattle.lasso_cuts.proofs.beginnings.Statement.{statement}
 use Rattle.lasso_cuts.proofs.beginnings.Tie as tie
@@ -90,7 +90,7 @@ same-length : tie.Need-same-length Inv-loop μ-loop
 same-length c = others c .same-length
 
 returns : tie.Need-returns Inv-loop μ-loop
-returns c = (beginnings-values (c .before .loop .inv .0) (omega arith), others c)
+returns c = (begun-all (c .before .loop .inv .0 .begun) (omega arith), (beginnings-values (c .before .loop .inv .0) (omega arith), others c))
 
 pub beginnings-spec : {M : Type 1} → statement M
 beginnings-spec =

@@ -1,6 +1,6 @@
 -- `lasso_member::member` meets its contract: the rule's checks decide, then the words', and else the cuts of one turn. Assumes nothing.
 use Rattle.rule_check.proofs.Calls.{checked-rule, checked-refused}
-use Rattle.lasso_member.proofs.Ways.{words-good, words-refused, rule-refused, table, lawful, long, word-refused, start-word, cycle-word, says-yes, says-no}
+use Rattle.lasso_member.proofs.Ways.{words-good, words-refused, rule-refused, table, lawful, long, word-refused, start-word, cycle-word, cycle-inside, decided}
 use borrow.Author.Needs.{needs}
 use Rattle.lasso_member.proofs.member.Statement.{statement}
 use Rattle.lasso_member.proofs.member.Tie as tie
@@ -46,6 +46,13 @@ accepts-requires c κs =
     let g = (words-good _ _ _ (c .before .before .before .lasso-fault .result) (c .before .before .before .lasso-fault .ensures) (c .before .enum-told .given .1)) in
     (table _ (a .u .now) (a .v .now) _ p, (lawful _ (a .u .now) (a .v .now) _ p, (start-word _ _ _ _ p g, (cycle-word _ _ _ _ p g, long _ (a .u .now) (a .v .now) _ p))))
 
+idempotent-power-requires : tie.Need-idempotent-power-requires
+idempotent-power-requires c κs =
+    let a = c .before .before .before .before .before .before .before .before .before .before .before .before .before .before .before .before .before .before .args in
+    let p = checked-rule 1 _ _ _ (c .before .before .before .before .before .before .before .before .before .before .before .before .check .result) (c .before .before .before .before .before .before .before .before .before .before .before .before .check .ensures) (c .before .before .before .before .before .before .before .before .shape .given .1) in
+    let g = words-good _ _ _ (c .before .before .before .before .before .before .lasso-fault .result) (c .before .before .before .before .before .before .lasso-fault .ensures) (c .before .before .before .before .enum-told .given .1) in
+    (table _ (a .u .now) (a .v .now) _ p, (lawful _ (a .u .now) (a .v .now) _ p, cycle-inside _ _ _ _ p g (c .before .before .accepts .ensures .1)))
+
 zero-requires-2 : tie.Need-zero-requires-2
 zero-requires-2 c κs = search needs
 
@@ -54,16 +61,10 @@ same-length-3 c = search needs
 
 returns-3 : tie.Need-returns-3
 returns-3 c =
-    says-yes _ _ _ _ (checked-rule 1 _ _ _ (c .before .before .before .before .before .before .before .before .before .before .before .before .before .before .before .before .before .check .result) (c .before .before .before .before .before .before .before .before .before .before .before .before .before .before .before .before .before .check .ensures) (c .before .before .before .before .before .before .before .before .before .before .before .before .before .shape .given .1))
-    (words-good _ _ _ (c .before .before .before .before .before .before .before .before .before .before .before .lasso-fault .result) (c .before .before .before .before .before .before .before .before .before .before .before .lasso-fault .ensures) (c .before .before .before .before .before .before .before .before .before .enum-told .given .1)) (c .before .before .before .before .before .before .before .accepts .ensures) (c .before .before .before .before .before .before .before .accepts .last .1 .1 .1 .1 .1 .0) _ (c .before .before .before .before .before .before .before .accepts .kept .1 .1 .1 .1 .1 .0) (c .before .before .before .zero2 .ensures) (c .if1 .taken)
-
-same-length-4 : tie.Need-same-length-4
-same-length-4 c = search needs
-
-returns-4 : tie.Need-returns-4
-returns-4 c =
-    says-no _ _ _ _ (checked-rule 1 _ _ _ (c .before .before .before .before .before .before .before .before .before .before .before .before .before .before .before .before .before .check .result) (c .before .before .before .before .before .before .before .before .before .before .before .before .before .before .before .before .before .check .ensures) (c .before .before .before .before .before .before .before .before .before .before .before .before .before .shape .given .1))
-    (words-good _ _ _ (c .before .before .before .before .before .before .before .before .before .before .before .lasso-fault .result) (c .before .before .before .before .before .before .before .before .before .before .before .lasso-fault .ensures) (c .before .before .before .before .before .before .before .before .before .enum-told .given .1)) (c .before .before .before .before .before .before .before .accepts .ensures) (c .before .before .before .before .before .before .before .accepts .last .1 .1 .1 .1 .1 .0) _ (c .before .before .before .before .before .before .before .accepts .kept .1 .1 .1 .1 .1 .0) (c .before .before .before .zero2 .ensures) (c .if1 .left)
+    let p = checked-rule 1 _ _ _ (c .before .before .before .before .before .before .before .before .before .before .before .before .before .before .before .before .before .check .result) (c .before .before .before .before .before .before .before .before .before .before .before .before .before .before .before .before .before .check .ensures) (c .before .before .before .before .before .before .before .before .before .before .before .before .before .shape .given .1) in
+    let g = words-good _ _ _ (c .before .before .before .before .before .before .before .before .before .before .before .lasso-fault .result) (c .before .before .before .before .before .before .before .before .before .before .before .lasso-fault .ensures) (c .before .before .before .before .before .before .before .before .before .enum-told .given .1) in
+    let a = c .before .before .before .before .before .before .before .accepts in
+    decided _ _ _ _ p g (a .ensures .0) (a .ensures .1) (c .before .before .before .before .idempotent-power .ensures) (a .last .1 .1 .1 .1 .1 .0) _ (a .kept .1 .1 .1 .1 .1 .0) (c .before .before .zero2 .ensures)
 
 pub member-spec : {M : Type 1} → statement M
 member-spec =
@@ -81,8 +82,7 @@ member-spec =
     same-length-2
     returns-2
     accepts-requires
+    idempotent-power-requires
     zero-requires-2
     same-length-3
-    returns-3
-    same-length-4
-    returns-4)
+    returns-3)

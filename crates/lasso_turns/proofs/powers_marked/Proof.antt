@@ -3,6 +3,7 @@
 use Prim.Native.Nat.{_-_}
 use native.Mathlib.Omega.{arith}
 use borrow.Author.Tests.{lt-ltb, le-ltb}
+use Rattle.theory.proofs.IdempotentPowers.{least-power-idempotent}
 use Rattle.rule_table.proofs.Facts.{table-place}
 use Rattle.lasso_turns.specs.Cuts.{markedIn}
 use Rattle.lasso_turns.proofs.Turning.{Looking, exponent-small, turn-start, turn-next, turn-found, turn-none}
@@ -16,7 +17,7 @@ abbrev μ-loop : tie.MeasureT-loop
 μ-loop rule n k marks p r e exponent s₀ j₀ s j = exponent - j
 
 product-requires : tie.Need-product-requires Inv-loop μ-loop
-product-requires c κs = let p = c .before .before .pre in table-place (p .0) (p .1 .1 .1 .0 .0) (p .1 .1 .1 .1 .idempotent .inside)
+product-requires c κs = let p = c .before .before .pre in table-place (p .0) (p .1 .1 .1 .0 .0) (least-power-idempotent (p .1 .1 .1 .1) .inside)
 
 loop-holds : tie.Need-loop-holds Inv-loop μ-loop
 loop-holds c =

@@ -1,6 +1,7 @@
 -- `monitor_judging::accepted_values` meets its contract: one look in the table of marks, at the settled pair. Assumes nothing.
 use native.Mathlib.Omega.{arith}
 use borrow.Author.Needs.{needs}
+use Rattle.theory.proofs.IdempotentPowers.{least-power-idempotent}
 use Rattle.rule_table.proofs.Facts.{table-place}
 use Rattle.monitor_judging.proofs.Settled.{pair-below, settled-byte}
 use Rattle.monitor_judging.proofs.accepted_values.Statement.{statement}
@@ -12,32 +13,33 @@ idempotent-power-requires c κs = search needs
 product-requires : tie.Need-product-requires
 product-requires c κs =
     let b = c .before .before .before .pre in
-    table-place (b .0) (b .1 .1 .0 .0) (c .idempotent-power .ensures .idempotent .inside)
+    table-place (b .0) (b .1 .1 .0 .0) (least-power-idempotent (c .idempotent-power .ensures) .inside)
 
-mul-result : tie.Need-mul-result
-mul-result c =
+mul-accepted : tie.Need-mul-accepted
+mul-accepted c =
     let b = c .before .before .before .before .pre in
     omega (arith, pair-below _ _ _ _ (b .1 .0) (b .1 .1 .0 .1) (c .before .idempotent-power .ensures) (b .0) (b .1 .1 .0 .0) (c .product .ensures))
 
-add-result : tie.Need-add-result
-add-result c =
+add-accepted : tie.Need-add-accepted
+add-accepted c =
     let b = c .before .before .before .before .pre in
     omega (arith, pair-below _ _ _ _ (b .1 .0) (b .1 .1 .0 .1) (c .before .idempotent-power .ensures) (b .0) (b .1 .1 .0 .0) (c .product .ensures))
 
-add-result-2 : tie.Need-add-result-2
-add-result-2 c =
+add-accepted-2 : tie.Need-add-accepted-2
+add-accepted-2 c =
     let b = c .before .before .before .before .pre in
     omega (arith, pair-below _ _ _ _ (b .1 .0) (b .1 .1 .0 .1) (c .before .idempotent-power .ensures) (b .0) (b .1 .1 .0 .0) (c .product .ensures))
 
-shared-slice-read-result : tie.Need-shared-slice-read-result
-shared-slice-read-result c =
+shared-slice-read-accepted : tie.Need-shared-slice-read-accepted
+shared-slice-read-accepted c =
     let b = c .before .before .before .before .before .pre in
     omega (arith, pair-below _ _ _ _ (b .1 .0) (b .1 .1 .0 .1) (c .before .before .idempotent-power .ensures) (b .0) (b .1 .1 .0 .0) (c .before .product .ensures))
 
 returns : tie.Need-returns
 returns c =
     let b = c .before .before .before .before .before .pre in
-    settled-byte _ _ _ _ (b .1 .0) (b .1 .1 .0 .1) (c .before .before .idempotent-power .ensures) _ _ (c .before .product .ensures)
+    let power = c .before .before .idempotent-power .ensures in
+    (settled-byte _ _ _ _ (b .1 .0) (b .1 .1 .0 .1) power _ _ (c .before .product .ensures), power .exponent-is)
 
 pub accepted-values-spec : {M : Type 1} → statement M
 accepted-values-spec =
@@ -45,8 +47,8 @@ accepted-values-spec =
     (tie.spec
     idempotent-power-requires
     product-requires
-    mul-result
-    add-result
-    add-result-2
-    shared-slice-read-result
+    mul-accepted
+    add-accepted
+    add-accepted-2
+    shared-slice-read-accepted
     returns)

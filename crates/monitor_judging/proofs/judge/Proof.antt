@@ -1,7 +1,7 @@
 -- `monitor_judging::judge` meets its contract: strength first, and then the closure decides. Assumes nothing.
 use borrow.Author.Needs.{needs}
 use borrow.Author.Tests.{not-true, not-false}
-use Rattle.monitor_judging.proofs.Judging.{look-room, judged-weak, judged-accepted, judged-not-accepted}
+use Rattle.monitor_judging.proofs.Judging.{look-room, judged-weak, judged-decided}
 use Rattle.monitor_judging.proofs.judge.Statement.{statement}
 use Rattle.monitor_judging.proofs.judge.Tie as tie
 
@@ -29,18 +29,9 @@ same-length-2 c = search needs
 
 returns-2 : tie.Need-returns-2
 returns-2 c =
-    let b = c .before .before .before .before .before .before .before .before .before .before .before .before .before .before .pre .1 in
-    judged-accepted (b .0) (b .1 .0) (b .1 .1) (c .before .before .before .before .before .before .before .before .before .before .decide .ensures) (c .before .before .before .before .before .before .accepted-values .ensures) (c .before .before .before .before .zero .ensures)
-    (not-false _ (c .before .if1 .left)) (c .if2 .taken)
-
-same-length-3 : tie.Need-same-length-3
-same-length-3 c = search needs
-
-returns-3 : tie.Need-returns-3
-returns-3 c =
-    let b = c .before .before .before .before .before .before .before .before .before .before .before .before .before .before .pre .1 in
-    judged-not-accepted (b .0) (b .1 .0) (b .1 .1) (c .before .before .before .before .before .before .before .before .before .before .decide .ensures) (c .before .before .before .before .before .before .accepted-values .ensures) (c .before .before .before .before .zero .ensures)
-    (not-false _ (c .before .if1 .left)) (c .if2 .left)
+    let b = c .before .before .before .before .before .before .before .before .before .before .before .before .before .pre .1 in
+    let looked = c .before .before .before .before .before .accepted-values .ensures in
+    judged-decided (b .0) (b .1 .0) (b .1 .1) (c .before .before .before .before .before .before .before .before .before .decide .ensures) (looked .0) (looked .1) (c .before .before .before .zero .ensures) (not-false _ (c .if1 .left))
 
 pub judge-spec : {M : Type 1} → statement M
 judge-spec =
@@ -52,6 +43,4 @@ judge-spec =
     same-length
     returns
     same-length-2
-    returns-2
-    same-length-3
-    returns-3)
+    returns-2)
