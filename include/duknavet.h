@@ -27,7 +27,8 @@
  *   of its letters' elements. A lasso is u, then v for ever, neither empty. A rule accepts it if the same endless word is p, then
  *   w for ever, with (value of p, value of w) marked. A pair (s, e) is linked if e * e = e and s * e = s. Linked pairs (s, e) and
  *   (t, f) are conjugate if some x and y have s * x = t, x * y = e and y * x = f. A rule is strong if the values of u and v
- *   decide whether the lasso is accepted, and else weak.
+ *   decide whether the lasso is accepted, and else weak. The turns of a cycle whose value is x are the least c, 1 to n, with
+ *   x^c * x^c = x^c: so many turns of it together have a value that repeating no longer changes.
  *   docs/FORMATS.md of the repository has the files byte by byte with examples, and every check in its order.
  */
 #ifndef DUKNAVET_H
@@ -111,7 +112,8 @@ uint64_t duknavet_classes(const uint8_t *rule, size_t rule_length,
 uint64_t duknavet_strong(const uint8_t *rule, size_t rule_length,
                          uint8_t *scratch, size_t scratch_length);
 
-/* Field 0: 1 if the rule accepts u, then v for ever, 0 if not. A byte a letter. The rule may be weak. */
+/* Field 0: 1 if the rule accepts u, then v for ever, 0 if not. Field 1, either way: the turns of v, 1 to n. A byte a letter. The rule
+ * may be weak. */
 uint64_t duknavet_member(const uint8_t *rule, size_t rule_length,
                          const uint8_t *u, size_t u_length,
                          const uint8_t *v, size_t v_length,
@@ -163,7 +165,7 @@ uint64_t duknavet_mark(const uint8_t *rule, size_t rule_length,
                        uint8_t *scratch, size_t scratch_length);
 
 /* Field 0: 1 if a strong rule accepts the lassos whose start has the value before and whose cycle has the value since, 0 if
- * not. */
+ * not. Field 1, either way: the turns of these cycles, 1 to n. */
 uint64_t duknavet_verdict(const uint8_t *rule, size_t rule_length,
                           size_t before, size_t since,
                           uint8_t *scratch, size_t scratch_length);

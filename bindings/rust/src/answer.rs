@@ -124,6 +124,14 @@ pub(crate) fn unpack_bool(packed: u64) -> Result<bool, Refused> {
     }
 }
 
+/// A result that is yes or no of a lasso, and the turns of its cycle.
+pub(crate) fn unpack_decided(packed: u64) -> Result<(bool, usize), Refused> {
+    match unpack(packed)? {
+        [accepted @ 0..=1, turns @ 1..=64, 0] => Ok((accepted == 1, turns)),
+        _ => foreign(packed, "the result is no lasso's, with 1 to 64 turns"),
+    }
+}
+
 /// A result that is the number of bytes written to a buffer of `room` bytes.
 pub(crate) fn unpack_length(packed: u64, room: usize) -> Result<usize, Refused> {
     match unpack(packed)? {
@@ -139,7 +147,7 @@ pub(crate) fn foreign(packed: u64, why: &str) -> ! {
 
 #[cfg(test)]
 mod tests {
-    use super::{unpack, unpack_bool, unpack_length, Refusal, Refused};
+    use super::{unpack, unpack_bool, unpack_decided, unpack_length, Refusal, Refused};
     use std::panic::catch_unwind;
 
     #[test]
@@ -162,6 +170,8 @@ mod tests {
         };
         assert_eq!(unpack(0x0000_0000_107f_020a), Err(refused));
         assert_eq!(unpack_bool(0x1_0000), Ok(true));
+        assert_eq!(unpack_decided(0x2_0001_0000), Ok((true, 2)));
+        assert_eq!(unpack_decided(0x40_0000_0000), Ok((false, 64)));
         assert_eq!(unpack_length(0x3014_0000, 12_308), Ok(12_308));
     }
 
@@ -172,6 +182,15 @@ mod tests {
         }
         assert!(catch_unwind(|| unpack_bool(0x2_0000)).is_err());
         assert!(catch_unwind(|| unpack_bool(0x1_0001_0000)).is_err());
+        for packed in [
+            0,
+            0x1_0000,
+            0x1_0002_0000,
+            0x41_0001_0000,
+            0x1_0001_0001_0000,
+        ] {
+            assert!(catch_unwind(|| unpack_decided(packed)).is_err());
+        }
         assert!(catch_unwind(|| unpack_length(0x3015_0000, 12_308)).is_err());
     }
 }

@@ -1,23 +1,35 @@
 //! Membership of a lasso.
 
-use crate::answer::unpack_bool;
+use crate::answer::unpack_decided;
 use crate::{raw, Refused};
 
-/// Whether a rule accepts a lasso.
+/// Whether a rule accepts a lasso, and how many turns settle its cycle.
 #[derive(Clone, Copy, Debug, PartialEq, Eq, Hash)]
-pub enum Membership {
-    /// Some writing of the endless word has marked values.
-    Accepted,
-    /// None has.
-    NotAccepted,
+pub struct Membership {
+    /// Whether some writing of the endless word has marked values.
+    pub accepted: bool,
+    /// How many turns of v together have a value that repeating no longer changes, accepted or not: the least c, 1 to the number of
+    /// elements, with x^c·x^c = x^c, where x is the value of v.
+    pub turns: usize,
 }
 
 /// Whether the rule accepts the lasso: `u`, then `v` for ever.
 ///
 /// Each of the two has 1 to [`WORD`](crate::WORD) letters, a byte a letter. The rule may be weak.
+///
+/// ```
+/// use duknavet::{member, Membership, SCRATCH};
+///
+/// // Sums modulo 2: letter 0 stands for 1, letter 1 for 0. Two turns of letter 0 have the value 1 + 1 = 0, and so has every
+/// // even number of them.
+/// let rule = [2, 0, 1, 1, 0, 2, 1, 0, 1, 0, 0, 0];
+/// let mut scratch = vec![0; SCRATCH];
+/// let answer = member(&rule, &[0], &[0], &mut scratch);
+/// assert_eq!(answer, Ok(Membership { accepted: true, turns: 2 }));
+/// let answer = member(&rule, &[0], &[1], &mut scratch);
+/// assert_eq!(answer, Ok(Membership { accepted: false, turns: 1 }));
+/// ```
 pub fn member(rule: &[u8], u: &[u8], v: &[u8], scratch: &mut [u8]) -> Result<Membership, Refused> {
-    Ok(match unpack_bool(raw::member(rule, u, v, scratch))? {
-        true => Membership::Accepted,
-        false => Membership::NotAccepted,
-    })
+    let (accepted, turns) = unpack_decided(raw::member(rule, u, v, scratch))?;
+    Ok(Membership { accepted, turns })
 }

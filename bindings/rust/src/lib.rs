@@ -14,12 +14,14 @@
 //! a buffer is too short (refusal 13) the scratch does too. Longer buffers pass, and bytes past a result are not touched.
 //!
 //! ```
-//! use duknavet::{member, Membership, SCRATCH};
+//! use duknavet::{member, SCRATCH};
 //!
 //! // Letters 0 and 1; accepts the lassos in which letter 0 occurs without end.
 //! let rule = [2, 0, 0, 0, 1, 2, 0, 1, 1, 0, 0, 0];
 //! let mut scratch = vec![0; SCRATCH];
-//! assert_eq!(member(&rule, &[1], &[0], &mut scratch), Ok(Membership::Accepted));
+//! let answer = member(&rule, &[1], &[0], &mut scratch).expect("a rule and two words");
+//! assert!(answer.accepted);
+//! assert_eq!(answer.turns, 1);
 //! ```
 
 #![deny(missing_docs)]

@@ -1,6 +1,6 @@
 //! Monitors: events are read one by one, and marks divide them into what came before and what came since.
 
-use crate::answer::{foreign, unpack, unpack_bool};
+use crate::answer::{foreign, unpack, unpack_decided};
 use crate::{raw, Refused};
 
 /// What a monitor keeps of the events: two values, each an element or [`NONE`](crate::NONE).
@@ -29,13 +29,14 @@ impl std::fmt::Display for NotMoved {
 
 impl std::error::Error for NotMoved {}
 
-/// Whether the lassos that have a monitor's values are accepted.
+/// Whether the lassos that have a monitor's values are accepted, and how many turns settle their cycle.
 #[derive(Clone, Copy, Debug, PartialEq, Eq, Hash)]
-pub enum Verdict {
-    /// They are.
-    Accepted,
-    /// They are not.
-    NotAccepted,
+pub struct Verdict {
+    /// Whether they are all accepted; else none is.
+    pub accepted: bool,
+    /// How many turns of the cycle together have a value that repeating no longer changes, accepted or not: the least c, 1 to the
+    /// number of elements, with x^c·x^c = x^c, where x is the value of since.
+    pub turns: usize,
 }
 
 /// A monitor that has seen nothing: [`NONE`](crate::NONE) twice.
@@ -69,10 +70,8 @@ pub fn mark(rule: &[u8], monitor: Monitor, scratch: &mut [u8]) -> Result<Monitor
 /// A monitor without one of its values, and a weak rule, are refused.
 pub fn verdict(rule: &[u8], monitor: Monitor, scratch: &mut [u8]) -> Result<Verdict, Refused> {
     let packed = raw::verdict(rule, monitor.before, monitor.since, scratch);
-    Ok(match unpack_bool(packed)? {
-        true => Verdict::Accepted,
-        false => Verdict::NotAccepted,
-    })
+    let (accepted, turns) = unpack_decided(packed)?;
+    Ok(Verdict { accepted, turns })
 }
 
 fn moved(monitor: Monitor, packed: u64) -> Result<Monitor, NotMoved> {

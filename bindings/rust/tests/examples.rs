@@ -1,4 +1,4 @@
-//! The small rules of document 01, each with the answer that the document gives.
+//! The small rules of document 01, each with the answer that the document gives; and the turns of cycles.
 
 use duknavet::{automaton_rule, classes, complement, event, fresh, included, mark, member};
 use duknavet::{reduce, strong, verdict, Classes, Inclusion, Membership, Monitor};
@@ -41,6 +41,29 @@ fn lasso(rule: &[u8], u: &[u8], v: &[u8]) -> Result<Membership, Refused> {
     member(rule, u, v, &mut scratch())
 }
 
+fn accepted(turns: usize) -> Result<Membership, Refused> {
+    Ok(Membership {
+        accepted: true,
+        turns,
+    })
+}
+
+fn not_accepted(turns: usize) -> Result<Membership, Refused> {
+    Ok(Membership {
+        accepted: false,
+        turns,
+    })
+}
+
+/// The remainders by 64 under addition, with one letter, of image 1.
+fn cyclic(marks: &[u8]) -> Vec<u8> {
+    let mut rule = vec![64];
+    rule.extend((0..64).flat_map(|a| (0..64).map(move |b| (a + b) % 64)));
+    rule.extend([1, 1]);
+    rule.extend(marks);
+    rule
+}
+
 fn reduced(rule: &[u8]) -> Result<Vec<u8>, Refused> {
     let mut out = vec![0; RULE_OUT];
     let length = reduce(rule, &mut out, &mut scratch())?.length;
@@ -70,12 +93,12 @@ fn m1_w_is_strong_and_its_own_reduction() {
 
 #[test]
 fn m2_w_accepts() {
-    assert_eq!(lasso(&W, &[1], &[0]), Ok(Membership::Accepted));
+    assert_eq!(lasso(&W, &[1], &[0]), accepted(1));
 }
 
 #[test]
 fn m3_w_does_not_accept() {
-    assert_eq!(lasso(&W, &[0], &[1]), Ok(Membership::NotAccepted));
+    assert_eq!(lasso(&W, &[0], &[1]), not_accepted(1));
 }
 
 #[test]
@@ -91,8 +114,8 @@ fn m5_z_has_one_class() {
 #[test]
 fn m6_z_is_weak() {
     assert_eq!(strength(&Z), Ok(Strength::Weak));
-    assert_eq!(lasso(&Z, &[0], &[1]), Ok(Membership::NotAccepted));
-    assert_eq!(lasso(&Z, &[0], &[0, 0]), Ok(Membership::Accepted));
+    assert_eq!(lasso(&Z, &[0], &[1]), not_accepted(1));
+    assert_eq!(lasso(&Z, &[0], &[0, 0]), accepted(1));
     assert_eq!(reduced(&Z), refused(12, 1, 0));
     let written = complement(&Z, &mut vec![0; RULE_OUT], &mut scratch());
     assert_eq!(written, refused(12, 1, 0));
@@ -137,11 +160,7 @@ fn counts_of_elements_and_letters() {
     widest.extend([0; 16]);
     widest.extend([0, 0]);
     assert_eq!(strength(&widest), Ok(Strength::Strong));
-    // The cyclic group of 64 elements.
-    let mut cyclic = vec![64];
-    cyclic.extend((0..64).flat_map(|a| (0..64).map(move |b| (a + b) % 64)));
-    cyclic.extend([1, 1, 0, 0]);
-    assert_eq!(strength(&cyclic), Ok(Strength::Strong));
+    assert_eq!(strength(&cyclic(&[0, 0])), Ok(Strength::Strong));
 }
 
 #[test]
@@ -155,18 +174,56 @@ fn an_unlinked_mark() {
 fn lengths_of_words() {
     assert_eq!(lasso(&W, &[1], &[]), refused(11, 2, 0));
     assert_eq!(lasso(&W, &[1], &[0; WORD + 1]), refused(11, 2, 0));
-    assert_eq!(lasso(&W, &[1], &[0]), Ok(Membership::Accepted));
-    assert_eq!(lasso(&W, &[1], &[0; WORD]), Ok(Membership::Accepted));
+    assert_eq!(lasso(&W, &[1], &[0]), accepted(1));
+    assert_eq!(lasso(&W, &[1], &[0; WORD]), accepted(1));
     assert_eq!(lasso(&W, &[], &[0]), refused(11, 1, 0));
     assert_eq!(lasso(&W, &[1; WORD + 1], &[0]), refused(11, 1, 0));
-    assert_eq!(lasso(&W, &[1; WORD], &[0]), Ok(Membership::Accepted));
+    assert_eq!(lasso(&W, &[1; WORD], &[0]), accepted(1));
+}
+
+#[test]
+fn turns_of_a_cycle() {
+    // In Z letter 0 stands for 1, and 1 + 1 = 0: two turns settle it. Letter 1 stands for 0, and one does.
+    assert_eq!(lasso(&Z, &[0], &[0]), accepted(2));
+    assert_eq!(lasso(&Z, &[1], &[0, 1]), accepted(2));
+    assert_eq!(lasso(&Z, &[0], &[1]), not_accepted(1));
+    let no_marks = [2, 0, 1, 1, 0, 2, 1, 0, 0, 0];
+    assert_eq!(lasso(&no_marks, &[0], &[0]), not_accepted(2));
+    // The remainders by 4, weak: both cycles have the value 2.
+    let four = [
+        4, 0, 1, 2, 3, 1, 2, 3, 0, 2, 3, 0, 1, 3, 0, 1, 2, 2, 1, 2, 1, 0, 0, 0,
+    ];
+    assert_eq!(strength(&four), Ok(Strength::Weak));
+    assert_eq!(lasso(&four, &[0], &[1]), not_accepted(2));
+    assert_eq!(lasso(&four, &[0], &[0, 0]), accepted(2));
+    assert_eq!(lasso(&four, &[1], &[0]), accepted(4));
+}
+
+#[test]
+fn turns_in_the_cyclic_group_of_64() {
+    let (marked, no_marks) = (cyclic(&[1, 0, 0, 0]), cyclic(&[0, 0]));
+    for length in 1..=64 {
+        // The least number of turns whose letters together are a multiple of 64.
+        let turns = (1..=64).find(|c| c * length % 64 == 0).expect("64 is one");
+        let v = vec![0; length];
+        assert_eq!(lasso(&marked, &[0], &v), accepted(turns));
+        assert_eq!(lasso(&no_marks, &[0], &v), not_accepted(turns));
+        for before in [0, 1, 63] {
+            let since = length % 64;
+            let monitor = Monitor { before, since };
+            for (rule, accepted) in [(&marked, true), (&no_marks, false)] {
+                let answer = verdict(rule, monitor, &mut scratch());
+                assert_eq!(answer, Ok(Verdict { accepted, turns }));
+            }
+        }
+    }
 }
 
 #[test]
 fn an_automaton_that_accepts_nothing() {
     // An idle initial state, and a final one that loops where no run comes.
     let rule = translated(&[2, 1, 2, 1, 1, 0, 1, 0, 1]).expect("few matrices");
-    assert_eq!(lasso(&rule, &[0], &[0]), Ok(Membership::NotAccepted));
+    assert_eq!(lasso(&rule, &[0], &[0]), not_accepted(1));
 }
 
 #[test]
@@ -181,7 +238,11 @@ fn a_monitor_of_w() {
     assert_eq!((marked.before, marked.since), (1, NONE));
     let second = event(&W, marked, 0, scratch).expect("a letter of W");
     assert_eq!((second.before, second.since), (1, 0));
-    assert_eq!(verdict(&W, second, scratch), Ok(Verdict::Accepted));
+    let judged = Verdict {
+        accepted: true,
+        turns: 1,
+    };
+    assert_eq!(verdict(&W, second, scratch), Ok(judged));
     let refusal = event(&W, second, 2, scratch).expect_err("W has two letters");
     assert_eq!(refusal.monitor, second);
     assert_eq!(Err::<(), _>(refusal.refused), refused(10, 1, 0));
@@ -193,13 +254,13 @@ fn complement_and_inclusion_of_w() {
     let mut out = vec![0; RULE_OUT];
     let length = complement(&W, &mut out, scratch).expect("strong").length;
     let other = &out[..length];
-    assert_eq!(lasso(other, &[1], &[0]), Ok(Membership::NotAccepted));
-    assert_eq!(lasso(other, &[0], &[1]), Ok(Membership::Accepted));
+    assert_eq!(lasso(other, &[1], &[0]), not_accepted(1));
+    assert_eq!(lasso(other, &[0], &[1]), accepted(1));
     let (u, v) = (&mut vec![0; U_OUT], &mut vec![0; V_OUT]);
     let every = &W_ALL[8..];
     assert_eq!(included(&W, every, u, v, scratch), Ok(Inclusion::Included));
     let Ok(Inclusion::NotIncluded { u: i, v: j }) = included(&W_ALL, &W[8..], u, v, scratch) else {
         panic!("W does not accept letter 1 for ever");
     };
-    assert_eq!(lasso(&W, &u[..i], &v[..j]), Ok(Membership::NotAccepted));
+    assert_eq!(lasso(&W, &u[..i], &v[..j]), not_accepted(1));
 }
