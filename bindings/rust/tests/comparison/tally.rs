@@ -65,7 +65,7 @@ const REFUSALS: [Refusals; 10] = [
 ];
 
 /// Outcomes that must occur at least so often.
-const LEAST: [(&str, &str, u64); 34] = [
+const LEAST: [(&str, &str, u64); 48] = [
     ("classes", "counts", 1000),
     ("strong", "weak", 100),
     ("strong", "strong, marks closed", 1000),
@@ -75,7 +75,16 @@ const LEAST: [(&str, &str, u64); 34] = [
     ("strong of 64", "strong, marks not closed", 10),
     ("member", "accepted", 1000),
     ("member", "not accepted", 1000),
+    ("member", "accepted, 1 turn", 1000),
+    ("member", "accepted, 2 turns or more", 1000),
+    ("member", "not accepted, 1 turn", 1000),
+    ("member", "not accepted, 2 turns or more", 1000),
+    ("member", "64 turns", 10),
     ("member", "a word of 4224 letters", 20),
+    ("member of weak", "accepted, 1 turn", 100),
+    ("member of weak", "accepted, 2 turns or more", 100),
+    ("member of weak", "not accepted, 1 turn", 100),
+    ("member of weak", "not accepted, 2 turns or more", 50),
     ("complement", "written", 1000),
     ("complement", "marks exchanged, and found", 1000),
     ("included", "included", 1000),
@@ -87,6 +96,11 @@ const LEAST: [(&str, &str, u64); 34] = [
     ("mark", "a monitor's value refused", 10),
     ("verdict", "accepted", 100),
     ("verdict", "not accepted", 100),
+    ("verdict", "accepted, 1 turn", 100),
+    ("verdict", "accepted, 2 turns or more", 100),
+    ("verdict", "not accepted, 1 turn", 100),
+    ("verdict", "not accepted, 2 turns or more", 100),
+    ("verdict", "64 turns", 1),
     ("verdict", "a monitor's value refused", 10),
     ("monitor", "histories", 1000),
     ("monitor", "verdicts on histories", 100),

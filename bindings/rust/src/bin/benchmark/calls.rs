@@ -3,7 +3,7 @@
 use crate::engine::{automata, inclusion, lassos, markings, monitors, reductions};
 use crate::engine::{Refusal, Strategy};
 use duknavet as library;
-use duknavet::{Inclusion, Membership, Monitor, Refused, Strength, Verdict};
+use duknavet::{Inclusion, Monitor, Refused, Strength};
 use duknavet::{CLASSES_OUT, RULE_OUT, SCRATCH, U_OUT, V_OUT};
 
 #[derive(Clone, Copy, Debug, PartialEq, Eq)]
@@ -44,6 +44,10 @@ type Fixed = [usize; 3];
 
 fn truth(answer: bool) -> Fixed {
     [usize::from(answer), 0, 0]
+}
+
+fn decided((accepted, turns): (bool, usize)) -> Fixed {
+    [usize::from(accepted), turns, 0]
 }
 
 fn written(length: usize, out: &[u8]) -> Fixed {
@@ -115,11 +119,12 @@ impl Call {
                 moved(library::mark(rule, monitor, scratch).map_err(|n| n.refused)?)
             }
             Call::Verdict(rule) => {
-                truth(library::verdict(rule, monitor, scratch)? == Verdict::Accepted)
+                let answer = library::verdict(rule, monitor, scratch)?;
+                decided((answer.accepted, answer.turns))
             }
             Call::Member(rule, lasso) => {
                 let answer = library::member(rule, &lasso.0, &lasso.1, scratch)?;
-                truth(answer == Membership::Accepted)
+                decided((answer.accepted, answer.turns))
             }
             Call::Included(rule, second) => {
                 let answer = library::included(rule, second, u, v, scratch)?;
@@ -143,8 +148,8 @@ impl Call {
             Call::Reduce(rule) => written(reductions::reduce(how, rule, out, scratch)?, out),
             Call::Event(rule) => moved(monitors::event(how, rule, monitor, 0, scratch)?),
             Call::Mark(rule) => moved(monitors::mark(how, rule, monitor, scratch)?),
-            Call::Verdict(rule) => truth(monitors::verdict(how, rule, monitor, scratch)?),
-            Call::Member(rule, (u, v)) => truth(lassos::member(how, rule, u, v, scratch)?),
+            Call::Verdict(rule) => decided(monitors::verdict(how, rule, monitor, scratch)?),
+            Call::Member(rule, (u, v)) => decided(lassos::member(how, rule, u, v, scratch)?),
             Call::Included(rule, second) => {
                 truth(inclusion::included(how, rule, second, (u, v), scratch)?.is_none())
             }

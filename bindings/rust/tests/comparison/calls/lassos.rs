@@ -3,8 +3,9 @@
 use super::{lengths, Comparison};
 use crate::definitions::acceptance::{accepts, accepts_literally};
 use crate::definitions::checks::{self, Refusal};
+use crate::definitions::settling::turns;
 use crate::subject::Subject;
-use duknavet::{Membership, SCRATCH};
+use duknavet::SCRATCH;
 
 pub const MEMBER_SIZES: [usize; 1] = [SCRATCH];
 
@@ -23,7 +24,8 @@ impl Comparison {
         let Some((answer, expected)) = found else {
             return;
         };
-        let (m, marking) = (subject.known().morphism(), &subject.known().marking);
+        let known = subject.known();
+        let (m, marking) = (known.morphism(), &known.marking);
         if m.n * v.len() <= 12 && u.len() <= 4 {
             let literally = accepts_literally(m, marking, u, v);
             assert_eq!(
@@ -33,10 +35,12 @@ impl Comparison {
             self.tally
                 .count("member", "every writing tried letter by letter");
         }
-        let accepted = answer == Membership::Accepted;
-        assert_eq!(accepted, expected, "membership of {inputs:?}");
-        let outcome = if accepted { "accepted" } else { "not accepted" };
-        self.tally.count("member", outcome);
+        let found = (answer.accepted, answer.turns);
+        assert_eq!(found, (expected, turns(m, v)), "membership of {inputs:?}");
+        self.count_decided("member", found);
+        if known.strong.get() == Some(&false) {
+            self.count_decided("member of weak", found);
+        }
         if u.len() == 4_224 || v.len() == 4_224 {
             self.tally.count("member", "a word of 4224 letters");
         }

@@ -62,6 +62,20 @@ impl Comparison {
         sizes.map(|size| self.stale.lend(&mut self.random, size))
     }
 
+    /// Counts what was said of a lasso: whether it is accepted, and so with its turns.
+    fn count_decided(&mut self, call: &str, (accepted, turns): (bool, usize)) {
+        let outcome = if accepted { "accepted" } else { "not accepted" };
+        let with_turns = match turns {
+            1 => format!("{outcome}, 1 turn"),
+            _ => format!("{outcome}, 2 turns or more"),
+        };
+        self.tally.count(call, outcome);
+        self.tally.count(call, with_turns);
+        if turns == 64 {
+            self.tally.count(call, "64 turns");
+        }
+    }
+
     /// Holds an answer against what is expected: the refusal and the buffers after it, or that there is a result.
     fn agreed<T: Debug, E: Debug>(
         &mut self,

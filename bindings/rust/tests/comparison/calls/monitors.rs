@@ -3,9 +3,10 @@
 use super::markings::outcomes;
 use super::{lengths, Comparison};
 use crate::definitions::checks::{self, Refusal};
+use crate::definitions::settling::turns;
 use crate::lending::Lent;
 use crate::subject::Subject;
-use duknavet::{Monitor, NotMoved, Refused, Verdict, NONE, SCRATCH};
+use duknavet::{Monitor, NotMoved, Refused, NONE, SCRATCH};
 
 pub const MONITOR_SIZES: [usize; 1] = [SCRATCH];
 
@@ -102,7 +103,9 @@ impl Comparison {
                 return Err((11, 1, 0));
             }
             let known = self.asked_strong(subject)?;
-            Ok(outcomes(known)[before * known.morphism().n + since])
+            let m = known.morphism();
+            let accepted = outcomes(known)[before * m.n + since];
+            Ok((accepted, turns(m, &known.words[since])))
         };
         let expected = read();
         self.count_values("verdict", subject, &expected);
@@ -111,10 +114,9 @@ impl Comparison {
         let Some((answer, expected)) = found else {
             return;
         };
-        let accepted = answer == Verdict::Accepted;
-        assert_eq!(accepted, expected, "verdict of {monitor:?} on {inputs:?}");
-        let outcome = if accepted { "accepted" } else { "not accepted" };
-        self.tally.count("verdict", outcome);
+        let found = (answer.accepted, answer.turns);
+        assert_eq!(found, expected, "verdict of {monitor:?} on {inputs:?}");
+        self.count_decided("verdict", found);
     }
 
     /// Counts refusal 3 of a monitor's value apart from that of a file's entry.

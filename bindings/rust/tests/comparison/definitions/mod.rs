@@ -8,4 +8,5 @@ pub mod contexts;
 pub mod cycles;
 pub mod order;
 pub mod rule;
+pub mod settling;
 pub mod splits;

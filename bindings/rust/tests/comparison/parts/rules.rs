@@ -4,6 +4,7 @@ use crate::calls::*;
 use crate::definitions::acceptance::accepts;
 use crate::definitions::cycles::{differing_lassos, Decided};
 use crate::definitions::rule::{marks_section, Morphism};
+use crate::definitions::settling::turns;
 use crate::inputs::{marks, morphisms};
 use crate::subject::Subject;
 use duknavet::{Monitor, Verdict, NONE, SCRATCH};
@@ -133,12 +134,11 @@ fn history(c: &mut Comparison, subject: &Subject) {
     c.tally.count("monitor", "histories");
     if !before.is_empty() && !since.is_empty() && c.settled(subject) {
         let answer = duknavet::verdict(&subject.bytes, monitor, &mut vec![0; SCRATCH]);
-        let accepted = accepts(m, &known.marking, &before, &since);
-        assert_eq!(
-            answer == Ok(Verdict::Accepted),
-            accepted,
-            "verdict of {before:?} {since:?}"
-        );
+        let expected = Verdict {
+            accepted: accepts(m, &known.marking, &before, &since),
+            turns: turns(m, &since),
+        };
+        assert_eq!(answer, Ok(expected), "verdict of {before:?} {since:?}");
         c.tally.count("monitor", "verdicts on histories");
     }
 }

@@ -18,8 +18,9 @@ fn words(strategy: Strategy, rule: &Rule, u: &[u8], v: &[u8]) -> Result<(), Refu
     Ok(())
 }
 
-/// Whether, at some cut of a turn of v, a power of the turn's value gives a marked pair.
-fn accepts(rule: &Rule, u: &[u8], v: &[u8], memory: &mut [u8]) -> bool {
+/// Whether, at some cut of a turn of v, a power of the turn's value gives a marked pair; and the exponent that makes v's own value
+/// idempotent.
+fn accepts(rule: &Rule, u: &[u8], v: &[u8], memory: &mut [u8]) -> (bool, usize) {
     let (marks, rest) = memory.split_at_mut(SECOND);
     let mut new = Vec::new();
     let values = lent_or_new(rest, &mut new, 2 * v.len());
@@ -41,7 +42,7 @@ fn accepts(rule: &Rule, u: &[u8], v: &[u8], memory: &mut [u8]) -> bool {
         y = rule.product(letter(a), y);
         *slot = y as u8;
     }
-    (0..v.len()).any(|j| {
+    let accepted = (0..v.len()).any(|j| {
         let x = beginnings[j] as usize;
         let r = match j < last {
             true => rule.product(ends[j + 1] as usize, x),
@@ -54,7 +55,8 @@ fn accepts(rule: &Rule, u: &[u8], v: &[u8], memory: &mut [u8]) -> bool {
             p = rule.product(p, r);
             marked
         })
-    })
+    });
+    (accepted, rule.power(x).1)
 }
 
 pub fn member(
@@ -63,7 +65,7 @@ pub fn member(
     u: &[u8],
     v: &[u8],
     scratch: &mut [u8],
-) -> Result<bool, Refusal> {
+) -> Result<(bool, usize), Refusal> {
     lengths(&[(scratch.len(), SCRATCH)])?;
     on_memory(strategy, Needs::Marks, scratch, |memory| {
         let rule = check(strategy, bytes, memory)?;

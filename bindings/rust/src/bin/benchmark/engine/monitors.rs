@@ -64,7 +64,7 @@ pub fn verdict(
     bytes: &[u8],
     (before, since): Values,
     scratch: &mut [u8],
-) -> Result<bool, Refusal> {
+) -> Result<(bool, usize), Refusal> {
     let how = (strategy, Needs::TwoMarkings);
     with_monitor(how, bytes, (before, since), scratch, |rule, memory| {
         if before == 64 || since == 64 {
@@ -73,8 +73,8 @@ pub fn verdict(
         if !decide(rule, memory) {
             return Err((12, 1, 0));
         }
-        let (e, _) = rule.power(since);
+        let (e, turns) = rule.power(since);
         let closure = &memory[SECOND..WORK];
-        Ok(closure[rule.product(before, e) * 64 + e] != 0)
+        Ok((closure[rule.product(before, e) * 64 + e] != 0, turns))
     })
 }
