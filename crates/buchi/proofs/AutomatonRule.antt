@@ -7,6 +7,7 @@ use mathlib.Core.Path.{_≡_, sym, ap, subst, _∙_}
 use mathlib.Core.Bool.{_&&_}
 use mathlib.Core.List.{List}
 use mathlib.Core.Logic.{_↔_}
+use lib.ListN.{length}
 use lib.Dec.{T}
 use Rattle.finite.proofs.Tests.{T-and, T-and-left, T-and-right}
 use Rattle.theory.specs.Words.{Over, Lasso}
@@ -16,6 +17,7 @@ use Rattle.theory.specs.Pairs.{Linked, LinkedOnly}
 use Rattle.theory.specs.Smallest.{LinkedAccepted, MarksAccepted}
 use Rattle.theory.proofs.Words.{over-append}
 use Rattle.theory.proofs.Values.{value-element, value-some, inside-of}
+use Rattle.theory.proofs.Starts.{start-or-turn, lasso-started, same-started, equal-started, started-values}
 use Rattle.theory.proofs.Strength.{lasso-of, value-two, settled-cycle, settled-start, settled-linked, Settled, settle}
 use Rattle.theory.proofs.Closure.{linked-test, linked-intro, linked-elim}
 use Rattle.buchi.specs.Automata.{Automaton, AcceptedBy}
@@ -78,14 +80,18 @@ module _ {a : Automaton} {m : Morphism} {matrix : ℕ → Matrix} (law : Lawful 
       let both = linked-recurrence (settled-linked law (inside-of law ou eu) (inside-of law ov ev)) (t .start-over) (t .cycle-over) (t .start-value) (t .cycle-value) in
       (λ k. both .0 (accepted-same (λ i. sym (t .same i)) k), λ k. accepted-same (t .same) (both .1 k))
 
+  -- with a turn of its cycle for an empty start a lasso is accepted exactly if it was
+  started-runs : (u v : List ℕ) → 0 < length v → AcceptedBy a (start-or-turn u v) v ↔ AcceptedBy a u v
+  started-runs u v some = (accepted-same (same-started u v some), accepted-same (λ i. sym (same-started u v some i)))
+
   -- lassos whose starts have equal values and whose cycles have equal values are both accepted or both not
   pub same-values : {u v u′ v′ : List ℕ} → Lasso (m .letters) u v → Lasso (m .letters) u′ v′ → value m u ≡ value m u′ → value m v ≡ value m v′
       → AcceptedBy a u v → AcceptedBy a u′ v′
-  same-values l l′ eu ev k =
-      let s = value-element law (l .start-over) (l .start-some) in
-      let z = value-element law (l .cycle-over) (l .cycle-some) in
-      value-recurrence (l′ .start-over) (l′ .cycle-over) (sym eu ∙ s .is) (sym ev ∙ z .is) .1
-      (value-recurrence (l .start-over) (l .cycle-over) (s .is) (z .is) .0 k)
+  same-values {u} {v} {u′} {v′} l l′ eu ev k =
+      let values = started-values law l in
+      started-runs u′ v′ (l′ .cycle-some) .0
+      (value-recurrence (lasso-started l′ .start-over) (l′ .cycle-over) (sym (equal-started m u v u′ v′ eu ev) ∙ values .start .is) (sym ev ∙ values .cycle .is) .1
+      (value-recurrence (lasso-started l .start-over) (l .cycle-over) (values .start .is) (values .cycle .is) .0 (started-runs u v (l .cycle-some) .1 k)))
 
   -- ---- the marking
 
@@ -104,9 +110,10 @@ module _ {a : Automaton} {m : Morphism} {matrix : ℕ → Matrix} (law : Lawful 
 
     run-accepts : {u v : List ℕ} → Lasso (m .letters) u v → AcceptedBy a u v → Accepts m P u v
     run-accepts {u} {v} l k =
-        let s = value-element law (l .start-over) (l .start-some) in
-        let z = value-element law (l .cycle-over) (l .cycle-some) in
-        let t : Settled m u v (s .the) (z .the) = settle law (l .start-over) (l .cycle-over) (s .is) (z .is) in
+        let s = started-values law l .start in
+        let z = started-values law l .cycle in
+        let over = lasso-started l .start-over in
+        let t : Settled m (start-or-turn u v) v (s .the) (z .the) = settle law over (l .cycle-over) (s .is) (z .is) in
         let pair = settled-linked law (s .inside) (z .inside) in
         record {
           cycle-some = l .cycle-some;
@@ -114,14 +121,14 @@ module _ {a : Automaton} {m : Morphism} {matrix : ℕ → Matrix} (law : Lawful 
           cycle = t .cycle;
           start-over = t .start-over;
           cycle-over = t .cycle-over;
-          same = t .same;
+          same = λ i. t .same i ∙ same-started u v (l .cycle-some) i;
           start-element = settled-start m (s .the) (z .the);
           cycle-element = settled-cycle m (z .the);
           start-value = t .start-value;
           cycle-value = t .cycle-value;
           is-marked =
               marking .marks (settled-start m (s .the) (z .the)) (settled-cycle m (z .the)) (pair .inside) (pair .idempotent .inside) .1
-              (pair, value-recurrence (l .start-over) (l .cycle-over) (s .is) (z .is) .0 k);
+              (pair, value-recurrence over (l .cycle-over) (s .is) (z .is) .0 (started-runs u v (l .cycle-some) .1 k));
         }
 
     -- "The rule accepts exactly the lassos on which some run from an initial state meets a final state again and again."

@@ -11,10 +11,9 @@ use Rattle.theory.specs.Rules.{Morphism, Lawful, Pairs, Marking, marked, AllRea
 use Rattle.theory.specs.Acceptance.{Accepts, Strong}
 use Rattle.theory.specs.Pairs.{LinkedOnly}
 use Rattle.theory.specs.Smallest.{LinkedAccepted, LinkedNotAccepted, Complement}
-use Rattle.theory.proofs.Strength.{accepts-same}
+use Rattle.theory.proofs.Strength.{accepts-same, started-accepts}
 use Rattle.theory.proofs.Closure.{acceptance, acceptance-le, strong-acceptance}
-use Rattle.minimality.proofs.Contexts.{LassoValues, lasso-values}
-use Rattle.minimality.proofs.Smallest.{outcome, outcome-at}
+use Rattle.minimality.proofs.Smallest.{outcome, LassoValues, lasso-values, values-outcome}
 use Rattle.minimality.proofs.Saturation.{DependsOnWord, saturated, Saturates, saturates}
 
 -- numbers up to 1 that are both 1 or neither
@@ -27,7 +26,7 @@ module _ {m : Morphism} (law : Lawful m) (acc : ℕ → ℕ → ℕ) (f : ℕ �
   pub outcome-after : {u v : List ℕ} → Lasso (m .letters) u v → outcome m (λ s z. f (acc s z)) u v ≡ f (outcome m acc u v)
   outcome-after {u} {v} l =
       let k : LassoValues m u v = lasso-values law l in
-      outcome-at (λ s z. f (acc s z)) (k .start-has) (k .cycle-has) ∙ ap f (sym (outcome-at acc (k .start-has) (k .cycle-has)))
+      values-outcome (λ s z. f (acc s z)) k ∙ ap f (sym (values-outcome acc k))
 
   -- and depends on the endless word only if that does
   pub depends-after : DependsOnWord m acc → DependsOnWord m (λ s z. f (acc s z))
@@ -48,13 +47,14 @@ module _ {m : Morphism} {P : Pairs} (law : Lawful m) (reached : AllReached m) (l
   pub acceptance-outcome : {u v : List ℕ} → Lasso (m .letters) u v → Accepts m P u v ↔ (1 ≤ outcome m (acceptance m P) u v)
   acceptance-outcome {u} {v} l =
       let k : LassoValues m u v = lasso-values law l in
-      rw (outcome-at (acceptance m P) (k .start-has) (k .cycle-has))
-      (strong-acceptance law reached linked strong (l .start-over) (l .cycle-over) (k .start-has .is) (k .cycle-has .is))
+      let started = started-accepts {m = m} {P = P} u v (l .cycle-some) in
+      let both = strong-acceptance law reached linked strong (k .start-has .over) (l .cycle-over) (k .start-has .is) (k .cycle-has .is) in
+      rw (values-outcome (acceptance m P) k) (λ a. both .0 (started .1 a), λ h. started .0 (both .1 h))
 
   pub acceptance-outcome-le : {u v : List ℕ} → Lasso (m .letters) u v → outcome m (acceptance m P) u v ≤ 1
   acceptance-outcome-le {u} {v} l =
       let k : LassoValues m u v = lasso-values law l in
-      rw (outcome-at (acceptance m P) (k .start-has) (k .cycle-has)) (acceptance-le m P (k .start) (k .cycle))
+      rw (values-outcome (acceptance m P) k) (acceptance-le m P (k .start) (k .cycle))
 
   -- acceptance depends on the endless word only
   pub acceptance-depends : DependsOnWord m (acceptance m P)

@@ -1,11 +1,11 @@
 -- An element between two values, each of an empty word or of another: its contexts. Two elements are indistinct if no
--- context tells them apart by its outcomes. Also words with a given value, and the values of a lasso. Assumes nothing.
+-- context tells them apart by its outcomes. Also words with a given value. Assumes nothing.
 use Prim.Native.Nat.{ℕ, _<_}
 use mathlib.Core.Path.{_≡_, refl, sym, subst, subst₂, ap, ap₂, _∙_}
 use mathlib.Core.List.{List, [], _++_}
-use Rattle.theory.specs.Words.{Over, over-nil, Lasso}
+use Rattle.theory.specs.Words.{Over, over-nil}
 use Rattle.theory.specs.Rules.{Morphism, Lawful, Value, none, element, join, value, AllReached}
-use Rattle.theory.proofs.Values.{Inside, inside-none, inside-element, join-inside, value-append, Element, value-element}
+use Rattle.theory.proofs.Values.{Inside, inside-none, inside-element, join-inside, value-append}
 use Rattle.theory.proofs.Words.{over-append}
 use Rattle.minimality.specs.Rounds.{SameOutcomes}
 
@@ -116,25 +116,3 @@ pub has-around : {m : Morphism} {p w q : List ℕ} {x y : Value} {s : ℕ} → L
     → HasValue m ((p ++ w) ++ q) (element (around m x s y))
 has-around {m} {p} {w} {q} {x} {y} {s} law hp hw hq =
     subst (HasValue m ((p ++ w) ++ q)) (around-value m x y s) (has-append law (has-append law hp hw) hq)
-
--- the values of a lasso's two words
-pub record LassoValues (m : Morphism) (u v : List ℕ) : Type 0 where
-  pub start : ℕ
-  pub cycle : ℕ
-  pub start-inside : start < m .size
-  pub cycle-inside : cycle < m .size
-  pub start-has : HasValue m u (element start)
-  pub cycle-has : HasValue m v (element cycle)
-
-pub lasso-values : {m : Morphism} {u v : List ℕ} → Lawful m → Lasso (m .letters) u v → LassoValues m u v
-lasso-values {m} {u} {v} law l =
-    let x : Element m (value m u) = value-element law (l .start-over) (l .start-some) in
-    let y : Element m (value m v) = value-element law (l .cycle-over) (l .cycle-some) in
-    record {
-      start = x .the;
-      cycle = y .the;
-      start-inside = x .inside;
-      cycle-inside = y .inside;
-      start-has = record { over = l .start-over; is = x .is };
-      cycle-has = record { over = l .cycle-over; is = y .is };
-    }

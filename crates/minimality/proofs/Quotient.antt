@@ -7,8 +7,8 @@ use Rattle.theory.specs.Words.{Over, over-nil, over-cons, Lasso}
 use Rattle.theory.specs.Rules.{Morphism, Lawful, Value, none, element, join, value, WordOf, AllReached}
 use Rattle.theory.proofs.Values.{Inside, inside-none, inside-element, value-inside}
 use Rattle.minimality.specs.Rounds.{SameOutcomes}
-use Rattle.minimality.proofs.Contexts.{after, ahead, around, ahead-inside, around-inside, Indistinct, HasValue, LassoValues, lasso-values}
-use Rattle.minimality.proofs.Smallest.{outcome, outcome-at, Factors, Syntactic}
+use Rattle.minimality.proofs.Contexts.{after, ahead, around, ahead-inside, around-inside, Indistinct, HasValue}
+use Rattle.minimality.proofs.Smallest.{outcome, outcome-started, outcome-at, LassoValues, lasso-values, values-outcome, Factors, Syntactic}
 
 -- c numbered blocks: the number of each element's block, and an element of each block, its leader. Products respect the
 -- blocks, elements of one block have the same outcomes, and elements that no context tells apart are in one block
@@ -128,9 +128,10 @@ module _ {m : Morphism} {acc : ℕ → ℕ → ℕ} {c : ℕ} (law : Lawful m) (
   pub quotient-outcome : {u v : List ℕ} → Lasso (m .letters) u v → outcome (quotient b) (quotient-acc b) u v ≡ outcome m acc u v
   quotient-outcome {u} {v} l =
       let k : LassoValues m u v = lasso-values law l in
-      outcome-at (quotient-acc b) (quotient-has (k .start-has)) (quotient-has (k .cycle-has))
+      sym (outcome-started (quotient b) (quotient-acc b) u v)
+      ∙ outcome-at (quotient-acc b) (quotient-has (k .start-has)) (quotient-has (k .cycle-has))
       ∙ quotient-acc-number (k .start) (k .cycle) (k .start-inside) (k .cycle-inside)
-      ∙ sym (outcome-at acc (k .start-has) (k .cycle-has))
+      ∙ sym (values-outcome acc k)
 
   -- a rival whose values decide the outcomes of lassos decides those of the blocks too
   pub quotient-factors : {rival : Morphism} → Factors m acc rival → Factors (quotient b) (quotient-acc b) rival

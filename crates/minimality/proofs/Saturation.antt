@@ -13,10 +13,11 @@ use Rattle.theory.specs.Rules.{Morphism, Lawful, Marking, level, marked, elemen
 use Rattle.theory.specs.Acceptance.{Accepts, Strong}
 use Rattle.theory.specs.Pairs.{Linked, LinkedOnly}
 use Rattle.theory.specs.Smallest.{LinkedAccepted, MarksAccepted}
+use Rattle.theory.proofs.Starts.{start-or-turn, first-value, same-started}
 use Rattle.theory.proofs.Strength.{settled-cycle, settled-start, Settled, settled-linked, settle}
 use Rattle.theory.proofs.Closure.{linked-test, linked-intro, linked-elim}
-use Rattle.minimality.proofs.Contexts.{HasValue, LassoValues, lasso-values}
-use Rattle.minimality.proofs.Smallest.{valueOutcome, outcome, outcome-at, elements-lasso}
+use Rattle.minimality.proofs.Contexts.{HasValue}
+use Rattle.minimality.proofs.Smallest.{valueOutcome, outcome, outcome-at, elements-lasso, LassoValues, lasso-values}
 
 -- lassos that write one endless word have one outcome
 pub record DependsOnWord (m : Morphism) (acc : ℕ → ℕ → ℕ) : Type 0 where
@@ -66,18 +67,19 @@ module _ {m : Morphism} (acc : ℕ → ℕ → ℕ) {g : ℕ} (some : 1 ≤ g) w
     outcome-accepted : {u v : List ℕ} → Lasso (m .letters) u v → g ≤ outcome m acc u v → Accepts m (level g (saturated m acc)) u v
     outcome-accepted {u} {v} l h =
         let k : LassoValues m u v = lasso-values law l in
-        let t : Settled m u v (k .start) (k .cycle) = settle law (l .start-over) (l .cycle-over) (k .start-has .is) (k .cycle-has .is) in
+        let t : Settled m (start-or-turn u v) v (k .start) (k .cycle) = settle law (k .start-has .over) (l .cycle-over) (k .start-has .is) (k .cycle-has .is) in
+        let same : (i : ℕ) → endless (t .start) (t .cycle) i ≡ endless u v i = λ i. t .same i ∙ same-started u v (l .cycle-some) i in
         let p : HasValue m (t .start) (element (settled-start m (k .start) (k .cycle))) = record { over = t .start-over; is = t .start-value } in
         let w : HasValue m (t .cycle) (element (settled-cycle m (k .cycle))) = record { over = t .cycle-over; is = t .cycle-value } in
         let e : outcome m acc u v ≡ acc (settled-start m (k .start) (k .cycle)) (settled-cycle m (k .cycle)) =
-        sym (depends .same-outcome _ _ _ _ (elements-lasso p w) l (t .same)) ∙ outcome-at acc p w in
+        sym (depends .same-outcome _ _ _ _ (elements-lasso p w) l same) ∙ outcome-at acc p w in
         record {
           cycle-some = l .cycle-some;
           start = t .start;
           cycle = t .cycle;
           start-over = t .start-over;
           cycle-over = t .cycle-over;
-          same = t .same;
+          same = same;
           start-element = settled-start m (k .start) (k .cycle);
           cycle-element = settled-cycle m (k .cycle);
           start-value = t .start-value;
@@ -93,7 +95,7 @@ module _ {m : Morphism} (acc : ℕ → ℕ → ℕ) {g : ℕ} (some : 1 ≤ g) w
         → Accepts m (level g (saturated m acc)) u v → Accepts m (level g (saturated m acc)) u′ v′
     unfolding outcome
     one-way l l′ eu ev a =
-        outcome-accepted l′ (subst (λ n. g ≤ n) (ap₂ (valueOutcome acc) eu ev) (accepted-outcome l a))
+        outcome-accepted l′ (subst (λ n. g ≤ n) (ap₂ (λ x y. valueOutcome acc (first-value x y) y) eu ev) (accepted-outcome l a))
 
     -- the marking is strong
     pub saturated-strong : Strong m (level g (saturated m acc))

@@ -15,6 +15,7 @@ use Rattle.theory.specs.Words.{Over, over-nil, over-cons, Lasso}
 use Rattle.theory.specs.Rules.{Morphism, Lawful, Value, none, element, join, value, AllReached}
 use Rattle.theory.specs.Smallest.{Renumbered}
 use Rattle.theory.proofs.Values.{inside-element, element-apart, element-same, join-elements, value-append, Element, value-element}
+use Rattle.theory.proofs.Starts.{start-or-turn, first-value, first-value-again, value-started, lasso-started, started-values}
 use Rattle.minimality.specs.Rounds.{SameOutcomes}
 use Rattle.minimality.proofs.Contexts.{around, Indistinct, HasValue, ValueWord, value-word, has-append, has-around}
 
@@ -24,9 +25,15 @@ valueOutcome acc none y = 0
 valueOutcome acc (element s) none = 0
 valueOutcome acc (element s) (element t) = acc s t
 
--- the outcome of a lasso
+-- the outcome of a lasso; where its start is empty the first turn of its cycle stands for it
 unfoldable pub outcome : Morphism → (ℕ → ℕ → ℕ) → List ℕ → List ℕ → ℕ
-outcome m acc u v = valueOutcome acc (value m u) (value m v)
+outcome m acc u v = valueOutcome acc (first-value (value m u) (value m v)) (value m v)
+
+pub outcome-started : (m : Morphism) (acc : ℕ → ℕ → ℕ) (u v : List ℕ) → outcome m acc (start-or-turn u v) v ≡ outcome m acc u v
+unfolding outcome
+outcome-started m acc u v =
+    ap (λ x. valueOutcome acc x (value m v))
+    (ap (λ x. first-value x (value m v)) (value-started m u v) ∙ first-value-again (value m u) (value m v))
 
 -- lassos with equal values in the rival have equal outcomes
 pub record Factors (m : Morphism) (acc : ℕ → ℕ → ℕ) (rival : Morphism) : Type 0 where
@@ -39,8 +46,33 @@ pub record Syntactic (m : Morphism) (acc : ℕ → ℕ → ℕ) : Type 0 where
 
 pub outcome-at : {m : Morphism} (acc : ℕ → ℕ → ℕ) {u v : List ℕ} {s t : ℕ} → HasValue m u (element s) → HasValue m v (element t)
     → outcome m acc u v ≡ acc s t
-unfolding outcome valueOutcome
-outcome-at acc p q = ap₂ (valueOutcome acc) (p .is) (q .is)
+unfolding outcome valueOutcome first-value
+outcome-at acc p q = ap₂ (λ x y. valueOutcome acc (first-value x y) y) (p .is) (q .is)
+
+-- the values of a lasso's two words, of the cycle twice where the start is empty
+pub record LassoValues (m : Morphism) (u v : List ℕ) : Type 0 where
+  pub start : ℕ
+  pub cycle : ℕ
+  pub start-inside : start < m .size
+  pub cycle-inside : cycle < m .size
+  pub start-has : HasValue m (start-or-turn u v) (element start)
+  pub cycle-has : HasValue m v (element cycle)
+
+pub lasso-values : {m : Morphism} {u v : List ℕ} → Lawful m → Lasso (m .letters) u v → LassoValues m u v
+lasso-values {m} {u} {v} law l =
+    let k = started-values law l in
+    record {
+      start = k .start .the;
+      cycle = k .cycle .the;
+      start-inside = k .start .inside;
+      cycle-inside = k .cycle .inside;
+      start-has = record { over = lasso-started l .start-over; is = k .start .is };
+      cycle-has = record { over = l .cycle-over; is = k .cycle .is };
+    }
+
+-- they decide the outcome
+pub values-outcome : {m : Morphism} (acc : ℕ → ℕ → ℕ) {u v : List ℕ} (k : LassoValues m u v) → outcome m acc u v ≡ acc (k .start) (k .cycle)
+values-outcome {m} acc {u} {v} k = sym (outcome-started m acc u v) ∙ outcome-at acc (k .start-has) (k .cycle-has)
 
 -- a word with an element for its value is not empty
 pub word-some : {m : Morphism} {w : List ℕ} {s : ℕ} → HasValue m w (element s) → 0 < length w
@@ -52,7 +84,6 @@ pub elements-lasso : {m : Morphism} {u v : List ℕ} {s t : ℕ} → HasValue m 
 elements-lasso p q = record {
   start-over = p .over;
   cycle-over = q .over;
-  start-some = word-some p;
   cycle-some = word-some q;
 }
 

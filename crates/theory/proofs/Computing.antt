@@ -27,7 +27,7 @@ use Rattle.theory.proofs.Comparison.{same-state, search-starts, next-un
 use Rattle.theory.proofs.Included.{included-test, strong-test}
 use Rattle.theory.proofs.TableTests.{implies, all-pairs, closed-test, associates, associative-test, images-test, lawful-test, linked-only-test, only-pair, conjugate-test, no-less, least-test, linked-count, own-least, class-count}
 
--- the word has letters below k only, and the lasso's words are not empty
+-- the word has letters below k only, and the lasso's cycle is not empty
 unfoldable pub over-test : ℕ → List ℕ → Bool
 over-test k [] = true
 over-test k (a ∷ w) = ltb a k && over-test k w
@@ -38,18 +38,16 @@ over-elim k [] t = over-nil
 over-elim k (a ∷ w) t = over-cons (ltb-yes (T-and-left (ltb a k) _ t)) (over-elim k w (T-and-right (ltb a k) _ t))
 
 unfoldable pub lasso-test : ℕ → List ℕ → List ℕ → Bool
-lasso-test k u v = (over-test k u && over-test k v) && (ltb 0 (length u) && ltb 0 (length v))
+lasso-test k u v = (over-test k u && over-test k v) && ltb 0 (length v)
 
 pub lasso-elim : (k : ℕ) (u v : List ℕ) → T (lasso-test k u v) → Lasso k u v
 unfolding lasso-test
 lasso-elim k u v t =
     let o = T-and-left (over-test k u && over-test k v) _ t in
-    let s = T-and-right (over-test k u && over-test k v) _ t in
     record {
       start-over = over-elim k u (T-and-left (over-test k u) _ o);
       cycle-over = over-elim k v (T-and-right (over-test k u) _ o);
-      start-some = ltb-yes (T-and-left (ltb 0 (length u)) _ s);
-      cycle-some = ltb-yes (T-and-right (ltb 0 (length u)) _ s);
+      cycle-some = ltb-yes (T-and-right (over-test k u && over-test k v) _ t);
     }
 
 -- opens all of these

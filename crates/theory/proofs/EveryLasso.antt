@@ -10,7 +10,8 @@ use Rattle.theory.specs.Words.{Lasso}
 use Rattle.theory.specs.Rules.{Morphism, Lawful, Pairs, Rule, level, marked}
 use Rattle.theory.specs.Acceptance.{Accepts, Strong, RuleStrong}
 use Rattle.theory.specs.Smallest.{SameLassos}
-use Rattle.theory.proofs.Values.{value-element}
+use Rattle.theory.proofs.Starts.{lasso-started, started-values}
+use Rattle.theory.proofs.Strength.{started-accepts}
 use Rattle.theory.proofs.Closure.{acceptance, strong-acceptance}
 use Rattle.theory.proofs.Included.{marked-accepted}
 use Rattle.theory.proofs.TableTests.{all-pairs, all-pairs-elim}
@@ -44,10 +45,12 @@ every-elim {m} {P} k strong t = record { accepted = go }
   where
     go : (u v : List ℕ) → Lasso (m .letters) u v → Accepts m P u v
     go u v l =
-        let s = value-element (k .lawful) (l .start-over) (l .start-some) in
-        let z = value-element (k .lawful) (l .cycle-over) (l .cycle-some) in
-        strong-acceptance (k .lawful) (k .reached) (k .linked) strong (l .start-over) (l .cycle-over) (s .is) (z .is) .1
-        (leb→le 1 (acceptance m P (s .the) (z .the)) (all-pairs-elim (m .size) (λ s z. leb 1 (acceptance m P s z)) t (s .the) (z .the) (s .inside) (z .inside)))
+        let values = started-values (k .lawful) l in
+        let s = values .start in
+        let z = values .cycle in
+        started-accepts u v (l .cycle-some) .0
+        (strong-acceptance (k .lawful) (k .reached) (k .linked) strong (lasso-started l .start-over) (l .cycle-over) (s .is) (z .is) .1
+        (leb→le 1 (acceptance m P (s .the) (z .the)) (all-pairs-elim (m .size) (λ s z. leb 1 (acceptance m P s z)) t (s .the) (z .the) (s .inside) (z .inside))))
 
 -- the rule of one element over k letters, its pair marked
 abbrev pub one : ℕ → Morphism
@@ -62,8 +65,10 @@ one-rule k = record { morphism = one k; lawful = one-lawful k; marks = λ s e. 1
 pub one-every : (k : ℕ) → AcceptsEvery (one k) (marked (one-rule k .marks))
 unfolding marked level
 one-every k = record {
-  accepted = λ u v l. marked-accepted (l .start-over) (l .cycle-over) (value-element (one-lawful k) (l .start-over) (l .start-some) .is)
-      (value-element (one-lawful k) (l .cycle-over) (l .cycle-some) .is) tt;
+  accepted = λ u v l.
+      (let values = started-values (one-lawful k) l in
+      started-accepts u v (l .cycle-some) .0
+      (marked-accepted (lasso-started l .start-over) (l .cycle-over) (values .start .is) (values .cycle .is) tt));
 }
 
 pub one-strong : (k : ℕ) → RuleStrong (one-rule k)

@@ -132,6 +132,7 @@ pub W-long-witness : Witness W (marks first-mark) (marks no-marks) (0 ∷ 0 ∷ 
 unfolding computing
 W-long-witness = record {
   lasso = lasso-elim 2 (0 ∷ 0 ∷ []) (0 ∷ 0 ∷ 0 ∷ 0 ∷ 0 ∷ 0 ∷ 0 ∷ 0 ∷ []) tt;
+  start-some = omega arith;
   start-short = omega arith;
   cycle-short = omega arith;
   accepted-first = accepts-by (W-sound .lawful) (W-sound .linked) (0 ∷ 0 ∷ []) (0 ∷ 0 ∷ 0 ∷ 0 ∷ 0 ∷ 0 ∷ 0 ∷ 0 ∷ []) tt tt;

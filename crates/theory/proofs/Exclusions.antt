@@ -6,11 +6,11 @@ use mathlib.Core.List.{List, [], _∷_}
 use native.Mathlib.Omega.{arith}
 use lib.Dec.{T}
 use Rattle.theory.specs.Words.{Over, over-cons, Lasso}
-use Rattle.theory.specs.Rules.{Morphism, Lawful, Pairs, level, marked, WordOf, AllReached, join, value}
+use Rattle.theory.specs.Rules.{Morphism, Lawful, Pairs, level, marked, Value, none, element, join, value, WordOf, AllReached}
 use Rattle.theory.specs.Acceptance.{Accepts}
 use Rattle.theory.specs.Pairs.{Idempotent, power, HasIdempotentPower, LeastExponent, TurnsOf, Linked, LinkedOnly, Conjugate, LeastConjugate, Counted, counted-none, counted-one, counted-other, ClassCounts}
 use Rattle.theory.specs.Inclusion.{Included, Witness}
-use Rattle.theory.proofs.Values.{element-same}
+use Rattle.theory.proofs.Values.{element-same, element-apart}
 use Rattle.theory.proofs.IdempotentPowers.{one-turns}
 use Rattle.theory.proofs.ShortWords.{reached-intro}
 use Rattle.theory.proofs.TableTests.{conjugate-intro, least-intro, least-elim, counted-same}
@@ -54,10 +54,22 @@ pub not-marked : ¬ T (marks first-mark 0 1)
 unfolding computing
 not-marked t = t
 
--- no lasso: an empty start, an empty cycle, a foreign letter
-pub empty-start : {k : ℕ} {v : List ℕ} → ¬ Lasso k [] v
-empty-start l = omega (arith, l .start-some)
+-- a start may be empty
+pub empty-start : Lasso 2 [] (0 ∷ [])
+unfolding computing
+empty-start = lasso-elim 2 [] (0 ∷ []) tt
 
+-- an empty start and another never have equal values
+not-none : (m : Morphism) (s : ℕ) (x : Value) → ¬ (join m (element s) x ≡ none)
+unfolding join
+not-none m s none = element-apart
+not-none m s (element t) = element-apart
+
+pub empty-apart : (m : Morphism) (a : ℕ) (w : List ℕ) → ¬ (value m (a ∷ w) ≡ value m [])
+unfolding value
+empty-apart m a w = not-none m (m .image a) (value m w)
+
+-- no lasso: an empty cycle, a foreign letter
 pub empty-cycle : {k : ℕ} {u : List ℕ} → ¬ Lasso k u []
 empty-cycle l = omega (arith, l .cycle-some)
 
@@ -118,9 +130,12 @@ pub not-included : ¬ Included W (marks first-mark) (marks no-marks)
 unfolding computing
 not-included i = no-marks-refuse (i .accepted-too (1 ∷ []) (0 ∷ []) (lasso-elim 2 (1 ∷ []) (0 ∷ []) tt) W-accepts)
 
--- a witness of W has at most 8 letters in its cycle and at most 2 in its start
+-- a witness of W has at most 8 letters in its cycle, and one or two in its start
 pub cycle-too-long : {P P′ : Pairs} {u : List ℕ} → ¬ Witness W P P′ u (0 ∷ 0 ∷ 0 ∷ 0 ∷ 0 ∷ 0 ∷ 0 ∷ 0 ∷ 0 ∷ [])
 cycle-too-long w = omega (arith, w .cycle-short)
+
+pub witness-no-start : {P P′ : Pairs} {v : List ℕ} → ¬ Witness W P P′ [] v
+witness-no-start w = omega (arith, w .start-some)
 
 pub start-too-long : {P P′ : Pairs} {v : List ℕ} → ¬ Witness W P P′ (0 ∷ 0 ∷ 0 ∷ []) v
 start-too-long w = omega (arith, w .start-short)
@@ -134,12 +149,12 @@ refused-first w = W-refuses (w .accepted-first)
 
 -- where no element is its own square, which is no associative table, 0 has no idempotent power
 pub no-idempotent-power : ¬ HasIdempotentPower (table ((1 ∷ 0 ∷ []) ∷ (1 ∷ 0 ∷ []) ∷ []) (0 ∷ [])) 0
-no-idempotent-power p = none _ (p .idempotent)
+no-idempotent-power p = no-square _ (p .idempotent)
   where
-    none : (e : ℕ) → Idempotent (table ((1 ∷ 0 ∷ []) ∷ (1 ∷ 0 ∷ []) ∷ []) (0 ∷ [])) e → ⊥
-    none zero i = omega (arith, i .square)
-    none (suc zero) i = omega (arith, i .square)
-    none (suc (suc e)) i = omega (arith, i .inside)
+    no-square : (e : ℕ) → Idempotent (table ((1 ∷ 0 ∷ []) ∷ (1 ∷ 0 ∷ []) ∷ []) (0 ∷ [])) e → ⊥
+    no-square zero i = omega (arith, i .square)
+    no-square (suc zero) i = omega (arith, i .square)
+    no-square (suc (suc e)) i = omega (arith, i .inside)
 
 -- in Z's table 1·1 is 0 and 0·0 is 0: the letter 0, of image 1, settles with two turns, and not with one; the letter 1, of image 0, with one,
 -- and not with two

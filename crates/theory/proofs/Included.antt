@@ -93,6 +93,7 @@ module _ {m : Morphism} (law : Lawful m) {P P′ : Pairs} (linked : LinkedOnly m
       let e = v .escapes in
       record {
         lasso = lasso-of m (u .over) (e .over) (u .its-value) (e .cycle-value);
+        start-some = omega (arith, value-some m (u .word) s (u .its-value));
         start-short = omega (arith, u .short);
         cycle-short = omega (arith, v .short);
         accepted-first = marked-accepted (u .over) (e .over) (u .its-value) (e .cycle-value) (e .is-marked);

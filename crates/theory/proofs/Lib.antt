@@ -1,6 +1,7 @@
 pub mod Words
 pub mod Periods
 pub mod Values
+pub mod Starts
 pub mod Powers
 pub mod Conjugacy
 pub mod IdempotentPowers

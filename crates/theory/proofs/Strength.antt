@@ -3,6 +3,7 @@
 -- all such lassos are accepted; and acceptance under a strong marking is one look in the closure. Assumes nothing.
 use Prim.Native.Nat.{ℕ, suc, _<_}
 use mathlib.Core.Path.{_≡_, sym, ap, _∙_}
+use mathlib.Core.Logic.{_↔_}
 use mathlib.Core.List.{List, _++_}
 use native.Mathlib.Omega.{arith}
 use lib.ListN.{length}
@@ -13,7 +14,8 @@ use Rattle.theory.specs.Acceptance.{Accepts, Strong}
 use Rattle.theory.specs.Pairs.{LinkedOnly, Linked, Conjugate}
 use Rattle.theory.proofs.Words.{over-append, repeat, repeat-over}
 use Rattle.theory.proofs.Periods.{same-turned, same-unrolled-repeated}
-use Rattle.theory.proofs.Values.{join-elements, value-append, value-element, value-some, inside-of}
+use Rattle.theory.proofs.Values.{join-elements, value-append, value-some, inside-of}
+use Rattle.theory.proofs.Starts.{start-or-turn, lasso-started, same-started, equal-started, started-values}
 use Rattle.theory.proofs.Powers.{times-power, idempotent-of, idempotent-square, idempotent-inside, settling}
 use Rattle.theory.proofs.Conjugacy.{semigroup}
 use Rattle.theory.proofs.Cuts.{value-repeat, value-then-repeat}
@@ -42,6 +44,10 @@ accepts-same some same a = record {
   is-marked = a .is-marked;
 }
 
+-- with a turn of its cycle for an empty start a lasso is accepted exactly if it was
+pub started-accepts : {m : Morphism} {P : Pairs} (u v : List ℕ) → 0 < length v → Accepts m P (start-or-turn u v) v ↔ Accepts m P u v
+started-accepts u v some = (accepts-same some (same-started u v some), accepts-same some (λ i. sym (same-started u v some i)))
+
 -- an accepted lasso with the values (s, e)
 pub record AcceptedLasso (m : Morphism) (P : Pairs) (s e : ℕ) : Type 0 where
   pub start : List ℕ
@@ -53,7 +59,7 @@ pub record AcceptedLasso (m : Morphism) (P : Pairs) (s e : ℕ) : Type 0 where
 
 -- a lasso of words whose values are elements
 pub lasso-of : (m : Morphism) {u v : List ℕ} {s e : ℕ} → Over (m .letters) u → Over (m .letters) v → value m u ≡ element s → value m v ≡ element e → Lasso (m .letters) u v
-lasso-of m {u} {v} {s} {e} ou ov eu ev = record { start-over = ou; cycle-over = ov; start-some = value-some m u s eu; cycle-some = value-some m v e ev }
+lasso-of m {u} {v} {s} {e} ou ov eu ev = record { start-over = ou; cycle-over = ov; cycle-some = value-some m v e ev }
 
 module _ {m : Morphism} (law : Lawful m) where
   -- the value of two words whose values are elements
@@ -190,10 +196,12 @@ module _ {m : Morphism} (law : Lawful m) {P : Pairs} (linked : LinkedOnly m P) w
   one-way : AllAccepted m P → {u v u′ v′ : List ℕ} → Lasso (m .letters) u v → Lasso (m .letters) u′ v′
       → value m u ≡ value m u′ → value m v ≡ value m v′ → Accepts m P u v → Accepts m P u′ v′
   one-way all {u} {v} {u′} {v′} k k′ eu ev a =
-      let s = value-element law (k .start-over) (k .start-some) in
-      let z = value-element law (k .cycle-over) (k .cycle-some) in
-      settled-accepted all (k′ .start-over) (k′ .cycle-over) (sym eu ∙ s .is) (sym ev ∙ z .is)
-      (accepted-settled (k .start-over) (k .cycle-over) (s .is) (z .is) a)
+      let l = lasso-started k in
+      let l′ = lasso-started k′ in
+      let values = started-values law k in
+      started-accepts u′ v′ (k′ .cycle-some) .0
+      (settled-accepted all (l′ .start-over) (l′ .cycle-over) (sym (equal-started m u v u′ v′ eu ev) ∙ values .start .is) (sym ev ∙ values .cycle .is)
+      (accepted-settled (l .start-over) (l .cycle-over) (values .start .is) (values .cycle .is) (started-accepts u v (k .cycle-some) .1 a)))
 
   -- where they all are, the marking is strong
   pub all-strong : AllAccepted m P → Strong m P

@@ -1,4 +1,4 @@
--- Which lassos a rule accepts, and when it is strong. Document 01, "What a rule means". Assumes nothing.
+-- Which lassos a rule accepts, and when it is strong. Document 01, "What a rule means"; document 02, Job 4. Assumes nothing.
 use Prim.Native.Nat.{ℕ, _<_}
 use mathlib.Core.Path.{_≡_}
 use mathlib.Core.Logic.{_↔_}
@@ -9,7 +9,8 @@ use Rattle.theory.specs.Words.{Over, Lasso, endless}
 use Rattle.theory.specs.Rules.{Morphism, Pairs, Rule, element, value, marked}
 
 -- "A rule accepts it if the same endless word can also be written as p followed by w for ever, p and w non-empty, with
--- (value of p, value of w) marked." A word whose value is an element is not empty. Nothing is accepted with no cycle.
+-- (value of p, value of w) marked." A word whose value is an element is not empty. Nothing is accepted with no cycle. For an
+-- empty u "acceptance is defined as before" (Job 4): p is not empty there either.
 pub record Accepts (m : Morphism) (P : Pairs) (u v : List ℕ) : Type 0 where
   pub cycle-some : 0 < length v
   pub start : List ℕ
@@ -24,7 +25,8 @@ pub record Accepts (m : Morphism) (P : Pairs) (u v : List ℕ) : Type 0 where
   pub is-marked : T (P start-element cycle-element)
 
 -- "The rule is strong if any two lassos whose starts have equal values and whose cycles have equal values are both
--- accepted or both not." Lassos of every length count.
+-- accepted or both not." Lassos of every length count; "Strong and smallest count such lassos too, two empty starts being equal in
+-- value" (Job 4): the value of an empty start is none, and that of any other start is an element.
 pub record Strong (m : Morphism) (P : Pairs) : Type 0 where
   pub both-or-neither : (u v u′ v′ : List ℕ) → Lasso (m .letters) u v → Lasso (m .letters) u′ v′
       → value m u ≡ value m u′ → value m v ≡ value m v′ → Accepts m P u v ↔ Accepts m P u′ v′

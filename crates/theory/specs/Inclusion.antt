@@ -1,5 +1,5 @@
--- Two markings of one table compared. Document 01, "Inclusion". Assumes nothing.
-use Prim.Native.Nat.{ℕ, _+_, _*_, _-_, _≤_}
+-- Two markings of one table compared. Document 01, "Inclusion"; document 02, Job 4. Assumes nothing.
+use Prim.Native.Nat.{ℕ, _+_, _*_, _-_, _≤_, _<_}
 use mathlib.Core.List.{List}
 use lib.ListN.{length}
 use Rattle.theory.specs.Words.{Lasso}
@@ -10,9 +10,11 @@ use Rattle.theory.specs.Acceptance.{Accepts}
 pub record Included (m : Morphism) (P P′ : Pairs) : Type 0 where
   pub accepted-too : (u v : List ℕ) → Lasso (m .letters) u v → Accepts m P u v → Accepts m P′ u v
 
--- "u of at most n letters and v of at most (n+1)·(n+1) − 1 letters, accepted under the first and not under the second"
+-- "u of at most n letters and v of at most (n+1)·(n+1) − 1 letters, accepted under the first and not under the second"; "The u
+-- found by inclusion still has a letter or more" (Job 4)
 pub record Witness (m : Morphism) (P P′ : Pairs) (u v : List ℕ) : Type 0 where
   pub lasso : Lasso (m .letters) u v
+  pub start-some : 0 < length u
   pub start-short : length u ≤ m .size
   pub cycle-short : length v ≤ (m .size + 1) * (m .size + 1) - 1
   pub accepted-first : Accepts m P u v

@@ -1,5 +1,5 @@
 -- Same lassos, the smallest rule, measured against every rule of any finite size (document 01, "Demand 3 measures the
--- reduction .."), reduction and complement. Assumes nothing.
+-- reduction .."), reduction and complement. Lassos with an empty start count (document 02, Job 4). Assumes nothing.
 use Prim.Native.Nat.{ℕ, _≤_, _<_}
 use mathlib.Core.Path.{_≡_}
 use mathlib.Core.Logic.{_↔_}
