@@ -23,6 +23,7 @@ pub mod Associating
 pub mod Computing
 pub mod SmallRules
 pub mod EveryLasso
+pub mod EmptyStarts
 pub mod Examples
 pub mod Exclusions
 pub mod RivalExclusions
