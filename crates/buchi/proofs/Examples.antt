@@ -7,7 +7,9 @@ use mathlib.Core.List.{List, [], _∷_}
 use native.Mathlib.Omega.{arith}
 use lib.Dec.{eqb}
 use mir.Facts.{eqb-yes}
+use Rattle.theory.proofs.Periods.{same-cycle}
 use Rattle.buchi.specs.Automata.{Automaton, Run, AcceptingRun, AcceptedBy}
+use Rattle.buchi.proofs.LassoRuns.{accepted-same}
 use Rattle.buchi.proofs.MatrixTests.{run-test-intro, run-test-elim}
 use Rattle.buchi.proofs.Computing.{testing}
 
@@ -41,3 +43,14 @@ M10-accepts = run-test-elim M10 (1 ∷ []) (0 ∷ []) 1 (omega arith) (omega ari
 pub M10-refuses : ¬ AcceptedBy M10 (0 ∷ []) (1 ∷ [])
 unfolding testing
 M10-refuses k = run-test-intro M10 (0 ∷ []) (1 ∷ []) 1 (omega arith) (omega arith) (omega arith) tt k
+
+-- with an empty start: 0 for ever is accepted, and 1 for ever is not
+pub M10-accepts-cycle : AcceptedBy M10 [] (0 ∷ [])
+unfolding testing
+M10-accepts-cycle =
+    accepted-same (same-cycle (0 ∷ []) (omega arith)) (run-test-elim M10 (0 ∷ []) (0 ∷ []) 1 (omega arith) (omega arith) (omega arith) tt tt)
+
+pub M10-refuses-cycle : ¬ AcceptedBy M10 [] (1 ∷ [])
+unfolding testing
+M10-refuses-cycle k =
+    run-test-intro M10 (1 ∷ []) (1 ∷ []) 1 (omega arith) (omega arith) (omega arith) tt (accepted-same (λ i. sym (same-cycle (1 ∷ []) (omega arith) i)) k)

@@ -38,6 +38,15 @@ pub W-refuses : ¬ RuleAccepts W-rule (0 ∷ []) (1 ∷ [])
 unfolding computing
 W-refuses = refuses-by (W-sound .lawful) (W-sound .linked) (0 ∷ []) (1 ∷ []) tt (λ t. t)
 
+-- with an empty start: W accepts 0 for ever, and not 1 for ever
+pub W-accepts-cycle : RuleAccepts W-rule [] (0 ∷ [])
+unfolding computing
+W-accepts-cycle = accepts-by (W-sound .lawful) (W-sound .linked) [] (0 ∷ []) tt tt
+
+pub W-refuses-cycle : ¬ RuleAccepts W-rule [] (1 ∷ [])
+unfolding computing
+W-refuses-cycle = refuses-by (W-sound .lawful) (W-sound .linked) [] (1 ∷ []) tt (λ t. t)
+
 -- M4: W with its three linked pairs marked is strong and accepts every lasso, as the rule of one element does
 pub W-all-strong : RuleStrong W-all
 unfolding computing
@@ -73,6 +82,11 @@ Z-refuses = refuses-by (Z-sound .lawful) (Z-sound .linked) (0 ∷ []) (1 ∷ [])
 pub Z-conjugate : Conjugate Z 1 0 0 0
 unfolding computing
 Z-conjugate = conjugate-elim (Z-sound .lawful) 1 0 0 0 tt
+
+-- with an empty start: Z accepts 1 for ever
+pub Z-accepts-cycle : RuleAccepts Z-rule [] (1 ∷ [])
+unfolding computing
+Z-accepts-cycle = accepts-by (Z-sound .lawful) (Z-sound .linked) [] (1 ∷ []) tt tt
 
 -- M6: Z accepts 0 and then 0 0 for ever, and the values are the same
 pub Z-accepts : RuleAccepts Z-rule (0 ∷ []) (0 ∷ 0 ∷ [])
