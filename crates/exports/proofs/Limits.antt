@@ -110,7 +110,7 @@ second-limited rule bytes =
     (λ _. marks-limited 2 (morphismOf rule) bytes 0 0 (twoBytes bytes 0) (omega arith) (omega arith)))
 
 -- a word whose length passed
-word-short : {input : ℕ} {w : List ℕ} {place : ℕ} → ((p : ℕ) → LengthOutAt w p → ⊥) → input ≤ 2 → place < length w → Near input place
+word-short : {input shortest : ℕ} {w : List ℕ} {place : ℕ} → ((p : ℕ) → LengthOutAt shortest w p → ⊥) → input ≤ 2 → place < length w → Near input place
 word-short {w = w} passes known l =
     let h : longestWord < length w → ⊥ = λ g. passes 0 (record { outside = inr g; is-place = refl }) in
     near known (omega arith)
@@ -118,7 +118,7 @@ word-short {w = w} passes known l =
 -- 11 and 10 of u and v
 pub lasso-limited : (k : ℕ) (u v : List ℕ) → Limited Near (lassoChecks k u v)
 lasso-limited k u v =
-    limited-cons (λ place (f : LengthOutAt u place). at-zero (f .is-place))
-    (λ pu. limited-cons (λ place (f : LengthOutAt v place). near (omega arith) (omega (arith, f .is-place)))
+    limited-cons (λ place (f : LengthOutAt _ u place). at-zero (f .is-place))
+    (λ pu. limited-cons (λ place (f : LengthOutAt _ v place). near (omega arith) (omega (arith, f .is-place)))
     (λ pv. limited-cons (λ place (f : UnknownLetterAt k u place). word-short (pu .nowhere) (omega arith) (f .inside))
     (λ _. limited-cons (λ place (f : UnknownLetterAt k v place). word-short (pv .nowhere) (omega arith) (f .inside)) (λ _. limited-nil))))

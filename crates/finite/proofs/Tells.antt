@@ -2,6 +2,7 @@
 use Prim.Native.Nat.{ℕ}
 use mathlib.Core.Path.{_≡_, refl}
 use mathlib.Core.Bool.{Bool, true, false}
+use mathlib.Core.Logic.{_↔_}
 use native.Mathlib.Omega.{arith}
 use Rattle.finite.specs.Tells.{Tells}
 
@@ -16,3 +17,7 @@ one-telling true true p q = refl
 one-telling false false p q = refl
 one-telling true false p q = absurd (q .fails refl (p .holds refl))
 one-telling false true p q = absurd (p .fails refl (q .holds refl))
+
+-- facts that hold together are told by one answer
+pub tells-same : {P Q : Type 0} {answer : Bool} → P ↔ Q → Tells P answer → Tells Q answer
+tells-same w t = record { holds = λ e. w .0 (t .holds e); fails = λ e q. t .fails e (w .1 q) }

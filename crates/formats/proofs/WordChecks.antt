@@ -4,10 +4,10 @@ use mathlib.Core.List.{List}
 use native.Mathlib.Omega.{arith}
 use Rattle.answer.specs.declared.Refusal.the-variants.{UnknownLetter, WordLength}
 use Rattle.answer.proofs.Order.{Single, AllSingle, single-nil, single-at, single-cons}
-use Rattle.formats.specs.WordChecks.{LengthOutAt, UnknownLetterAt, lassoChecks}
+use Rattle.formats.specs.WordChecks.{shortestStart, shortestCycle, LengthOutAt, UnknownLetterAt, lassoChecks}
 
-length-single : (input : ℕ) (w : List ℕ) → Single (record { refusal = WordLength; input = input; Fails = LengthOutAt w })
-length-single input w = single-at (λ place a. a .is-place)
+length-single : (input shortest : ℕ) (w : List ℕ) → Single (record { refusal = WordLength; input = input; Fails = LengthOutAt shortest w })
+length-single input shortest w = single-at (λ place a. a .is-place)
 
 foreign-single : (input k : ℕ) (w : List ℕ) → Single (record { refusal = UnknownLetter; input = input; Fails = UnknownLetterAt k w })
 foreign-single input k w = record {
@@ -20,4 +20,4 @@ foreign-single input k w = record {
 -- each check fails at one place at most
 pub lasso-single : (k : ℕ) (u v : List ℕ) → AllSingle (lassoChecks k u v)
 lasso-single k u v =
-    single-cons (length-single 1 u) (single-cons (length-single 2 v) (single-cons (foreign-single 1 k u) (single-cons (foreign-single 2 k v) single-nil)))
+    single-cons (length-single 1 shortestStart u) (single-cons (length-single 2 shortestCycle v) (single-cons (foreign-single 1 k u) (single-cons (foreign-single 2 k v) single-nil)))

@@ -2,7 +2,7 @@
 use Prim.Native.Nat.{ℕ, _≤_, _<_}
 use mathlib.Core.Path.{_≡_, refl, sym, ap, _∙_, subst}
 use mathlib.Core.Bool.{Bool}
-use mathlib.Core.List.{List}
+use mathlib.Core.List.{List, [], _∷_}
 use native.Mathlib.Omega.{arith}
 use lib.ListN.{length, replicate}
 use lib.Dec.{leb}
@@ -10,12 +10,15 @@ use Rattle.answer.specs.declared.Refusal.{Refusal}
 use Rattle.answer.specs.Checks.{passed, refused, FirstFailure}
 use Rattle.answer.proofs.Order.{refused-before, passed-before}
 use Rattle.finite.specs.Tells.{Tells}
-use Rattle.theory.specs.Rules.{Morphism, Lawful, marked, level, element, value}
+use Rattle.finite.proofs.Tells.{tells-same}
+use Rattle.theory.specs.Rules.{Morphism, Lawful, Pairs, marked, level, element, value}
 use Rattle.theory.specs.Acceptance.{Accepts}
 use Rattle.theory.specs.Pairs.{LinkedOnly, LeastPower, TurnsOf}
 use Rattle.theory.proofs.Words.{over-from}
 use Rattle.theory.proofs.Values.{inside-of}
+use Rattle.theory.proofs.Starts.{start-or-turn, turn-of-empty, start-of-some}
 use Rattle.theory.proofs.Membership.{accepts-test}
+use Rattle.theory.proofs.Strength.{started-accepts}
 use Rattle.rule_table.specs.Table.{Table}
 use Rattle.formats.specs.Table.{morphismAt}
 use Rattle.formats.specs.RuleFile.{lettersOf, pairsOf}
@@ -28,7 +31,7 @@ use Rattle.rule_check.specs.GoodRule.{GoodRule}
 use Rattle.rule_check.proofs.Calls.{scratch-long, called-good, zeros-left, checked-length, shape-morphism, shape-table}
 use Rattle.lasso_words.specs.declared.LassoFault.{LassoFault}
 use Rattle.lasso_words.specs.declared.LassoFault.the-variants.{Nothing, Refused as Lasso-refused}
-use Rattle.formats.specs.WordChecks.{lassoChecks}
+use Rattle.formats.specs.WordChecks.{shortestStart, shortestCycle, lassoChecks}
 use Rattle.lasso_words.specs.Answers.{GoodWord, GoodLasso, LassoAnswer}
 use Rattle.lasso_cuts.specs.WordValues.{CallWord}
 use Rattle.lasso_turns.specs.Cuts.{markedIn}
@@ -44,8 +47,25 @@ module _ (k : ℕ) (u v : List ℕ) (answer : LassoFault) (known : LassoAnswer k
   pub words-refused : {r : Refusal} {i place : ℕ} → answer ≡ Lasso-refused r i place → FirstFailure (lassoChecks k u v) (refused r i place)
   words-refused e = subst (LassoAnswer k u v) e known
 
-call-word : {k : ℕ} {w : List ℕ} → GoodWord k w → CallWord k w
-call-word {k} {w} g = record { over = over-from k w (g .letters); some = g .some; short = g .short }
+cycle-call : {k : ℕ} {w : List ℕ} → GoodWord shortestCycle k w → CallWord k w
+cycle-call {k} {w} g = record { over = over-from k w (g .letters); some = g .some; short = g .short }
+
+-- a turn of the cycle stands for an empty start
+start-call : {k : ℕ} (u : List ℕ) {v : List ℕ} → GoodWord shortestStart k u → GoodWord shortestCycle k v → CallWord k (start-or-turn u v)
+unfolding start-or-turn
+start-call [] gu gv = cycle-call gv
+start-call {k} (a ∷ u) gu gv = record { over = over-from k (a ∷ u) (gu .letters); some = omega arith; short = gu .short }
+
+-- the test with a turn of the cycle for an empty start
+module _ (m : Morphism) (P : Pairs) (u v : List ℕ) {b : Bool} where
+  pub turn-answer : length u < 1 → b ≡ accepts-test m P v v → b ≡ accepts-test m P (start-or-turn u v) v
+  turn-answer h e = e ∙ ap (λ x. accepts-test m P x v) (turn-of-empty u v h)
+
+  pub start-answer : 1 ≤ length u → b ≡ accepts-test m P u v → b ≡ accepts-test m P (start-or-turn u v) v
+  start-answer h e = e ∙ ap (λ x. accepts-test m P x v) (start-of-some u v h)
+
+pub start-itself : {k : ℕ} (u v : List ℕ) → 1 ≤ length u → CallWord k (start-or-turn u v) → CallWord k u
+start-itself {k} u v h w = subst (CallWord k) (sym (start-of-some u v h)) w
 
 module _ (bytes u v entry : List ℕ) where
   -- the rule is refused
@@ -90,11 +110,11 @@ module _ (bytes u v entry : List ℕ) where
     }
 
     module _ (g : GoodLasso (shape .letters) u v) where
-      pub start-word : CallWord (shape .letters) u
-      start-word = call-word (g .start)
+      pub start-word : CallWord (shape .letters) (start-or-turn u v)
+      start-word = start-call u (g .start) (g .cycle)
 
       pub cycle-word : CallWord (shape .letters) v
-      cycle-word = call-word (g .cycle)
+      cycle-word = cycle-call (g .cycle)
 
       words-passed : FirstFailure (lassoChecks (lettersOf bytes) u v) passed
       words-passed = subst (λ (k : ℕ). FirstFailure (lassoChecks k u v) passed) (p .scratch .shape-is .letters) (g .refusal)
@@ -104,7 +124,7 @@ module _ (bytes u v entry : List ℕ) where
       cycle-inside = inside-of lawful (cycle-word .over)
 
       -- the lasso is decided
-      pub decided : {b : Bool} {x e turns : ℕ} → b ≡ accepts-test (morphismAt bytes (shape .elements) (shape .letters)) (markedIn mid) u v
+      pub decided : {b : Bool} {x e turns : ℕ} → b ≡ accepts-test (morphismAt bytes (shape .elements) (shape .letters)) (markedIn mid) (start-or-turn u v) v
           → value (morphismAt bytes (shape .elements) (shape .letters)) v ≡ element x
           → LeastPower (morphismAt bytes (shape .elements) (shape .letters)) x e turns
           → (was exit : List ℕ) → length was ≡ length mid → exit ≡ replicate (length was) 0 → MemberPromise bytes u v entry exit (Decided b turns)
@@ -112,7 +132,7 @@ module _ (bytes u v entry : List ℕ) where
         refusal = passed-before _ _ (p .refusal) words-passed;
         answered = (
           subst (λ (m : Morphism). Tells (Accepts m (pairsOf bytes) u v) b) (shape-morphism (p .scratch .shape-is))
-              (accepted-told table lawful linked start-word cycle-word mid agrees answer),
+              (tells-same (started-accepts u v (cycle-word .some)) (accepted-told table lawful linked start-word cycle-word mid agrees answer)),
           subst (λ (m : Morphism). TurnsOf m v turns) (shape-morphism (p .scratch .shape-is))
               (record { cycle = x; cycle-value = cycle; turns-are = power .exponent-is }),
         );

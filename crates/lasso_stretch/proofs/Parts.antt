@@ -9,41 +9,41 @@ use lib.ListN.{length, take, drop}
 use denote.Ref.{RefT}
 use denote.Slice.{slice-vals}
 use Rattle.promises.specs.Stretch.{wordFits, unread, stretchOf, Pointer, unreadPlace, stretchPlace}
-use Rattle.formats.specs.WordChecks.{longestWord}
+use Rattle.formats.specs.WordChecks.{shortestStart, shortestCycle, longestWord}
 use Rattle.formats.proofs.SectionList.{rest-of}
 
--- a length that refusal 11 names
-pub data Unfit (w : List ℕ) : Type 0 where
-  empty : length w < 1 → Unfit w
-  long : longestWord < length w → Unfit w
+-- a length that refusal 11 names, for a word of at least `shortest` letters
+pub data Unfit (shortest : ℕ) (w : List ℕ) : Type 0 where
+  empty : length w < shortest → Unfit shortest w
+  long : longestWord < length w → Unfit shortest w
 
 and-false : (a : Bool) {b : Bool} → b ≡ false → a && b ≡ false
 and-false true e = e
 and-false false e = refl
 
-unfit : {w : List ℕ} → Unfit w → wordFits w ≡ false
-unfit {w} (empty h) = simp (lt-leb 1 (length w) h)
-unfit {w} (long h) = and-false (leb 1 (length w)) (lt-leb (length w) longestWord h)
+unfit : {shortest : ℕ} {w : List ℕ} → Unfit shortest w → wordFits shortest w ≡ false
+unfit {shortest} {w} (empty h) = simp (lt-leb shortest (length w) h)
+unfit {shortest} {w} (long h) = and-false (leb shortest (length w)) (lt-leb (length w) longestWord h)
 
 -- a bad length of the start
-pub start-unfit : {u : List ℕ} (v : List ℕ) (at : ℕ) → Unfit u → [] ≡ stretchOf u v at
+pub start-unfit : {u : List ℕ} (v : List ℕ) (at : ℕ) → Unfit shortestStart u → [] ≡ stretchOf u v at
 unfolding stretchOf
 start-unfit {u} v at h = simp (unfit h)
 
 -- a bad length of the cycle
-pub cycle-unfit : (u : List ℕ) {v : List ℕ} (at : ℕ) → Unfit v → [] ≡ stretchOf u v at
+pub cycle-unfit : (u : List ℕ) {v : List ℕ} (at : ℕ) → Unfit shortestCycle v → [] ≡ stretchOf u v at
 unfolding stretchOf
-cycle-unfit u {v} at h = sym (ap (λ (b : Bool). cond b (unread u v at) []) (and-false (wordFits u) (unfit h)))
+cycle-unfit u {v} at h = sym (ap (λ (b : Bool). cond b (unread u v at) []) (and-false (wordFits shortestStart u) (unfit h)))
 
 -- a length that the calls take
-pub record Fit (w : List ℕ) : Type 0 where
-  pub some : 1 ≤ length w
+pub record Fit (shortest : ℕ) (w : List ℕ) : Type 0 where
+  pub some : shortest ≤ length w
   pub short : length w ≤ longestWord
 
-fit : {w : List ℕ} → Fit w → wordFits w ≡ true
-fit {w} f = simp (le-leb 1 (length w) (f .some), le-leb (length w) longestWord (f .short))
+fit : {shortest : ℕ} {w : List ℕ} → Fit shortest w → wordFits shortest w ≡ true
+fit {shortest} {w} f = simp (le-leb shortest (length w) (f .some), le-leb (length w) longestWord (f .short))
 
-module _ {u v : List ℕ} (fu : Fit u) (fv : Fit v) (at : ℕ) where
+module _ {u v : List ℕ} (fu : Fit shortestStart u) (fv : Fit shortestCycle v) (at : ℕ) where
   inside : stretchOf u v at ≡ unread u v at
   unfolding stretchOf
   inside = simp (fit fu, fit fv)
@@ -60,15 +60,15 @@ module _ {u v : List ℕ} (fu : Fit u) (fv : Fit v) (at : ℕ) where
 
 -- where the part begins, for a u that begins at p and a v that begins at q
 module _ (p q : Pointer) where
-  pub start-unfit-place : {u : List ℕ} (v : List ℕ) (at : ℕ) → Unfit u → p ≡ stretchPlace p q u v at
+  pub start-unfit-place : {u : List ℕ} (v : List ℕ) (at : ℕ) → Unfit shortestStart u → p ≡ stretchPlace p q u v at
   unfolding stretchPlace
   start-unfit-place v at h = simp (unfit h)
 
-  pub cycle-unfit-place : (u : List ℕ) {v : List ℕ} (at : ℕ) → Unfit v → p ≡ stretchPlace p q u v at
+  pub cycle-unfit-place : (u : List ℕ) {v : List ℕ} (at : ℕ) → Unfit shortestCycle v → p ≡ stretchPlace p q u v at
   unfolding stretchPlace
-  cycle-unfit-place u {v} at h = sym (ap (λ (b : Bool). cond b (unreadPlace p q u v at) p) (and-false (wordFits u) (unfit h)))
+  cycle-unfit-place u {v} at h = sym (ap (λ (b : Bool). cond b (unreadPlace p q u v at) p) (and-false (wordFits shortestStart u) (unfit h)))
 
-  module _ {u v : List ℕ} (fu : Fit u) (fv : Fit v) (at : ℕ) where
+  module _ {u v : List ℕ} (fu : Fit shortestStart u) (fv : Fit shortestCycle v) (at : ℕ) where
     inside-place : stretchPlace p q u v at ≡ unreadPlace p q u v at
     unfolding stretchPlace
     inside-place = simp (fit fu, fit fv)

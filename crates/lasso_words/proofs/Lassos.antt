@@ -1,7 +1,7 @@
 -- What each way through the checks of two words shows. Assumes nothing.
 use Prim.Native.Nat.{ℕ, _≤_, _<_}
 use mathlib.Core.Path.{_≡_, refl, subst}
-use mathlib.Core.Logic.{_⊎_, ⊎-elim}
+use mathlib.Core.Logic.{_⊎_, inr, ⊎-elim}
 use mathlib.Core.List.{List}
 use native.Mathlib.Omega.{arith}
 use native.Mathlib.Nat.{zero-add}
@@ -13,15 +13,15 @@ use Rattle.sections.specs.declared.Found.{Found}
 use Rattle.sections.specs.declared.Found.the-variants.{At, Nothing}
 use Rattle.sections.specs.Answers.{FoundOut}
 use Rattle.formats.proofs.Sections.{FirstOut}
-use Rattle.formats.specs.WordChecks.{shortestWord, longestWord, LengthOutAt, UnknownLetterAt, lassoChecks}
+use Rattle.formats.specs.WordChecks.{shortestStart, shortestCycle, longestWord, LengthOutAt, UnknownLetterAt, lassoChecks}
 use Rattle.lasso_words.specs.Answers.{GoodLasso}
 
 -- a length in the range
-pub record GoodLength (w : List ℕ) : Type 0 where
-  pub some : shortestWord ≤ length w
+pub record GoodLength (shortest : ℕ) (w : List ℕ) : Type 0 where
+  pub some : shortest ≤ length w
   pub short : length w ≤ longestWord
 
-length-passes : {w : List ℕ} → GoodLength w → (place : ℕ) → LengthOutAt w place → ⊥
+length-passes : {shortest : ℕ} {w : List ℕ} → GoodLength shortest w → (place : ℕ) → LengthOutAt shortest w place → ⊥
 length-passes g place o = ⊎-elim (λ l. omega (arith, g .some)) (λ l. omega (arith, g .short)) (o .outside)
 
 -- the search for a letter that is not below k, from the first letter on
@@ -44,20 +44,20 @@ letters-pass f place o = omega (arith, f place (o .inside), o .foreign)
 
 module _ (k : ℕ) (u v : List ℕ) where
   abbrev start-length : Check
-  start-length = record { refusal = WordLength; input = 1; Fails = LengthOutAt u }
+  start-length = record { refusal = WordLength; input = 1; Fails = LengthOutAt shortestStart u }
 
   abbrev cycle-length : Check
-  cycle-length = record { refusal = WordLength; input = 2; Fails = LengthOutAt v }
+  cycle-length = record { refusal = WordLength; input = 2; Fails = LengthOutAt shortestCycle v }
 
   -- a bad start
-  pub start-out : (length u < shortestWord) ⊎ (longestWord < length u) → FirstFailure (lassoChecks k u v) (refused WordLength 1 0)
-  start-out o = first-fails start-length (record { outside = o; is-place = refl })
+  pub start-out : longestWord < length u → FirstFailure (lassoChecks k u v) (refused WordLength 1 0)
+  start-out h = first-fails start-length (record { outside = inr h; is-place = refl })
 
   -- a bad cycle
-  pub cycle-out : GoodLength u → (length v < shortestWord) ⊎ (longestWord < length v) → FirstFailure (lassoChecks k u v) (refused WordLength 2 0)
+  pub cycle-out : GoodLength shortestStart u → (length v < shortestCycle) ⊎ (longestWord < length v) → FirstFailure (lassoChecks k u v) (refused WordLength 2 0)
   cycle-out gu o = first-passes (record { nowhere = length-passes gu }) (first-fails cycle-length (record { outside = o; is-place = refl }))
 
-  module _ (gu : GoodLength u) (gv : GoodLength v) where
+  module _ (gu : GoodLength shortestStart u) (gv : GoodLength shortestCycle v) where
     -- a foreign letter in the start
     pub start-foreign : {i : ℕ} → UnknownLetterAt k u i → FirstFailure (lassoChecks k u v) (refused UnknownLetter 1 i)
     start-foreign f =

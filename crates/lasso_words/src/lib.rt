@@ -14,17 +14,10 @@ pub enum LassoFault {
     },
 }
 
-// Both lengths, of u and then of v, and then the letters of u and of v.
+// Both lengths, of u and then of v, and then the letters of u and of v. Only u may be empty.
 pub fn lasso_fault(u: &[u8], v: &[u8], k: usize) -> LassoFault
     ensures { λ r. ⌜ LassoAnswer k (now (u .entry)) (now (v .entry)) r ⌝ }
 {
-    if u.len() < 1 {
-        return LassoFault::Refused {
-            refusal: Refusal::WordLength,
-            input: 1,
-            place: 0,
-        };
-    }
     if 4224 < u.len() {
         return LassoFault::Refused {
             refusal: Refusal::WordLength,

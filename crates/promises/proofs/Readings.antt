@@ -40,6 +40,15 @@ second-turn : stretchOf (0 ∷ []) (1 ∷ 2 ∷ []) 4 ≡ 2 ∷ []
 unfolding stretchOf unread
 second-turn = refl
 
+-- with an empty u every part is one of v
+empty-start-first-turn : stretchOf [] (1 ∷ 2 ∷ []) 0 ≡ 1 ∷ 2 ∷ []
+unfolding stretchOf unread
+empty-start-first-turn = refl
+
+empty-start-later : stretchOf [] (1 ∷ 2 ∷ []) 3 ≡ 2 ∷ []
+unfolding stretchOf unread
+empty-start-later = refl
+
 -- ---- the automaton of a file: state 0 initial, state 1 final, letter 0 to state 1 and letter 1 to state 0 from either
 
 file : List ℕ

@@ -1,14 +1,18 @@
--- What `stretch` promises: the part of a lasso that is left to read at a position. Document 01, "Stretch". Assumes nothing.
+-- What `stretch` promises: the part of a lasso that is left to read at a position. Document 01, "Stretch"; document 02, Job 4. Assumes nothing.
 use Prim.Native.Nat.{ℕ, _+_, _-_, _%_}
 use mathlib.Core.Bool.{Bool, cond, _&&_}
 use mathlib.Core.List.{List, []}
 use lib.ListN.{length, drop}
 use lib.Dec.{ltb, leb}
-use Rattle.formats.specs.WordChecks.{shortestWord, longestWord}
+use Rattle.formats.specs.WordChecks.{shortestStart, shortestCycle, longestWord}
 
--- refusal 11 names every other length
-abbrev pub wordFits : List ℕ → Bool
-wordFits w = leb shortestWord (length w) && leb (length w) longestWord
+-- refusal 11 names every other length of a word of at least `shortest` letters
+abbrev pub wordFits : ℕ → List ℕ → Bool
+wordFits shortest w = leb shortest (length w) && leb (length w) longestWord
+
+-- "Document 01's length for u becomes 0 to 4,224, also for a stretch" (Job 4); v has 1 to 4,224 letters
+abbrev pub lassoFits : List ℕ → List ℕ → Bool
+lassoFits u v = wordFits shortestStart u && wordFits shortestCycle v
 
 -- "the unread rest of u, or of v once u is used up; past u the place in v is the position less the length of u, modulo the
 -- length of v"
@@ -17,7 +21,7 @@ unread u v at = cond (ltb at (length u)) (drop at u) (drop ((at - length u) % le
 
 -- "For lengths that refusal 11 names, the answer is the empty part of u."
 unfoldable pub stretchOf : List ℕ → List ℕ → ℕ → List ℕ
-stretchOf u v at = cond (wordFits u && wordFits v) (unread u v at) []
+stretchOf u v at = cond (lassoFits u v) (unread u v at) []
 
 -- Where a slice begins, its `.ptr` in the toolchain's logic (`denote.Ref`): a block of memory, and how many bytes into it. A slice is
 -- its pointer and its number of elements, so the place and the letters of a part tell it from every other part.
@@ -34,4 +38,4 @@ unreadPlace p q u v at = cond (ltb at (length u)) (further p at) (further q ((at
 
 -- where the answer begins: "the empty part of u" lies where u does
 unfoldable pub stretchPlace : Pointer → Pointer → List ℕ → List ℕ → ℕ → Pointer
-stretchPlace p q u v at = cond (wordFits u && wordFits v) (unreadPlace p q u v at) p
+stretchPlace p q u v at = cond (lassoFits u v) (unreadPlace p q u v at) p

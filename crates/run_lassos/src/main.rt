@@ -119,8 +119,14 @@ fn main() {
         cyclic group of 64 without marks, u 0, v 0: lasso: 64 sums 1 1 0 0: 0: 0\n\
         a foreign letter in u: lasso: 2 0 0 0 1 2 0 1 1 0 0 0: 0 1 2: 0 2\n\
         a foreign letter in v: lasso: 2 0 0 0 1 2 0 1 1 0 0 0: 0 1: 0 2\n\
+        W, no letter in u, v 0: lasso: 2 0 0 0 1 2 0 1 1 0 0 0: : 0\n\
+        W, no letter in u, v 1: lasso: 2 0 0 0 1 2 0 1 1 0 0 0: : 1\n\
+        Z, no letter in u, v 1: lasso: 2 0 1 1 0 2 1 0 1 0 0 0: : 1\n\
+        M10's rule, no letter in u, v 0: lasso: 3 0 2 2 0 1 2 0 2 2 2 0 1 2 0 0 0 2 2: : 0\n\
+        M10's rule, no letter in u, v 1: lasso: 3 0 2 2 0 1 2 0 2 2 2 0 1 2 0 0 0 2 2: : 1\n\
         no letter in u, and a foreign one in v: lasso: 2 0 0 0 1 2 0 1 1 0 0 0: : 2\n\
         no letter in v: lasso: 2 0 0 0 1 2 0 1 1 0 0 0: 2:\n\
+        no letter in u or v: lasso: 2 0 0 0 1 2 0 1 1 0 0 0: :\n\
         a rule that does not associate: lasso: 2 1 0 0 0 1 0 0 0: :\n\
         u of 4,224 letters: lasso: 2 0 0 0 1 2 0 1 1 0 0 0: 4224*0: 0\n\
         v of 4,224 letters: lasso: 2 0 0 0 1 2 0 1 1 0 0 0: 1: 4224*0\n\
@@ -132,6 +138,7 @@ fn main() {
         stretch at 9: stretch: 1 2 3: 4 5 6 7: 9\n\
         stretch at the largest position: stretch: 1 2 3: 4 5 6 7: 18446744073709551615\n\
         stretch with no start: stretch: : 4 5 6 7: 0\n\
+        stretch with no start at 6: stretch: : 4 5 6 7: 6\n\
         stretch with no cycle: stretch: 1 2 3: : 0\n\
         stretch with a long start: stretch: 4225*9: 1: 0\n\
         stretch with a long cycle: stretch: 1: 4225*9: 0\n\

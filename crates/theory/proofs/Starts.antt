@@ -1,6 +1,6 @@
 -- Lassos with a letter in their start, and how every lasso is one of them: where the start is empty, the first turn of the cycle
 -- stands for it. The endless word is the same, and the values decide the new start's. Assumes nothing.
-use Prim.Native.Nat.{ℕ, _<_}
+use Prim.Native.Nat.{ℕ, _≤_, _<_}
 use native.Mathlib.Omega.{arith}
 use mathlib.Core.Path.{_≡_, refl, sym, ap₂, _∙_}
 use mathlib.Core.List.{List, [], _∷_}
@@ -24,6 +24,16 @@ started-lasso l = record { start-over = l .start-over; cycle-over = l .cycle-ove
 unfoldable pub start-or-turn : List ℕ → List ℕ → List ℕ
 start-or-turn [] v = v
 start-or-turn (a ∷ u) v = a ∷ u
+
+pub turn-of-empty : (u v : List ℕ) → length u < 1 → v ≡ start-or-turn u v
+unfolding start-or-turn
+turn-of-empty [] v h = refl
+turn-of-empty (a ∷ u) v h = absurd (omega arith)
+
+pub start-of-some : (u v : List ℕ) → 1 ≤ length u → u ≡ start-or-turn u v
+unfolding start-or-turn
+start-of-some [] v h = absurd (omega arith)
+start-of-some (a ∷ u) v h = refl
 
 -- the first of two values that is not none
 unfoldable pub first-value : Value → Value → Value

@@ -12,25 +12,19 @@ slice-aggregate-result : tie.Need-slice-aggregate-result
 slice-aggregate-result c = search needs
 
 returns : tie.Need-returns
-returns c = let h = empty (c .before .if1 .taken) in (start-unfit _ _ h, start-unfit-place _ _ _ _ h)
+returns c = let h = long (c .before .if1 .taken) in (start-unfit _ _ h, start-unfit-place _ _ _ _ h)
 
 slice-aggregate-result-2 : tie.Need-slice-aggregate-result-2
 slice-aggregate-result-2 c = search needs
 
 returns-2 : tie.Need-returns-2
-returns-2 c = let h = long (c .before .if2 .taken) in (start-unfit _ _ h, start-unfit-place _ _ _ _ h)
+returns-2 c = let h = empty (c .before .if2 .taken) in (cycle-unfit _ _ h, cycle-unfit-place _ _ _ _ h)
 
 slice-aggregate-result-3 : tie.Need-slice-aggregate-result-3
 slice-aggregate-result-3 c = search needs
 
 returns-3 : tie.Need-returns-3
-returns-3 c = let h = empty (c .before .if3 .taken) in (cycle-unfit _ _ h, cycle-unfit-place _ _ _ _ h)
-
-slice-aggregate-result-4 : tie.Need-slice-aggregate-result-4
-slice-aggregate-result-4 c = search needs
-
-returns-4 : tie.Need-returns-4
-returns-4 c = let h = long (c .before .if4 .taken) in (cycle-unfit _ _ h, cycle-unfit-place _ _ _ _ h)
+returns-3 c = let h = long (c .before .if3 .taken) in (cycle-unfit _ _ h, cycle-unfit-place _ _ _ _ h)
 
 sub-result : tie.Need-sub-result
 sub-result c = search needs
@@ -41,12 +35,12 @@ part-result-start c = search needs
 part-result-end : tie.Need-part-result-end
 part-result-end c = search needs
 
-returns-5 : tie.Need-returns-5
-returns-5 c =
-    let a = c .before .before .before .before .before .before .args in
-    let fu : Fit (a .u .now) = record { some = omega arith; short = omega arith } in
-    let fv : Fit (a .v .now) = record { some = omega arith; short = omega arith } in
-    let h = c .before .if5 .taken in
+returns-4 : tie.Need-returns-4
+returns-4 c =
+    let a = c .before .before .before .before .before .args in
+    let fu : Fit 0 (a .u .now) = record { some = omega arith; short = omega arith } in
+    let fv : Fit 1 (a .v .now) = record { some = omega arith; short = omega arith } in
+    let h = c .before .if4 .taken in
     (in-start fu fv _ h, in-start-place (a .u .ptr) (a .v .ptr) fu fv _ h (omega arith))
 
 sub-at : tie.Need-sub-at
@@ -57,23 +51,23 @@ rem-at c = search needs
 
 sub-result-2 : tie.Need-sub-result-2
 sub-result-2 c =
-    let a = c .before .before .before .before .before .args in
+    let a = c .before .before .before .before .args in
     omega (arith, mod-lt (a .position - length (a .u .now)) {m = length (a .v .now)} (omega arith))
 
 part-result-start-2 : tie.Need-part-result-start-2
 part-result-start-2 c =
-    let a = c .before .before .before .before .before .args in
+    let a = c .before .before .before .before .args in
     omega (arith, mod-lt (a .position - length (a .u .now)) {m = length (a .v .now)} (omega arith))
 
 part-result-end-2 : tie.Need-part-result-end-2
 part-result-end-2 c = search needs
 
-returns-6 : tie.Need-returns-6
-returns-6 c =
-    let a = c .before .before .before .before .before .before .args in
-    let fu : Fit (a .u .now) = record { some = omega arith; short = omega arith } in
-    let fv : Fit (a .v .now) = record { some = omega arith; short = omega arith } in
-    let h = c .before .if5 .left in
+returns-5 : tie.Need-returns-5
+returns-5 c =
+    let a = c .before .before .before .before .before .args in
+    let fu : Fit 0 (a .u .now) = record { some = omega arith; short = omega arith } in
+    let fv : Fit 1 (a .v .now) = record { some = omega arith; short = omega arith } in
+    let h = c .before .if4 .left in
     (in-cycle fu fv _ h, in-cycle-place (a .u .ptr) (a .v .ptr) fu fv _ h (omega arith))
 
 pub stretch-spec : {M : Type 1} → statement M
@@ -86,15 +80,13 @@ stretch-spec =
     returns-2
     slice-aggregate-result-3
     returns-3
-    slice-aggregate-result-4
-    returns-4
     sub-result
     part-result-start
     part-result-end
-    returns-5
+    returns-4
     sub-at
     rem-at
     sub-result-2
     part-result-start-2
     part-result-end-2
-    returns-6)
+    returns-5)

@@ -7,16 +7,13 @@ use Rattle.lasso_words.proofs.lasso_fault.Statement.{statement}
 use Rattle.lasso_words.proofs.lasso_fault.Tie as tie
 
 returns : tie.Need-returns
-returns c = start-out _ _ _ (inl (c .if1 .taken))
+returns c = start-out _ _ _ (c .if1 .taken)
 
 returns-2 : tie.Need-returns-2
-returns-2 c = start-out _ _ _ (inr (c .if2 .taken))
+returns-2 c = cycle-out _ _ _ (record { some = omega arith; short = omega arith }) (inl (c .if2 .taken))
 
 returns-3 : tie.Need-returns-3
-returns-3 c = cycle-out _ _ _ (record { some = omega arith; short = omega arith }) (inl (c .if3 .taken))
-
-returns-4 : tie.Need-returns-4
-returns-4 c = cycle-out _ _ _ (record { some = omega arith; short = omega arith }) (inr (c .if4 .taken))
+returns-3 c = cycle-out _ _ _ (record { some = omega arith; short = omega arith }) (inr (c .if3 .taken))
 
 first-out-requires : tie.Need-first-out-requires
 first-out-requires c κs = search needs
@@ -24,9 +21,9 @@ first-out-requires c κs = search needs
 enum-known-i : tie.Need-enum-known-i
 enum-known-i c = search needs
 
-returns-5 : tie.Need-returns-5
-returns-5 c =
-    let a = c .before .before .before .before .before .before .before .before .before .before .args in
+returns-4 : tie.Need-returns-4
+returns-4 c =
+    let a = c .before .before .before .before .before .before .before .before .before .args in
     start-foreign _ _ _ (record { some = omega arith; short = omega arith }) (record { some = omega arith; short = omega arith })
     (foreign-at (a .k) (a .u .now) (c .before .before .before .first-out .result) (c .before .before .before .first-out .ensures) (c .before .i .given .1))
 
@@ -42,16 +39,16 @@ enum-known-i-2 c = search needs
 enum-told-2 : tie.Need-enum-told-2
 enum-told-2 c = search needs
 
-returns-6 : tie.Need-returns-6
-returns-6 c =
-    let a = c .before .before .before .before .before .before .before .before .before .before .before .before .before .args in
+returns-5 : tie.Need-returns-5
+returns-5 c =
+    let a = c .before .before .before .before .before .before .before .before .before .before .before .before .args in
     cycle-foreign _ _ _ (record { some = omega arith; short = omega arith }) (record { some = omega arith; short = omega arith })
     (letters-below (a .k) (a .u .now) (c .before .before .before .before .before .before .first-out .result) (c .before .before .before .before .before .before .first-out .ensures) (c .before .before .before .before .enum-told .given .1))
     (foreign-at (a .k) (a .v .now) (c .before .before .before .first-out2 .result) (c .before .before .before .first-out2 .ensures) (c .before .i2 .given .1))
 
-returns-7 : tie.Need-returns-7
-returns-7 c =
-    let a = c .before .before .before .before .before .before .before .before .before .before .before .before .args in
+returns-6 : tie.Need-returns-6
+returns-6 c =
+    let a = c .before .before .before .before .before .before .before .before .before .before .before .args in
     good-lasso _ _ _ (record { some = omega arith; short = omega arith }) (record { some = omega arith; short = omega arith })
     (letters-below (a .k) (a .u .now) (c .before .before .before .before .before .first-out .result) (c .before .before .before .before .before .first-out .ensures) (c .before .before .before .enum-told .given .1))
     (letters-below (a .k) (a .v .now) (c .before .before .first-out2 .result) (c .before .before .first-out2 .ensures) (c .enum-told2 .given .1))
@@ -63,13 +60,12 @@ lasso-fault-spec =
     returns
     returns-2
     returns-3
-    returns-4
     first-out-requires
     enum-known-i
-    returns-5
+    returns-4
     enum-told
     first-out-requires-2
     enum-known-i-2
     enum-told-2
-    returns-6
-    returns-7)
+    returns-5
+    returns-6)
