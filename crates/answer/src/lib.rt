@@ -23,7 +23,7 @@ pub enum Refusal {
     Duplicate,
     // Document 01: foreign letter.
     UnknownLetter,
-    // Document 01: word length. A word has no letter or too many, or a monitor has no value.
+    // Document 01: word length. A word has too many letters, a cycle has none, or a monitor has no value since its last mark.
     WordLength,
     // Document 01: weak. The rule is not strong.
     NotStrong,

@@ -4,7 +4,7 @@ use mathlib.Core.List.{List}
 use lib.ListN.{length}
 use Rattle.theory.specs.Words.{Over}
 
--- a word of a call, with a letter or more, each below k
+-- a word whose value is worked out: with a letter or more, each below k
 pub record CallWord (k : ℕ) (w : List ℕ) : Type 0 where
   pub over : Over k w
   pub some : 1 ≤ length w

@@ -81,13 +81,13 @@ module _ {m : Morphism} (law : Lawful m) (acc : ℕ → ℕ → ℕ) where
           → Together m acc i (after m s y) (after m t y)
       together-after {y} hy s t hs ht r =
           let w = value-word reached hy in
-          subst (λ v. Together m acc i (after m s v) (after m t v)) (w .has .is) (word-after (w .has .over) s t hs ht r)
+          subst (λ v. Together m acc i (after m s v) (after m t v)) (w .its-value) (word-after (w .over) s t hs ht r)
 
       pub together-ahead : {x : Value} → Inside m x → (s t : ℕ) → s < m .size → t < m .size → Together m acc i s t
           → Together m acc i (ahead m x s) (ahead m x t)
       together-ahead {x} hx s t hs ht r =
           let w = value-word reached hx in
-          subst (λ v. Together m acc i (ahead m v s) (ahead m v t)) (w .has .is) (word-ahead (w .has .over) s t hs ht r)
+          subst (λ v. Together m acc i (ahead m v s) (ahead m v t)) (w .its-value) (word-ahead (w .over) s t hs ht r)
 
       pub together-products : (s s′ t t′ : ℕ) → s < m .size → s′ < m .size → t < m .size → t′ < m .size
           → Together m acc i s s′ → Together m acc i t t′ → Together m acc i (m .product s t) (m .product s′ t′)

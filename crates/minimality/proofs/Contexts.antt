@@ -4,7 +4,7 @@ use Prim.Native.Nat.{ℕ, _<_}
 use mathlib.Core.Path.{_≡_, refl, sym, subst, subst₂, ap, ap₂, _∙_}
 use mathlib.Core.List.{List, [], _++_}
 use Rattle.theory.specs.Words.{Over, over-nil}
-use Rattle.theory.specs.Rules.{Morphism, Lawful, Value, none, element, join, value, AllReached}
+use Rattle.theory.specs.Rules.{Morphism, Lawful, Value, none, element, join, value, ValueWord, AllReached}
 use Rattle.theory.proofs.Values.{Inside, inside-none, inside-element, join-inside, value-append}
 use Rattle.theory.proofs.Words.{over-append}
 use Rattle.minimality.specs.Rounds.{SameOutcomes}
@@ -92,18 +92,14 @@ pub record HasValue (m : Morphism) (w : List ℕ) (x : Value) : Type 0 where
   pub over : Over (m .letters) w
   pub is : value m w ≡ x
 
--- a word with the value x
-pub record ValueWord (m : Morphism) (x : Value) : Type 0 where
-  pub word : List ℕ
-  pub has : HasValue m word x
+pub word-has : {m : Morphism} {x : Value} (w : ValueWord m x) → HasValue m (w .word) x
+word-has w = record { over = w .over; is = w .its-value }
 
 -- where every element is reached, so is every value
 pub value-word : {m : Morphism} {x : Value} → AllReached m → Inside m x → ValueWord m x
 unfolding value
-value-word r inside-none = record { word = []; has = record { over = over-nil; is = refl } }
-value-word r (inside-element {s} h) =
-    let w = r .word-of s h in
-    record { word = w .word; has = record { over = w .over; is = w .its-value } }
+value-word r inside-none = record { word = []; over = over-nil; its-value = refl }
+value-word r (inside-element {s} h) = r .word-of s h
 
 -- the values of one word after another, and of a word in its context
 pub has-append : {m : Morphism} {p q : List ℕ} {x y : Value} → Lawful m → HasValue m p x → HasValue m q y → HasValue m (p ++ q) (join m x y)

@@ -12,12 +12,12 @@ use mir.Facts.{yes-eqb}
 use Rattle.finite.proofs.Search.{leastBelow, least-holds, least-bound}
 use Rattle.finite.proofs.Pigeonhole.{Injection, injection-le, injection-onto}
 use Rattle.theory.specs.Words.{Over, over-nil, over-cons, Lasso}
-use Rattle.theory.specs.Rules.{Morphism, Lawful, Value, none, element, join, value, AllReached}
+use Rattle.theory.specs.Rules.{Morphism, Lawful, Value, none, element, join, value, ValueWord, AllReached}
 use Rattle.theory.specs.Smallest.{Renumbered}
 use Rattle.theory.proofs.Values.{inside-element, element-apart, element-same, join-elements, value-append, Element, value-element}
 use Rattle.theory.proofs.Starts.{start-or-turn, first-value, first-value-again, value-started, lasso-started, started-values}
 use Rattle.minimality.specs.Rounds.{SameOutcomes}
-use Rattle.minimality.proofs.Contexts.{around, Indistinct, HasValue, ValueWord, value-word, has-append, has-around}
+use Rattle.minimality.proofs.Contexts.{around, Indistinct, HasValue, word-has, value-word, has-append, has-around}
 
 -- the outcome of two values, 0 where one of them is of an empty word
 unfoldable pub valueOutcome : (ℕ → ℕ → ℕ) → Value → Value → ℕ
@@ -130,20 +130,20 @@ module _ {m rival : Morphism} (acc : ℕ → ℕ → ℕ) (law : Lawful m) (reac
 
     context-same : {x y : Value} → ValueWord m x → ValueWord m y → SameOutcomes m acc (around m x s y) (around m x t y)
     context-same {x} {y} p q =
-        let one : HasValue m ((p .word ++ w) ++ q .word) (element (around m x s y)) = has-around law (p .has) hw (q .has) in
-        let two : HasValue m ((p .word ++ w′) ++ q .word) (element (around m x t y)) = has-around law (p .has) hw′ (q .has) in
-        let same : value rival ((p .word ++ w) ++ q .word) ≡ value rival ((p .word ++ w′) ++ q .word) = framed-same (p .has .over) (q .has .over) in
+        let one : HasValue m ((p .word ++ w) ++ q .word) (element (around m x s y)) = has-around law (word-has p) hw (word-has q) in
+        let two : HasValue m ((p .word ++ w′) ++ q .word) (element (around m x t y)) = has-around law (word-has p) hw′ (word-has q) in
+        let same : value rival ((p .word ++ w) ++ q .word) ≡ value rival ((p .word ++ w′) ++ q .word) = framed-same (p .over) (q .over) in
         record {
           as-start = λ z h.
               let c : ValueWord m (element z) = value-word reached (inside-element h) in
-              sym (outcome-at acc one (c .has))
-              ∙ factors .equal-outcomes _ _ _ _ (elements-lasso one (c .has)) (elements-lasso two (c .has)) same refl
-              ∙ outcome-at acc two (c .has);
+              sym (outcome-at acc one (word-has c))
+              ∙ factors .equal-outcomes _ _ _ _ (elements-lasso one (word-has c)) (elements-lasso two (word-has c)) same refl
+              ∙ outcome-at acc two (word-has c);
           as-cycle = λ z h.
               let c : ValueWord m (element z) = value-word reached (inside-element h) in
-              sym (outcome-at acc (c .has) one)
-              ∙ factors .equal-outcomes _ _ _ _ (elements-lasso (c .has) one) (elements-lasso (c .has) two) refl same
-              ∙ outcome-at acc (c .has) two;
+              sym (outcome-at acc (word-has c) one)
+              ∙ factors .equal-outcomes _ _ _ _ (elements-lasso (word-has c) one) (elements-lasso (word-has c) two) refl same
+              ∙ outcome-at acc (word-has c) two;
         }
 
     -- words with one value in the rival have values in ours that no context tells apart

@@ -32,14 +32,14 @@ module _ {m : Morphism} (law : Lawful m) (reached : AllReached m) {before since 
       let t = acceptance-passes m P before since in
       (λ h. t .1 (a .0 h), λ h. a .1 (t .0 h))
 
-  pub closure-accepts : T (closure-test m P (settled-start m before since) (settled-cycle m since)) → LassosAccepted m P before since
+  pub closure-accepts : T (closure-test m P (settled-start m before since) (settled-cycle m since)) → LassosAccepted m P (element before) since
   closure-accepts t = record {
     start = reached .word-of before hb;
     cycle = reached .word-of since hs;
     accepted = λ u v l eu ev. closure-decides l eu ev .1 t;
   }
 
-  pub closure-rejects : (T (closure-test m P (settled-start m before since) (settled-cycle m since)) → ⊥) → LassosNotAccepted m P before since
+  pub closure-rejects : (T (closure-test m P (settled-start m before since) (settled-cycle m since)) → ⊥) → LassosNotAccepted m P (element before) since
   closure-rejects f = record {
     start = reached .word-of before hb;
     cycle = reached .word-of since hs;
@@ -75,7 +75,7 @@ module _ {m : Morphism} {entry : List ℕ} (place : DecideNeeds m entry) {before
         d .closure P lp t .same (settled-start m before since) (settled-cycle m since) (l .inside) (l .idempotent .inside) ∙ sym look
 
     -- so it decides
-    closure-told : (P : Pairs) → LinkedOnly m P → MarkingAt (m .size) P entry 0 → (b : Bool) → accepted ≡ b → LassosDecided m P before since b
+    closure-told : (P : Pairs) → LinkedOnly m P → MarkingAt (m .size) P entry 0 → (b : Bool) → accepted ≡ b → LassosDecided m P (element before) since b
     closure-told P lp t true a =
         closure-accepts (place .lawful) (place .reached) hb hs lp (strong-marks P lp t) (rw (look-closure P lp t, a) tt)
     closure-told P lp t false a =

@@ -5,7 +5,7 @@ use mathlib.Core.List.{List}
 use lib.ListN.{length, replicate}
 use Rattle.answer.specs.declared.Refusal.the-variants.{NotStrong}
 use Rattle.answer.specs.Checks.{refused}
-use Rattle.theory.specs.Rules.{Morphism, Pairs}
+use Rattle.theory.specs.Rules.{Morphism, Pairs, element}
 use Rattle.theory.specs.Acceptance.{Strong}
 use Rattle.theory.specs.Pairs.{LinkedOnly, LeastExponent}
 use Rattle.mark_search.specs.Search.{MarkingAt}
@@ -15,7 +15,7 @@ use Rattle.promises.specs.Verdict.{LassosDecided}
 
 -- a strong marking with the answer for the values (before, since), or one that is not strong and 12
 abbrev pub JudgedBy : Morphism → Pairs → ℕ → ℕ → MonitorVerdict → Type 0
-JudgedBy m P before since (Decided accepted turns) = Strong m P × (LassosDecided m P before since accepted × LeastExponent m since turns)
+JudgedBy m P before since (Decided accepted turns) = Strong m P × (LassosDecided m P (element before) since accepted × LeastExponent m since turns)
 JudgedBy m P before since (Refused refusal input place) = (Strong m P → ⊥) × (refused refusal input place ≡ refused NotStrong 1 0)
 
 -- what the marks at the front of scratch say, and zeros are left

@@ -1,52 +1,73 @@
 -- The verdict of a monitor that calls have led to is that of the lasso of its history: the letters before the last mark, then
--- those since for ever. Assumes nothing.
+-- those since for ever. Where no mark was made it is that of the letters for ever. Assumes nothing.
 use Prim.Native.Nat.{ℕ}
-use mathlib.Core.Path.{_≡_, refl, sym, _∙_}
-use mathlib.Core.Logic.{_⊎_, inl, inr}
+use mathlib.Core.Path.{_≡_, refl, sym, _∙_, subst}
 use mathlib.Core.Bool.{Bool, true, false}
-use mathlib.Core.List.{List}
+use mathlib.Core.List.{List, [], _∷_, map}
 use Rattle.answer.specs.Checks.{passed, FirstFailure}
 use Rattle.answer.proofs.Order.{passed-last, passes-head}
 use Rattle.theory.specs.Words.{Lasso}
 use Rattle.theory.specs.Rules.{element, value}
 use Rattle.theory.specs.Acceptance.{Accepts}
 use Rattle.theory.specs.Pairs.{TurnsOf}
-use Rattle.theory.proofs.Strength.{lasso-of}
+use Rattle.theory.proofs.Values.{value-some}
 use Rattle.formats.specs.RuleFile.{lettersOf, morphismOf, pairsOf}
 use Rattle.promises.specs.declared.Monitor.{Monitor}
-use Rattle.promises.specs.Monitor.{noValue, monitorChecks}
-use Rattle.promises.specs.Histories.{Action, sinceWord, beforeWord, Run}
+use Rattle.promises.specs.Monitor.{valueOf, monitorChecks}
+use Rattle.promises.specs.Histories.{Action, event, sinceWord, beforeWord, Run}
 use Rattle.monitor_state.proofs.Numbers.{value-element}
 use Rattle.monitor_histories.proofs.Histories.{run-follows}
 use Rattle.promises.specs.declared.MonitorVerdict.the-variants.{Decided}
 use Rattle.promises.specs.Verdict.{verdictChecks, VerdictPromise}
 
 module _ {bytes : List ℕ} {f : Monitor} {history : List Action} (run : Run bytes f history) where
-  -- neither value is none, and they are those of the history's words
-  history-values : {entry : List ℕ} → FirstFailure (verdictChecks bytes f entry) passed
-      → (value (morphismOf bytes) (beforeWord history) ≡ element (f .before)) × (value (morphismOf bytes) (sinceWord history) ≡ element (f .since))
-  history-values {entry} all =
-      let w = run-follows bytes run in
-      (sym (w .before-value) ∙ value-element (λ e. some (inl e)), sym (w .since-value) ∙ value-element (λ e. some (inr e)))
-    where
-      some : (f .before ≡ noValue) ⊎ (f .since ≡ noValue) → ⊥
-      some e = passes-head (passed-last (monitorChecks bytes f entry) _ all) .nowhere 0 (record { none = e; is-place = refl })
+  -- the monitor has the values of the history's words, and letters came since the last mark
+  history-start : value (morphismOf bytes) (beforeWord history) ≡ valueOf (f .before)
+  history-start = sym (run-follows bytes run .before-value)
 
-  history-lasso : value (morphismOf bytes) (beforeWord history) ≡ element (f .before) → value (morphismOf bytes) (sinceWord history) ≡ element (f .since)
-      → Lasso (lettersOf bytes) (beforeWord history) (sinceWord history)
-  history-lasso = lasso-of (morphismOf bytes) (run-follows bytes run .before-over) (run-follows bytes run .since-over)
+  history-cycle : {entry : List ℕ} → FirstFailure (verdictChecks bytes f entry) passed → value (morphismOf bytes) (sinceWord history) ≡ element (f .since)
+  history-cycle {entry} all =
+      sym (run-follows bytes run .since-value)
+      ∙ value-element (λ e. passes-head (passed-last (monitorChecks bytes f entry) _ all) .nowhere 0 (record { none = e; is-place = refl }))
+
+  history-lasso : value (morphismOf bytes) (sinceWord history) ≡ element (f .since) → Lasso (lettersOf bytes) (beforeWord history) (sinceWord history)
+  history-lasso e = record {
+    start-over = run-follows bytes run .before-over;
+    cycle-over = run-follows bytes run .since-over;
+    cycle-some = value-some (morphismOf bytes) (sinceWord history) (f .since) e;
+  }
 
   module _ {entry exit : List ℕ} where
     pub history-accepted : {turns : ℕ} → VerdictPromise bytes f entry exit (Decided true turns) → Accepts (morphismOf bytes) (pairsOf bytes) (beforeWord history) (sinceWord history)
     history-accepted p =
-        let e = history-values (p .refusal) in
-        p .answered .0 .accepted (beforeWord history) (sinceWord history) (history-lasso (e .0) (e .1)) (e .0) (e .1)
+        let e = history-cycle (p .refusal) in
+        p .answered .0 .accepted (beforeWord history) (sinceWord history) (history-lasso e) history-start e
 
     pub history-not-accepted : {turns : ℕ} → VerdictPromise bytes f entry exit (Decided false turns) → Accepts (morphismOf bytes) (pairsOf bytes) (beforeWord history) (sinceWord history) → ⊥
     history-not-accepted p =
-        let e = history-values (p .refusal) in
-        p .answered .0 .not-accepted (beforeWord history) (sinceWord history) (history-lasso (e .0) (e .1)) (e .0) (e .1)
+        let e = history-cycle (p .refusal) in
+        p .answered .0 .not-accepted (beforeWord history) (sinceWord history) (history-lasso e) history-start e
 
     -- and the turns are those of its cycle
     pub history-turns : {accepted : Bool} {turns : ℕ} → VerdictPromise bytes f entry exit (Decided accepted turns) → TurnsOf (morphismOf bytes) (sinceWord history) turns
-    history-turns p = record { cycle = f .since; cycle-value = history-values (p .refusal) .1; turns-are = p .answered .1 }
+    history-turns p = record { cycle = f .since; cycle-value = history-cycle (p .refusal); turns-are = p .answered .1 }
+
+-- a history of events alone
+abbrev pub events : List ℕ → List Action
+events letters = map event letters
+
+events-before : (letters : List ℕ) → beforeWord (events letters) ≡ []
+unfolding beforeWord
+events-before [] = refl
+events-before (a ∷ letters) = events-before letters
+
+-- where no mark was made, the verdict is that of the letters for ever
+module _ {bytes : List ℕ} {f : Monitor} (letters : List ℕ) (run : Run bytes f (events letters)) {entry exit : List ℕ} where
+  pub events-accepted : {turns : ℕ} → VerdictPromise bytes f entry exit (Decided true turns) → Accepts (morphismOf bytes) (pairsOf bytes) [] (sinceWord (events letters))
+  events-accepted p =
+      subst (λ (u : List ℕ). Accepts (morphismOf bytes) (pairsOf bytes) u (sinceWord (events letters))) (events-before letters) (history-accepted run p)
+
+  pub events-not-accepted : {turns : ℕ} → VerdictPromise bytes f entry exit (Decided false turns) → Accepts (morphismOf bytes) (pairsOf bytes) [] (sinceWord (events letters)) → ⊥
+  events-not-accepted p a =
+      history-not-accepted run p
+      (subst (λ (u : List ℕ). Accepts (morphismOf bytes) (pairsOf bytes) u (sinceWord (events letters))) (sym (events-before letters)) a)

@@ -1,7 +1,13 @@
 -- What the look at a monitor's two values shows, on each way. Assumes nothing.
-use Prim.Native.Nat.{ℕ}
+use Prim.Native.Nat.{ℕ, _<_}
 use mathlib.Core.Path.{_≡_, refl, subst}
-use mathlib.Core.Logic.{_⊎_, ⊎-elim}
+use mathlib.Core.Bool.{Bool, true, false}
+use mathlib.Core.Logic.{_⊎_, ⊎-elim, by-cases}
+use native.Mathlib.Decide.{ℕ-discrete}
+use borrow.Author.Tests.{eq-eqb, ne-eqb}
+use Rattle.theory.specs.Rules.{Morphism, Pairs, element}
+use Rattle.theory.specs.Smallest.{LassosAccepted, LassosNotAccepted}
+use Rattle.theory.proofs.EmptyStarts.{cycle-accepted, cycle-not-accepted}
 use Rattle.answer.specs.declared.Refusal.{Refusal}
 use Rattle.answer.specs.declared.Refusal.the-variants.{EntryOutOfRange, WordLength}
 use Rattle.answer.specs.Checks.{refused, FirstFailure}
@@ -9,11 +15,39 @@ use Rattle.answer.proofs.Order.{first-passes, first-fails}
 use Rattle.rule_marks.specs.declared.Fault.{Fault}
 use Rattle.rule_marks.specs.declared.Fault.the-variants.{Nothing, Refused}
 use Rattle.promises.specs.declared.Monitor.{Monitor}
-use Rattle.promises.specs.Monitor.{noValue, ValueOutOfRange, monitorValueCheck}
+use Rattle.promises.specs.Monitor.{noValue, valueOf, ValueOutOfRange, monitorValueCheck}
 use Rattle.monitor_state.specs.Ready.{GoodNumber}
-use Rattle.monitor_state.proofs.Numbers.{good-not-stray, good-element}
-use Rattle.promises.specs.Verdict.{noneCheck}
-use Rattle.monitor_verdict.specs.Judging.{valueChecks, BothElements, ValuesAnswer}
+use Rattle.monitor_state.proofs.Numbers.{value-none, value-element, good-not-stray, good-element}
+use Rattle.promises.specs.Verdict.{noneCheck, LassosDecided}
+use Rattle.monitor_verdict.specs.Judging.{valueChecks, startElement, Judgeable, ValuesAnswer}
+
+-- the element that the start is judged by
+pub start-none : (f : Monitor) → f .before ≡ noValue → startElement f ≡ f .since
+unfolding startElement
+start-none f e = simp (eq-eqb (f .before) noValue e)
+
+pub start-some : (f : Monitor) → (f .before ≡ noValue → ⊥) → startElement f ≡ f .before
+unfolding startElement
+start-some f b = simp (ne-eqb (f .before) noValue b)
+
+-- what is judged of it is so of the monitor's lassos: those whose start is empty are where a turn of the cycle stands for the start
+module _ {m : Morphism} {P : Pairs} (f : Monitor) where
+  start-accepted : LassosAccepted m P (element (startElement f)) (f .since) → LassosAccepted m P (valueOf (f .before)) (f .since)
+  start-accepted k =
+      by-cases (ℕ-discrete (f .before) noValue)
+      (λ e. rw (value-none e) (cycle-accepted (rw (start-none f e) at k)))
+      (λ b. rw (value-element b) (rw (start-some f b) at k))
+
+  start-not-accepted : LassosNotAccepted m P (element (startElement f)) (f .since) → LassosNotAccepted m P (valueOf (f .before)) (f .since)
+  start-not-accepted k =
+      by-cases (ℕ-discrete (f .before) noValue)
+      (λ e. rw (value-none e) (cycle-not-accepted (rw (start-none f e) at k)))
+      (λ b. rw (value-element b) (rw (start-some f b) at k))
+
+pub start-decided : (m : Morphism) (P : Pairs) (f : Monitor) (accepted : Bool) → LassosDecided m P (element (startElement f)) (f .since) accepted
+    → LassosDecided m P (valueOf (f .before)) (f .since) accepted
+start-decided m P f true k = start-accepted f k
+start-decided m P f false k = start-not-accepted f k
 
 module _ (n : ℕ) (f : Monitor) where
   -- a value is stray
@@ -21,20 +55,29 @@ module _ (n : ℕ) (f : Monitor) where
   values-stray s = first-fails (monitorValueCheck 1 n f) (record { stray = s; is-place = refl })
 
   module _ (before : GoodNumber n (f .before)) (since : GoodNumber n (f .since)) where
-    -- both are good, and one is none
-    pub values-none : (f .before ≡ noValue) ⊎ (f .since ≡ noValue) → FirstFailure (valueChecks n f) (refused WordLength 1 0)
+    -- both are good, and since is none
+    pub values-none : f .since ≡ noValue → FirstFailure (valueChecks n f) (refused WordLength 1 0)
     values-none e =
         first-passes (record { nowhere = λ place t. ⊎-elim (good-not-stray n (f .before) before) (good-not-stray n (f .since) since) (t .stray) })
         (first-fails (noneCheck f) (record { none = e; is-place = refl }))
 
-    -- both are elements
-    pub values-elements : (f .before ≡ noValue → ⊥) → (f .since ≡ noValue → ⊥) → BothElements n f
-    values-elements b s = record { before-inside = good-element before b; since-inside = good-element since s; before-some = b; since-some = s }
+    -- both are good, and since is an element
+    pub values-judgeable : (f .since ≡ noValue → ⊥) → Judgeable n f
+    values-judgeable s = record {
+      before-good = good-not-stray n (f .before) before;
+      start-inside = by-cases (ℕ-discrete (f .before) noValue) (λ e. rw (start-none f e) (good-element since s)) (λ b. rw (start-some f b) (good-element before b));
+      since-inside = good-element since s;
+      since-some = s;
+    }
+
+-- the element that was told is below the size
+pub start-below : {n s : ℕ} {f : Monitor} → Judgeable n f → s ≡ startElement f → s < n
+start-below j e = rw e (j .start-inside)
 
 -- the answer, known by its case
 module _ (n : ℕ) (f : Monitor) (answer : Fault) (known : ValuesAnswer n f answer) where
-  pub said-elements : answer ≡ Nothing → BothElements n f
-  said-elements e = subst (ValuesAnswer n f) e known
+  pub said-judgeable : answer ≡ Nothing → Judgeable n f
+  said-judgeable e = subst (ValuesAnswer n f) e known
 
   pub said-fault : {r : Refusal} {place : ℕ} → answer ≡ Refused r place → FirstFailure (valueChecks n f) (refused r 1 place)
   said-fault e = subst (ValuesAnswer n f) e known

@@ -24,7 +24,8 @@ use Rattle.promises.specs.declared.MonitorVerdict.{MonitorVerdict}
 use Rattle.promises.specs.declared.MonitorVerdict.the-variants.{Decided, Refused}
 use Rattle.promises.specs.Verdict.{verdictChecks, VerdictPromise}
 use Rattle.monitor_judging.specs.Judges.{JudgedBy, Judges}
-use Rattle.monitor_verdict.specs.Judging.{valueChecks, BothElements}
+use Rattle.monitor_verdict.specs.Judging.{valueChecks, startElement, Judgeable}
+use Rattle.monitor_verdict.proofs.Values.{start-decided}
 
 module _ (bytes : List ℕ) (f : Monitor) (entry : List ℕ) where
   -- the rule is refused
@@ -48,10 +49,10 @@ module _ (bytes : List ℕ) (f : Monitor) (entry : List ℕ) where
       scratch = left z;
     }
 
-    module _ (b : BothElements (shape .elements) f) where
+    module _ (b : Judgeable (shape .elements) f) where
       none-stray : ValueOutOfRange (elementsOf bytes) (f .before) ⊎ ValueOutOfRange (elementsOf bytes) (f .since) → ⊥
       none-stray =
-          ⊎-elim (λ s. omega (arith, s .no-element, b .before-inside, p .scratch .shape-is .elements))
+          ⊎-elim (λ s. b .before-good (subst (λ (n : ℕ). ValueOutOfRange n (f .before)) (sym (p .scratch .shape-is .elements)) s))
           (λ s. omega (arith, s .no-element, b .since-inside, p .scratch .shape-is .elements))
 
       -- both values passed: the strength decides
@@ -59,20 +60,20 @@ module _ (bytes : List ℕ) (f : Monitor) (entry : List ℕ) where
       after-values w =
           after-rule
           (first-passes (record { nowhere = λ place t. none-stray (t .stray) })
-          (first-passes (record { nowhere = λ place t. ⊎-elim (b .before-some) (b .since-some) (t .none) }) w))
+          (first-passes (record { nowhere = λ place t. b .since-some (t .none) }) w))
 
       -- what the marks of the file say
-      file-says : {exit : List ℕ} {answer : MonitorVerdict} → Judges (morphismAt bytes (shape .elements) (shape .letters)) (f .before) (f .since) mid exit answer
-          → JudgedBy (morphismOf bytes) (pairsOf bytes) (f .before) (f .since) answer
+      file-says : {exit : List ℕ} {answer : MonitorVerdict} → Judges (morphismAt bytes (shape .elements) (shape .letters)) (startElement f) (f .since) mid exit answer
+          → JudgedBy (morphismOf bytes) (pairsOf bytes) (startElement f) (f .since) answer
       file-says {answer = answer} j =
-          subst (λ (m : Morphism). JudgedBy m (pairsOf bytes) (f .before) (f .since) answer) (shape-morphism (p .scratch .shape-is))
+          subst (λ (m : Morphism). JudgedBy m (pairsOf bytes) (startElement f) (f .since) answer) (shape-morphism (p .scratch .shape-is))
           (j .says (pairsOf bytes) (checked-linked 1 bytes entry p) (marks-stand 1 bytes entry p))
 
-      says : {exit : List ℕ} (answer : MonitorVerdict) → exit ≡ afterCall entry → JudgedBy (morphismOf bytes) (pairsOf bytes) (f .before) (f .since) answer
+      says : {exit : List ℕ} (answer : MonitorVerdict) → exit ≡ afterCall entry → JudgedBy (morphismOf bytes) (pairsOf bytes) (startElement f) (f .since) answer
           → VerdictPromise bytes f entry exit answer
       says (Decided accepted turns) z k = record {
         refusal = after-values (first-passes (record { nowhere = λ place t. t .weak (k .0) }) none-left);
-        answered = k .1;
+        answered = (start-decided (morphismOf bytes) (pairsOf bytes) f accepted (k .1 .0), k .1 .1);
         scratch = z;
       }
       says (Refused r i place) z k = record {
@@ -84,6 +85,8 @@ module _ (bytes : List ℕ) (f : Monitor) (entry : List ℕ) where
       }
 
       -- the values are judged
-      pub judged : {exit : List ℕ} {answer : MonitorVerdict} → Judges (morphismAt bytes (shape .elements) (shape .letters)) (f .before) (f .since) mid exit answer
-          → VerdictPromise bytes f entry exit answer
-      judged {answer = answer} j = says answer (left (j .zeros)) (file-says j)
+      pub judged : {start : ℕ} {exit : List ℕ} {answer : MonitorVerdict} → start ≡ startElement f
+          → Judges (morphismAt bytes (shape .elements) (shape .letters)) start (f .since) mid exit answer → VerdictPromise bytes f entry exit answer
+      judged {exit = exit} {answer = answer} e given =
+          let j = subst (λ (s : ℕ). Judges (morphismAt bytes (shape .elements) (shape .letters)) s (f .since) mid exit answer) e given in
+          says answer (left (j .zeros)) (file-says j)

@@ -1,5 +1,6 @@
 // The verdict of a monitor (document 01: follower's verdict): whether the rule accepts the lassos whose start has the value before
-// and whose cycle has the value since. It is for strong rules only, where those lassos are all accepted or all not.
+// and whose cycle has the value since; where before is none, those that are their cycle alone. It is for strong rules only, where
+// those lassos are all accepted or all not.
 use answer::Refusal;
 use monitor_judging::judge;
 use promises::Monitor;
@@ -8,10 +9,11 @@ use rule_check::Checked;
 use rule_check::check;
 use rule_marks::Fault;
 use sections::zero;
-ghost use Rattle.monitor_verdict.specs.Judging.{ValuesAnswer};
+ghost use mathlib.Core.Path.{_≡_};
+ghost use Rattle.monitor_verdict.specs.Judging.{ValuesAnswer, startElement};
 ghost use Rattle.promises.specs.Verdict.{VerdictPromise};
 
-// Whether both values of a monitor are elements. A number that is neither an element nor 64 comes before one that is 64.
+// Whether before is an element or 64 and since an element. A number that is neither an element nor 64 comes before a since of 64.
 fn values_fault(n: usize, monitor: Monitor) -> Fault
     ensures { λ r. ⌜ ValuesAnswer n monitor r ⌝ }
 {
@@ -33,12 +35,6 @@ fn values_fault(n: usize, monitor: Monitor) -> Fault
             };
         }
     }
-    if before == 64 {
-        return Fault::Refused {
-            refusal: Refusal::WordLength,
-            place: 0,
-        };
-    }
     if since == 64 {
         return Fault::Refused {
             refusal: Refusal::WordLength,
@@ -46,6 +42,16 @@ fn values_fault(n: usize, monitor: Monitor) -> Fault
         };
     }
     Fault::Nothing
+}
+
+// The element that the start is judged by: before, or since where before is none.
+fn start_element(monitor: Monitor) -> usize
+    ensures { λ r. ⌜ r ≡ startElement monitor ⌝ }
+{
+    if monitor.before == 64 {
+        return monitor.since;
+    }
+    monitor.before
 }
 
 // Checks a rule and a monitor's values, and says whether the lassos with those values are accepted. Scratch ends as zeros, but
@@ -80,7 +86,7 @@ pub fn verdict(rule: &[u8], monitor: Monitor, scratch: &mut [u8]) -> MonitorVerd
             };
         }
     }
-    let before = monitor.before;
+    let start = start_element(monitor);
     let since = monitor.since;
-    judge(rule, n, k, before, since, scratch)
+    judge(rule, n, k, start, since, scratch)
 }

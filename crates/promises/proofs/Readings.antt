@@ -2,12 +2,12 @@
 use Prim.Native.Nat.{ℕ, _≤_, _<_}
 use mathlib.Core.Path.{_≡_, refl}
 use mathlib.Core.Bool.{true, false}
-use mathlib.Core.Logic.{inl, inr}
 use mathlib.Core.List.{List, [], _∷_}
 use native.Mathlib.Omega.{arith}
 use Rattle.answer.specs.declared.Refusal.{Refusal}
 use Rattle.finite.specs.Search.{anyBelow}
-use Rattle.theory.specs.Rules.{Morphism, Lawful, Pairs}
+use Rattle.theory.specs.Words.{Lasso}
+use Rattle.theory.specs.Rules.{Morphism, Lawful, Pairs, element, value}
 use Rattle.theory.specs.Acceptance.{Accepts}
 use Rattle.theory.specs.Inclusion.{Included}
 use Rattle.buchi.specs.Matrices.{Matrix}
@@ -15,17 +15,18 @@ use Rattle.buchi.specs.Rule.{MatricesOf}
 use Rattle.buchi.proofs.Numberings.{matrices-size}
 use Rattle.formats.specs.Sections.{twoBytes}
 use Rattle.formats.specs.AutomatonFile.{lettersAt, transitionsAt, transitionsOf, kindAt, transitionAt, fromOf, letterOf, toOf, isInitial, isTransition, hasTransition}
-use Rattle.formats.specs.RuleFile.{morphismOf}
+use Rattle.formats.specs.RuleFile.{lettersOf, morphismOf, pairsOf}
 use Rattle.promises.specs.declared.Monitor.{Monitor}
 use Rattle.promises.specs.declared.Moved.the-variants.{Refused}
 use Rattle.promises.specs.declared.InPlaceAnswer.the-variants.{Done}
+use Rattle.promises.specs.declared.MonitorVerdict.the-variants.{Decided}
 use Rattle.promises.specs.Stretch.{unread, stretchOf}
 use Rattle.promises.specs.Automaton.{automatonOf, TooManyMatricesAt}
 use Rattle.promises.specs.Inclusion.{Apart, Within}
-use Rattle.promises.specs.Monitor.{freshMonitor}
+use Rattle.promises.specs.Monitor.{valueOf, freshMonitor}
 use Rattle.promises.specs.Moves.{afterEvent, afterMark, EventPromise}
 use Rattle.promises.specs.InPlace.{EventInPlace}
-use Rattle.promises.specs.Verdict.{NoneAt}
+use Rattle.promises.specs.Verdict.{NoneAt, VerdictAnswer}
 use Rattle.promises.specs.Histories.{Action, event, mark, sinceWord, beforeWord, Run, event-refused}
 
 -- ---- stretch: u is 0, v is 1 2
@@ -107,12 +108,22 @@ done-in-place : {bytes : List ℕ} {f g : Monitor} {letter : ℕ} {entry exit : 
     → g ≡ afterEvent (morphismOf bytes) f letter
 done-in-place p = p .monitor
 
--- no verdict with since none, nor with before none
+-- no verdict with since none, whatever before is
 since-none : NoneAt (record { before = 0; since = 64 }) 0
-since-none = record { none = inr refl; is-place = refl }
+since-none = record { none = refl; is-place = refl }
 
-before-none : NoneAt (record { before = 64; since = 0 }) 0
-before-none = record { none = inl refl; is-place = refl }
+both-none : NoneAt (record { before = 64; since = 64 }) 0
+both-none = record { none = refl; is-place = refl }
+
+-- one with before none
+before-none : {place : ℕ} → NoneAt (record { before = 64; since = 0 }) place → ⊥
+before-none k = omega (arith, k .none)
+
+-- it is that of the cycle for ever
+cycle-for-ever : (bytes v : List ℕ) (turns : ℕ) → VerdictAnswer bytes (record { before = 64; since = 0 }) (Decided true turns) → Lasso (lettersOf bytes) [] v
+    → value (morphismOf bytes) v ≡ element 0 → Accepts (morphismOf bytes) (pairsOf bytes) [] v
+unfolding value valueOf
+cycle-for-ever bytes v turns answer lasso e = answer .0 .accepted [] v lasso refl e
 
 -- ---- histories: letters 0 and 1, a mark, letter 2; the latest action first
 

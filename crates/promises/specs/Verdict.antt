@@ -1,10 +1,10 @@
--- What `verdict` promises: whether the lassos with the values of a monitor are accepted. Document 01, "Follower". Assumes nothing.
+-- What `verdict` promises: whether the lassos with the values of a monitor are accepted. Document 01, "Follower"; document 02, Job 4.
+-- Assumes nothing.
 use Prim.Native.Nat.{ℕ}
 use mathlib.Core.Path.{_≡_}
 use mathlib.Core.Bool.{Bool, true, false}
 use mathlib.Core.List.{List, [], _∷_, _++_}
-use mathlib.Core.Logic.{_⊎_}
-use Rattle.theory.specs.Rules.{Morphism, Pairs}
+use Rattle.theory.specs.Rules.{Morphism, Pairs, Value}
 use Rattle.theory.specs.Pairs.{LeastExponent}
 use Rattle.theory.specs.Smallest.{LassosAccepted, LassosNotAccepted}
 use Rattle.answer.specs.declared.Refusal.the-variants.{WordLength}
@@ -12,14 +12,14 @@ use Rattle.answer.specs.Checks.{Check, Verdict, passed, refused, FirstFailure}
 use Rattle.formats.specs.RuleFile.{morphismOf, pairsOf}
 use Rattle.formats.specs.Calls.{afterCall}
 use Rattle.promises.specs.declared.Monitor.{Monitor}
-use Rattle.promises.specs.Monitor.{noValue, monitorChecks}
+use Rattle.promises.specs.Monitor.{noValue, valueOf, monitorChecks}
 use Rattle.promises.specs.Weak.{weakCheck}
 use Rattle.promises.specs.declared.MonitorVerdict.{MonitorVerdict}
 use Rattle.promises.specs.declared.MonitorVerdict.the-variants.{Decided, Refused}
 
--- 11 "a verdict is wanted with before or since none"; place 0
+-- 11 "since none" (Job 4), whatever before is; place 0
 pub record NoneAt (f : Monitor) (place : ℕ) : Type 0 where
-  pub none : (f .before ≡ noValue) ⊎ (f .since ≡ noValue)
+  pub none : f .since ≡ noValue
   pub is-place : place ≡ 0
 
 abbrev pub noneCheck : Monitor → Check
@@ -35,15 +35,16 @@ monitorVerdictRefusal (Decided accepted turns) = passed
 monitorVerdictRefusal (Refused refusal input place) = refused refusal input place
 
 -- the lassos with two values are accepted, or they are not
-abbrev pub LassosDecided : Morphism → Pairs → ℕ → ℕ → Bool → Type 0
+abbrev pub LassosDecided : Morphism → Pairs → Value → ℕ → Bool → Type 0
 LassosDecided m P before since true = LassosAccepted m P before since
 LassosDecided m P before since false = LassosNotAccepted m P before since
 
--- "that of the lasso whose start has value before and whose cycle has value since"; and how many turns settle the value of since, accepted or
--- not (document 02, Job 6)
+-- "that of the lasso whose start has value before and whose cycle has value since"; "A follower with before none and since not none
+-- gets a verdict, that of its cycle alone" (Job 4): the start with the value none is the empty one. And how many turns settle the value of
+-- since, accepted or not (Job 6)
 abbrev pub VerdictAnswer : List ℕ → Monitor → MonitorVerdict → Type 0
 VerdictAnswer bytes f (Decided accepted turns) =
-    LassosDecided (morphismOf bytes) (pairsOf bytes) (f .before) (f .since) accepted × LeastExponent (morphismOf bytes) (f .since) turns
+    LassosDecided (morphismOf bytes) (pairsOf bytes) (valueOf (f .before)) (f .since) accepted × LeastExponent (morphismOf bytes) (f .since) turns
 VerdictAnswer bytes f (Refused refusal input place) = Unit {0}
 
 pub record VerdictPromise (bytes : List ℕ) (f : Monitor) (entry exit : List ℕ) (answer : MonitorVerdict) : Type 0 where

@@ -185,7 +185,10 @@ fn main() {
         second marks not linked: inclusion: 2 0 0 0 1 2 0 1 1 0 0 0: 2 0 0 0 1 0\n\
         W: verdict: 2 0 0 0 1 2 0 1 1 0 0 0: 1: 0\n\
         W: verdict: 2 0 0 0 1 2 0 1 1 0 0 0: 0: 1\n\
+        W: verdict: 2 0 0 0 1 2 0 1 1 0 0 0: 64: 0\n\
+        W: verdict: 2 0 0 0 1 2 0 1 1 0 0 0: 64: 1\n\
         W: verdict: 2 0 0 0 1 2 0 1 1 0 0 0: 0: 64\n\
+        W: verdict: 2 0 0 0 1 2 0 1 1 0 0 0: 64: 64\n\
         W: verdict: 2 0 0 0 1 2 0 1 1 0 0 0: 2: 0\n\
         Z: verdict: 2 0 1 1 0 2 1 0 1 0 0 0: 0: 0\n\
         M7 Z with letter 0 only: verdict: 2 0 1 1 0 1 1 1 0 0 0: 0: 1\n\

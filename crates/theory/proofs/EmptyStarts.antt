@@ -1,15 +1,16 @@
 -- What empty starts change: nothing. For every rule and rival, strong, same lassos and smallest say the same whether lassos with an
 -- empty start count or not, and so does inclusion (document 02, Job 4). The definitions of before stand here, by the lassos whose start
--- has a letter. Assumes nothing.
+-- has a letter. Also the lassos of a cycle alone. Assumes nothing.
 use Prim.Native.Nat.{ℕ, _≤_}
-use mathlib.Core.Path.{_≡_}
+use mathlib.Core.Path.{_≡_, refl, ap, _∙_}
 use mathlib.Core.Logic.{_↔_}
-use mathlib.Core.List.{List}
-use Rattle.theory.specs.Rules.{Morphism, Pairs, Rule, value, marked}
+use mathlib.Core.List.{List, []}
+use Rattle.theory.specs.Words.{over-nil}
+use Rattle.theory.specs.Rules.{Morphism, Pairs, Rule, none, element, value, marked, ValueWord}
 use Rattle.theory.specs.Acceptance.{Accepts, Strong, RuleAccepts}
 use Rattle.theory.specs.Inclusion.{Included}
-use Rattle.theory.specs.Smallest.{SameLassos, Renumbered, Smallest}
-use Rattle.theory.proofs.Starts.{Started, started-lasso, start-or-turn, lasso-started, equal-started}
+use Rattle.theory.specs.Smallest.{SameLassos, LassosAccepted, LassosNotAccepted, Renumbered, Smallest}
+use Rattle.theory.proofs.Starts.{Started, started-lasso, start-or-turn, first-value, lasso-started, value-started, equal-started}
 use Rattle.theory.proofs.Strength.{started-accepts}
 
 pub record StrongStarted (m : Morphism) (P : Pairs) : Type 0 where
@@ -93,3 +94,34 @@ included-same {m} {P} {P′} = (
         (i .accepted-too (start-or-turn u v) v (lasso-started l) (started-accepts u v (l .cycle-some) .1 a));
   },
 )
+
+-- ---- the lassos of a cycle alone
+
+-- the empty word
+no-word : (m : Morphism) → ValueWord m none
+unfolding value
+no-word m = record { word = []; over = over-nil; its-value = refl }
+
+-- with a turn of the cycle for the empty start the start has the cycle's value
+turn-value : (m : Morphism) (u v : List ℕ) {e : ℕ} → value m u ≡ none → value m v ≡ element e → value m (start-or-turn u v) ≡ element e
+unfolding first-value
+turn-value m u v eu ev = value-started m u v ∙ ap (λ x. first-value x (value m v)) eu ∙ ev
+
+-- they are accepted where those with the cycle's value in the start too are, and not accepted where those are not
+pub cycle-accepted : {m : Morphism} {P : Pairs} {e : ℕ} → LassosAccepted m P (element e) e → LassosAccepted m P none e
+cycle-accepted {m} k = record {
+  start = no-word m;
+  cycle = k .cycle;
+  accepted = λ u v l eu ev.
+      started-accepts u v (l .cycle-some) .0
+      (k .accepted (start-or-turn u v) v (started-lasso (lasso-started l)) (turn-value m u v eu ev) ev);
+}
+
+pub cycle-not-accepted : {m : Morphism} {P : Pairs} {e : ℕ} → LassosNotAccepted m P (element e) e → LassosNotAccepted m P none e
+cycle-not-accepted {m} k = record {
+  start = no-word m;
+  cycle = k .cycle;
+  not-accepted = λ u v l eu ev a.
+      k .not-accepted (start-or-turn u v) v (started-lasso (lasso-started l)) (turn-value m u v eu ev) ev
+      (started-accepts u v (l .cycle-some) .1 a);
+}

@@ -65,11 +65,15 @@ unfolding join
 value m [] = none
 value m (a ∷ w) = join m (element (m .image a)) (value m w)
 
--- a word that has the element for its value (refusal 6 is for an element that "is no word's value")
-pub record WordOf (m : Morphism) (s : ℕ) : Type 0 where
+-- a word that has the value x; for none that is the empty word
+pub record ValueWord (m : Morphism) (x : Value) : Type 0 where
   pub word : List ℕ
   pub over : Over (m .letters) word
-  pub its-value : value m word ≡ element s
+  pub its-value : value m word ≡ x
+
+-- a word that has the element for its value (refusal 6 is for an element that "is no word's value")
+abbrev pub WordOf : Morphism → ℕ → Type 0
+WordOf m s = ValueWord m (element s)
 
 -- every element is some word's value
 pub record AllReached (m : Morphism) : Type 0 where

@@ -6,7 +6,7 @@ use mathlib.Core.Logic.{_↔_}
 use mathlib.Core.List.{List}
 use Rattle.theory.specs.Words.{Lasso}
 use lib.Dec.{T}
-use Rattle.theory.specs.Rules.{Morphism, Rule, Pairs, element, value, marked, WordOf}
+use Rattle.theory.specs.Rules.{Morphism, Rule, Pairs, Value, element, value, marked, ValueWord, WordOf}
 use Rattle.theory.specs.Acceptance.{Accepts, RuleAccepts, RuleStrong}
 use Rattle.theory.specs.Pairs.{Linked}
 
@@ -15,27 +15,27 @@ pub record SameLassos (r r′ : Rule) : Type 0 where
   pub same-letters : r .morphism .letters ≡ r′ .morphism .letters
   pub both-or-neither : (u v : List ℕ) → Lasso (r .morphism .letters) u v → RuleAccepts r u v ↔ RuleAccepts r′ u v
 
--- the lassos whose start has the value s and whose cycle has the value e are accepted; there is one
-pub record LassosAccepted (m : Morphism) (P : Pairs) (s e : ℕ) : Type 0 where
-  pub start : WordOf m s
+-- the lassos whose start has the value x, none for an empty start, and whose cycle has the value e are accepted; there is one
+pub record LassosAccepted (m : Morphism) (P : Pairs) (x : Value) (e : ℕ) : Type 0 where
+  pub start : ValueWord m x
   pub cycle : WordOf m e
-  pub accepted : (u v : List ℕ) → Lasso (m .letters) u v → value m u ≡ element s → value m v ≡ element e → Accepts m P u v
+  pub accepted : (u v : List ℕ) → Lasso (m .letters) u v → value m u ≡ x → value m v ≡ element e → Accepts m P u v
 
 -- none of them is accepted; there is one
-pub record LassosNotAccepted (m : Morphism) (P : Pairs) (s e : ℕ) : Type 0 where
-  pub start : WordOf m s
+pub record LassosNotAccepted (m : Morphism) (P : Pairs) (x : Value) (e : ℕ) : Type 0 where
+  pub start : ValueWord m x
   pub cycle : WordOf m e
-  pub not-accepted : (u v : List ℕ) → Lasso (m .letters) u v → value m u ≡ element s → value m v ≡ element e → Accepts m P u v → ⊥
+  pub not-accepted : (u v : List ℕ) → Lasso (m .letters) u v → value m u ≡ x → value m v ≡ element e → Accepts m P u v → ⊥
 
 -- a linked pair whose lassos, those with its values, are accepted
 pub record LinkedAccepted (m : Morphism) (P : Pairs) (s e : ℕ) : Type 0 where
   pub linked : Linked m s e
-  pub lassos : LassosAccepted m P s e
+  pub lassos : LassosAccepted m P (element s) e
 
 -- a linked pair whose lassos are not accepted
 pub record LinkedNotAccepted (m : Morphism) (P : Pairs) (s e : ℕ) : Type 0 where
   pub linked : Linked m s e
-  pub lassos : LassosNotAccepted m P s e
+  pub lassos : LassosNotAccepted m P (element s) e
 
 -- "one map from the rival's elements, one-to-one and onto ours, takes the product of any two to the product of their
 -- images, and each letter's element to our element of that letter"

@@ -2,7 +2,7 @@
 use borrow.Author.Needs.{needs}
 use Rattle.rule_check.proofs.Calls.{checked-rule, checked-refused}
 use Rattle.mark_strong.proofs.Calling.{checked-table, decide-place}
-use Rattle.monitor_verdict.proofs.Values.{said-elements, said-fault}
+use Rattle.monitor_verdict.proofs.Values.{start-below, said-judgeable, said-fault}
 use Rattle.monitor_verdict.proofs.Ways.{rule-refused, value-refused, judged}
 use Rattle.monitor_verdict.proofs.verdict.Statement.{statement}
 use Rattle.monitor_verdict.proofs.verdict.Tie as tie
@@ -46,23 +46,29 @@ returns-2 c =
     let v = c .before .before .before .before .before .before .before .values-fault in
     value-refused _ _ _ p (said-fault _ _ (v .result) (v .ensures) (c .before .before .before .before .before .refusal2 .given .1)) (c .before .before .zero .ensures)
 
+start-element-requires : tie.Need-start-element-requires
+start-element-requires c κs = search needs
+
 judge-requires : tie.Need-judge-requires
 judge-requires c κs =
-    let a = c .before .before .before .before .before .before .before .before .before .check in
-    let p = checked-rule 1 _ _ _ (a .result) (a .ensures) (c .before .before .before .before .before .shape .given .1) in
-    let v = c .before .before .before .values-fault in
-    let b = said-elements _ _ (v .result) (v .ensures) (c .before .enum-told .given .1) in
-    (checked-table 1 _ _ p, (decide-place 1 _ _ p, search needs))
+    let e = c .before .before in
+    let a = e .before .before .before .before .before .before .before .before .check in
+    let p = checked-rule 1 _ _ _ (a .result) (a .ensures) (e .before .before .before .before .shape .given .1) in
+    let v = e .before .before .values-fault in
+    let b = said-judgeable _ _ (v .result) (v .ensures) (e .enum-told .given .1) in
+    (checked-table 1 _ _ p, (decide-place 1 _ _ p, (start-below b (c .before .start-element .ensures), b .since-inside)))
 
 same-length-3 : tie.Need-same-length-3
 same-length-3 c = search needs
 
 returns-3 : tie.Need-returns-3
 returns-3 c =
-    let a = c .before .before .before .before .before .before .before .before .before .before .before .before .check in
-    let p = checked-rule 1 _ _ _ (a .result) (a .ensures) (c .before .before .before .before .before .before .before .before .shape .given .1) in
-    let v = c .before .before .before .before .before .before .values-fault in
-    judged _ _ _ p (said-elements _ _ (v .result) (v .ensures) (c .before .before .before .before .enum-told .given .1)) (c .before .before .judge .ensures)
+    let j = c .before .before in
+    let e = j .before .before .before in
+    let a = e .before .before .before .before .before .before .before .before .check in
+    let p = checked-rule 1 _ _ _ (a .result) (a .ensures) (e .before .before .before .before .shape .given .1) in
+    let v = e .before .before .values-fault in
+    judged _ _ _ p (said-judgeable _ _ (v .result) (v .ensures) (e .enum-told .given .1)) (j .before .before .start-element .ensures) (j .judge .ensures)
 
 pub verdict-spec : {M : Type 1} → statement M
 verdict-spec =
@@ -79,6 +85,7 @@ verdict-spec =
     zero-requires
     same-length-2
     returns-2
+    start-element-requires
     judge-requires
     same-length-3
     returns-3)
