@@ -176,7 +176,7 @@ fn lengths_of_words() {
     assert_eq!(lasso(&W, &[1], &[0; WORD + 1]), refused(11, 2, 0));
     assert_eq!(lasso(&W, &[1], &[0]), accepted(1));
     assert_eq!(lasso(&W, &[1], &[0; WORD]), accepted(1));
-    assert_eq!(lasso(&W, &[], &[0]), refused(11, 1, 0));
+    assert_eq!(lasso(&W, &[], &[]), refused(11, 2, 0));
     assert_eq!(lasso(&W, &[1; WORD + 1], &[0]), refused(11, 1, 0));
     assert_eq!(lasso(&W, &[1; WORD], &[0]), accepted(1));
 }
@@ -220,6 +220,17 @@ fn turns_in_the_cyclic_group_of_64() {
 }
 
 #[test]
+fn lassos_with_an_empty_start() {
+    assert_eq!(lasso(&W, &[], &[0]), accepted(1));
+    assert_eq!(lasso(&W, &[], &[1]), not_accepted(1));
+    // Z is weak: 1 for ever is accepted, though 0, then 1 for ever is not.
+    assert_eq!(lasso(&Z, &[], &[1]), accepted(1));
+    let rule = translated(&M10).expect("few matrices");
+    assert_eq!(lasso(&rule, &[], &[0]), accepted(1));
+    assert_eq!(lasso(&rule, &[], &[1]), not_accepted(1));
+}
+
+#[test]
 fn an_automaton_that_accepts_nothing() {
     // An idle initial state, and a final one that loops where no run comes.
     let rule = translated(&[2, 1, 2, 1, 1, 0, 1, 0, 1]).expect("few matrices");
@@ -234,6 +245,8 @@ fn a_monitor_of_w() {
     assert_eq!(mark(&W, start, scratch), Ok(start));
     assert_eq!(verdict(&W, start, scratch), refused(11, 1, 0));
     let first = event(&W, start, 1, scratch).expect("a letter of W");
+    // No mark yet: 1 for ever.
+    assert_eq!(verdict(&W, first, scratch), Ok(Verdict::NotAccepted));
     let marked = mark(&W, first, scratch).expect("a monitor of W");
     assert_eq!((marked.before, marked.since), (1, NONE));
     let second = event(&W, marked, 0, scratch).expect("a letter of W");

@@ -38,6 +38,7 @@ int main(void)
     expect("accepted", is_result(duknavet_member(rule, sizeof rule, letter + 1, 1, letter, 1, scratch, sizeof scratch), 1, 1, 0));
     expect("not accepted", is_result(duknavet_member(rule, sizeof rule, letter, 1, letter + 1, 1, scratch, sizeof scratch), 0, 1, 0));
     expect("two turns", is_result(duknavet_member(sums, sizeof sums, letter, 1, letter, 1, scratch, sizeof scratch), 1, 2, 0));
+    expect("empty start", is_result(duknavet_member(rule, sizeof rule, letter, 0, letter, 1, scratch, sizeof scratch), 1, 1, 0));
     expect("complement", is_result(duknavet_complement(rule, sizeof rule, out, sizeof out, scratch, sizeof scratch), 14, 0, 0));
     expect("reduce", is_result(duknavet_reduce(every_mark, sizeof every_mark, out, sizeof out, scratch, sizeof scratch), 9, 0, 0));
     expect("reduced", memcmp(out, one_element, sizeof one_element) == 0);
@@ -50,6 +51,7 @@ int main(void)
     expect("mark", is_result(duknavet_mark(rule, sizeof rule, DUKNAVET_NONE, 1, scratch, sizeof scratch), 1, DUKNAVET_NONE, 0));
     expect("verdict", is_result(duknavet_verdict(rule, sizeof rule, 1, 0, scratch, sizeof scratch), 1, 1, 0));
     expect("verdict, two turns", is_result(duknavet_verdict(one_letter, sizeof one_letter, 0, 1, scratch, sizeof scratch), 0, 2, 0));
+    expect("no mark", is_result(duknavet_verdict(rule, sizeof rule, DUKNAVET_NONE, 1, scratch, sizeof scratch), 0, 1, 0));
     answer = duknavet_automaton_rule(automaton, sizeof automaton, out, sizeof out, scratch, sizeof scratch);
     expect("automaton", duknavet_refusal_of(answer) == DUKNAVET_RESULT && out[0] == 3);
     answer = duknavet_member(rule, sizeof rule, letter, 2, letter, 3, scratch, sizeof scratch);

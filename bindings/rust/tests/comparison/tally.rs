@@ -65,7 +65,7 @@ const REFUSALS: [Refusals; 10] = [
 ];
 
 /// Outcomes that must occur at least so often.
-const LEAST: [(&str, &str, u64); 48] = [
+const LEAST: [(&str, &str, u64); 51] = [
     ("classes", "counts", 1000),
     ("strong", "weak", 100),
     ("strong", "strong, marks closed", 1000),
@@ -85,6 +85,7 @@ const LEAST: [(&str, &str, u64); 48] = [
     ("member of weak", "accepted, 2 turns or more", 100),
     ("member of weak", "not accepted, 1 turn", 100),
     ("member of weak", "not accepted, 2 turns or more", 50),
+    ("member", "no letter in u", 100),
     ("complement", "written", 1000),
     ("complement", "marks exchanged, and found", 1000),
     ("included", "included", 1000),
@@ -101,9 +102,11 @@ const LEAST: [(&str, &str, u64); 48] = [
     ("verdict", "not accepted, 1 turn", 100),
     ("verdict", "not accepted, 2 turns or more", 100),
     ("verdict", "64 turns", 1),
+    ("verdict", "of a cycle alone", 50),
     ("verdict", "a monitor's value refused", 10),
     ("monitor", "histories", 1000),
     ("monitor", "verdicts on histories", 100),
+    ("monitor", "verdicts without a mark", 50),
     ("reduce", "smaller", 100),
     ("reduce", "as large", 100),
     ("reduce", "64 elements", 1),

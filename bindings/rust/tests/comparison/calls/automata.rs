@@ -66,7 +66,7 @@ impl Comparison {
     fn runs(&mut self, automaton: &Automaton, rule: &Rule) {
         let marking = Marking::new(rule.morphism.n, &rule.marks);
         for _ in 0..6 {
-            let lengths = (self.random.within(1, 5), self.random.within(1, 7));
+            let lengths = (self.random.within(0, 5), self.random.within(1, 7));
             let u = self.random.word(lengths.0, automaton.letters);
             let v = self.random.word(lengths.1, automaton.letters);
             let accepted = automaton.accepts(&u, &v);

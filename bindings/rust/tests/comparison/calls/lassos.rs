@@ -41,6 +41,9 @@ impl Comparison {
         if known.strong.get() == Some(&false) {
             self.count_decided("member of weak", found);
         }
+        if u.is_empty() {
+            self.tally.count("member", "no letter in u");
+        }
         if u.len() == 4_224 || v.len() == 4_224 {
             self.tally.count("member", "a word of 4224 letters");
         }

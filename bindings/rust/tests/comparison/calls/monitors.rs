@@ -2,6 +2,7 @@
 
 use super::markings::outcomes;
 use super::{lengths, Comparison};
+use crate::definitions::acceptance::accepts;
 use crate::definitions::checks::{self, Refusal};
 use crate::definitions::settling::turns;
 use crate::lending::Lent;
@@ -99,12 +100,16 @@ impl Comparison {
             lengths(sizes, MONITOR_SIZES)?;
             let known = subject.read.as_ref().map_err(|refusal| *refusal)?;
             checks::monitor(known.morphism(), before, since)?;
-            if before == NONE || since == NONE {
+            if since == NONE {
                 return Err((11, 1, 0));
             }
             let known = self.asked_strong(subject)?;
             let m = known.morphism();
-            let accepted = outcomes(known)[before * m.n + since];
+            let accepted = match before {
+                // The cycle alone: a word with its value, for ever.
+                NONE => accepts(m, &known.marking, &[], &known.words[since]),
+                before => outcomes(known)[before * m.n + since],
+            };
             Ok((accepted, turns(m, &known.words[since])))
         };
         let expected = read();
@@ -117,6 +122,9 @@ impl Comparison {
         let found = (answer.accepted, answer.turns);
         assert_eq!(found, expected, "verdict of {monitor:?} on {inputs:?}");
         self.count_decided("verdict", found);
+        if before == NONE {
+            self.tally.count("verdict", "of a cycle alone");
+        }
     }
 
     /// Counts refusal 3 of a monitor's value apart from that of a file's entry.

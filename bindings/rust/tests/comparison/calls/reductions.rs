@@ -83,6 +83,11 @@ fn compare(known: &Known, reduced: &Known) -> Result<(), String> {
             }
         }
     }
+    for v in &known.words {
+        if accepts(r, marking, &[], v) != accepts(m, &known.marking, &[], v) {
+            return Err(format!("{v:?} for ever differs"));
+        }
+    }
     let strong = match reduced.decided() {
         Decided::Unknown => splits::strong(r, marking),
         decided => *decided == Decided::Yes,

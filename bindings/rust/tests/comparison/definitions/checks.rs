@@ -130,11 +130,11 @@ pub fn second(m: &Morphism, bytes: &[u8]) -> Result<Vec<Pair>, Refusal> {
     marks(m, pairs, 2, begin)
 }
 
-/// The checks of a lasso: both lengths, then the letters of both.
+/// The checks of a lasso: both lengths, of which only that of u may be 0, then the letters of both.
 pub fn lasso(m: &Morphism, u: &[u8], v: &[u8]) -> Result<(), Refusal> {
     let words = [(1, u), (2, v)];
-    for (input, word) in words {
-        if word.is_empty() || word.len() > 4_224 {
+    for ((input, word), least) in words.into_iter().zip([0, 1]) {
+        if word.len() < least || word.len() > 4_224 {
             return Err((11, input, 0));
         }
     }

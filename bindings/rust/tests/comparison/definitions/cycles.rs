@@ -121,16 +121,22 @@ pub fn included(
     }
 }
 
-/// Whether two lassos with equal values, u up to `u_most` and v up to `v_most` letters, differ: every word is tried.
+/// Whether two lassos with equal values, u up to `u_most` and v up to `v_most` letters, differ: every word is tried, for u the
+/// empty one too, whose value is that of no other.
 pub fn differing_lassos(m: &Morphism, marking: &Marking, u_most: usize, v_most: usize) -> bool {
-    let mut outcomes: Vec<Option<bool>> = vec![None; m.n * m.n];
-    let (starts, turns) = (
+    let mut outcomes: Vec<Option<bool>> = vec![None; (m.n + 1) * m.n];
+    let (mut starts, turns) = (
         all_words(m.letters(), u_most),
         all_words(m.letters(), v_most),
     );
+    starts.push(Vec::new());
     for u in &starts {
         for v in &turns {
-            let at = m.value(u) as usize * m.n + m.value(v) as usize;
+            let start = match u.is_empty() {
+                true => m.n,
+                false => m.value(u) as usize,
+            };
+            let at = start * m.n + m.value(v) as usize;
             let accepted = accepts(m, marking, u, v);
             if *outcomes[at].get_or_insert(accepted) != accepted {
                 return true;

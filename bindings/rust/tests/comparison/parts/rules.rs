@@ -66,7 +66,7 @@ pub fn every_call(c: &mut Comparison, subject: &Subject) {
     c.reduce(subject, sizes);
     for _ in 0..4 {
         let most = if c.random.once_in(4) { 40 } else { 6 };
-        let lengths = (c.random.within(1, most), c.random.within(1, most));
+        let lengths = (c.random.within(0, most), c.random.within(1, most));
         let (u, v) = (
             c.random.word(lengths.0, letters),
             c.random.word(lengths.1, letters),
@@ -132,7 +132,7 @@ fn history(c: &mut Comparison, subject: &Subject) {
         "history of {before:?} {since:?}"
     );
     c.tally.count("monitor", "histories");
-    if !before.is_empty() && !since.is_empty() && c.settled(subject) {
+    if !since.is_empty() && c.settled(subject) {
         let answer = duknavet::verdict(&subject.bytes, monitor, &mut vec![0; SCRATCH]);
         let expected = Verdict {
             accepted: accepts(m, &known.marking, &before, &since),
@@ -140,5 +140,8 @@ fn history(c: &mut Comparison, subject: &Subject) {
         };
         assert_eq!(answer, Ok(expected), "verdict of {before:?} {since:?}");
         c.tally.count("monitor", "verdicts on histories");
+        if before.is_empty() {
+            c.tally.count("monitor", "verdicts without a mark");
+        }
     }
 }

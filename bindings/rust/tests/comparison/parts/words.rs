@@ -37,6 +37,7 @@ fn long_words(c: &mut Comparison, subject: &Subject) {
     let other = c.random.within(4_000, WORD - 1);
     c.member(subject, &long, &short, MEMBER_SIZES);
     c.member(subject, &short, &long, MEMBER_SIZES);
+    c.member(subject, &[], &long, MEMBER_SIZES);
     c.member(subject, &long, &repeated, MEMBER_SIZES);
     c.member(subject, &repeated, &long[..other], MEMBER_SIZES);
 }

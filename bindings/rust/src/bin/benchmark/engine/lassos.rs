@@ -5,8 +5,8 @@ use super::sections::first_out;
 use super::{lengths, lent_or_new, on_memory, Needs, Refusal, Rule, Strategy, SCRATCH, SECOND};
 
 fn words(strategy: Strategy, rule: &Rule, u: &[u8], v: &[u8]) -> Result<(), Refusal> {
-    for (input, word) in [(1, u), (2, v)] {
-        if word.is_empty() || word.len() > 4_224 {
+    for (input, word, least) in [(1, u, 0), (2, v, 1)] {
+        if word.len() < least || word.len() > 4_224 {
             return Err((11, input, 0));
         }
     }
@@ -26,6 +26,8 @@ fn accepts(rule: &Rule, u: &[u8], v: &[u8], memory: &mut [u8]) -> (bool, usize) 
     let values = lent_or_new(rest, &mut new, 2 * v.len());
     let (beginnings, ends) = values.split_at_mut(v.len());
     let letter = |a: &u8| rule.image(*a as usize);
+    // A turn of the cycle stands for an empty start.
+    let u = if u.is_empty() { v } else { u };
     let s = u[1..]
         .iter()
         .fold(letter(&u[0]), |s, a| rule.product(s, letter(a)));

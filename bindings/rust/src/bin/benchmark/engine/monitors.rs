@@ -67,14 +67,15 @@ pub fn verdict(
 ) -> Result<(bool, usize), Refusal> {
     let how = (strategy, Needs::TwoMarkings);
     with_monitor(how, bytes, (before, since), scratch, |rule, memory| {
-        if before == 64 || since == 64 {
+        if since == 64 {
             return Err((11, 1, 0));
         }
         if !decide(rule, memory) {
             return Err((12, 1, 0));
         }
+        let start = if before == 64 { since } else { before };
         let (e, turns) = rule.power(since);
         let closure = &memory[SECOND..WORK];
-        Ok((closure[rule.product(before, e) * 64 + e] != 0, turns))
+        Ok((closure[rule.product(start, e) * 64 + e] != 0, turns))
     })
 }
