@@ -24,7 +24,7 @@
  * Words
  *   A rule file has n elements (n, 1 to 64, then n * n products, a * b at a * n + b), k letters (k, 1 to 16, then an element each)
  *   and marks (a two-byte count, 0 to 4096, low byte first, then pairs (s, e) of two bytes). The value of a word is the product
- *   of its letters' elements. A lasso is u, then v for ever, neither empty. A rule accepts it if the same endless word is p, then
+ *   of its letters' elements. A lasso is u, then v for ever; u may be empty. A rule accepts it if the same endless word is p, then
  *   w for ever, with (value of p, value of w) marked. A pair (s, e) is linked if e * e = e and s * e = s. Linked pairs (s, e) and
  *   (t, f) are conjugate if some x and y have s * x = t, x * y = e and y * x = f. A rule is strong if the values of u and v
  *   decide whether the lasso is accepted, and else weak. The turns of a cycle whose value is x are the least c, 1 to n, with
@@ -48,7 +48,7 @@ extern "C" {
 #define DUKNAVET_U 64          /* u of included */
 #define DUKNAVET_V 4224        /* v of included */
 
-/* The most letters that u or v of a lasso may have; the fewest is 1. */
+/* The most letters that u or v of a lasso may have; the fewest is 0 for u and 1 for v. */
 #define DUKNAVET_WORD 4224
 
 /* The value of a monitor that stands for no letters. */
@@ -71,7 +71,7 @@ enum duknavet_refusal {
     DUKNAVET_NOT_LINKED = 7,           /* a marked pair is not linked: its first byte */
     DUKNAVET_DUPLICATE = 8,            /* a pair or transition stands twice: the first byte of the later */
     DUKNAVET_UNKNOWN_LETTER = 10,      /* a word or event has a letter of k or more: its position; 0 for an event */
-    DUKNAVET_WORD_LENGTH = 11,         /* u or v is too short or long, or a verdict lacks a value: 0 */
+    DUKNAVET_WORD_LENGTH = 11,         /* u or v is too long, v is empty, or a verdict lacks since: 0 */
     DUKNAVET_NOT_STRONG = 12,          /* the rule is not strong: 0 */
     DUKNAVET_BUFFER_TOO_SHORT = 13,    /* a lent buffer is too short: 0 */
     DUKNAVET_TOO_MANY_MATRICES = 14    /* an automaton has more than 64 matrices: 0 */
@@ -112,8 +112,8 @@ uint64_t duknavet_classes(const uint8_t *rule, size_t rule_length,
 uint64_t duknavet_strong(const uint8_t *rule, size_t rule_length,
                          uint8_t *scratch, size_t scratch_length);
 
-/* Field 0: 1 if the rule accepts u, then v for ever, 0 if not. Field 1, either way: the turns of v, 1 to n. A byte a letter. The rule
- * may be weak. */
+/* Field 0: 1 if the rule accepts u, then v for ever, 0 if not; where u_length is 0, v for ever. Field 1, either way: the turns of v,
+ * 1 to n. A byte a letter. The rule may be weak. */
 uint64_t duknavet_member(const uint8_t *rule, size_t rule_length,
                          const uint8_t *u, size_t u_length,
                          const uint8_t *v, size_t v_length,
@@ -165,7 +165,7 @@ uint64_t duknavet_mark(const uint8_t *rule, size_t rule_length,
                        uint8_t *scratch, size_t scratch_length);
 
 /* Field 0: 1 if a strong rule accepts the lassos whose start has the value before and whose cycle has the value since, 0 if
- * not. Field 1, either way: the turns of these cycles, 1 to n. */
+ * not; where before is DUKNAVET_NONE, those without a start. Field 1, either way: the turns of these cycles, 1 to n. */
 uint64_t duknavet_verdict(const uint8_t *rule, size_t rule_length,
                           size_t before, size_t since,
                           uint8_t *scratch, size_t scratch_length);

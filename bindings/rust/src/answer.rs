@@ -26,8 +26,8 @@ pub enum Refusal {
     Duplicate = 8,
     /// A word or an event has a letter that the rule does not have. Place: its position, 0 for an event.
     UnknownLetter = 10,
-    /// u (input 1) or v (input 2) does not have 1 to [`WORD`](crate::WORD) letters, or a verdict is wanted of a monitor that
-    /// lacks a value.
+    /// u (input 1) has more than [`WORD`](crate::WORD) letters, v (input 2) does not have 1 to [`WORD`](crate::WORD), or a
+    /// verdict is wanted of a monitor that saw no letter since its last mark.
     WordLength = 11,
     /// The rule is not strong.
     NotStrong = 12,

@@ -15,7 +15,8 @@ pub struct Membership {
 
 /// Whether the rule accepts the lasso: `u`, then `v` for ever.
 ///
-/// Each of the two has 1 to [`WORD`](crate::WORD) letters, a byte a letter. The rule may be weak.
+/// `u` has at most [`WORD`](crate::WORD) letters and `v` 1 to [`WORD`](crate::WORD), a byte a letter. Where `u` is empty the
+/// lasso is `v` for ever. The rule may be weak.
 ///
 /// ```
 /// use duknavet::{member, Membership, SCRATCH};

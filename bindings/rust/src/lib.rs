@@ -59,7 +59,7 @@ pub const U_OUT: usize = 64;
 /// The bytes that the buffer for the cycle v of a lasso must have.
 pub const V_OUT: usize = 4_224;
 
-/// The most letters that u or v of a lasso may have.
+/// The most letters that u or v of a lasso may have; only u may have none.
 pub const WORD: usize = 4_224;
 
 /// The value of a monitor that stands for no letters.

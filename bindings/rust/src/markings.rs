@@ -79,8 +79,8 @@ pub fn complement(
 
 /// Whether each lasso that the rule accepts is accepted under the marks section `second` in place of the rule's own.
 ///
-/// Where not, a lasso that tells the two apart is written to `u` ([`U_OUT`](crate::U_OUT) bytes or more, at most n letters
-/// written) and `v` ([`V_OUT`](crate::V_OUT) bytes or more, at most (n+1)² − 1 letters written). The rule may be weak.
+/// Where not, a lasso that tells the two apart is written to `u` ([`U_OUT`](crate::U_OUT) bytes or more, 1 to n letters
+/// written) and `v` ([`V_OUT`](crate::V_OUT) bytes or more, 1 to (n+1)² − 1 letters written). The rule may be weak.
 pub fn included(
     rule: &[u8],
     second: &[u8],

@@ -67,7 +67,8 @@ pub fn mark(rule: &[u8], monitor: Monitor, scratch: &mut [u8]) -> Result<Monitor
 
 /// Whether a strong rule accepts the lassos whose start has the value `before` and whose cycle has the value `since`.
 ///
-/// A monitor without one of its values, and a weak rule, are refused.
+/// Where `before` is [`NONE`](crate::NONE) the lassos are those without a start: their cycle alone. A monitor whose `since` is
+/// [`NONE`](crate::NONE), and a weak rule, are refused.
 pub fn verdict(rule: &[u8], monitor: Monitor, scratch: &mut [u8]) -> Result<Verdict, Refused> {
     let packed = raw::verdict(rule, monitor.before, monitor.since, scratch);
     let (accepted, turns) = unpack_decided(packed)?;

@@ -246,7 +246,11 @@ fn a_monitor_of_w() {
     assert_eq!(verdict(&W, start, scratch), refused(11, 1, 0));
     let first = event(&W, start, 1, scratch).expect("a letter of W");
     // No mark yet: 1 for ever.
-    assert_eq!(verdict(&W, first, scratch), Ok(Verdict::NotAccepted));
+    let of_the_cycle = Verdict {
+        accepted: false,
+        turns: 1,
+    };
+    assert_eq!(verdict(&W, first, scratch), Ok(of_the_cycle));
     let marked = mark(&W, first, scratch).expect("a monitor of W");
     assert_eq!((marked.before, marked.since), (1, NONE));
     let second = event(&W, marked, 0, scratch).expect("a letter of W");
