@@ -4,19 +4,19 @@ use mathlib.Core.Path.{_≡_, refl, sym, ap, _∙_}
 use mathlib.Core.List.{List, [], _∷_}
 use native.Mathlib.Omega.{arith}
 use Rattle.answer.specs.declared.Refusal.{Refusal}
-use Rattle.answer.specs.declared.Refusal.the-variants.{Truncated, CountOutOfRange, EntryOutOfRange, TrailingBytes, NotAssociative, Unreachable, NotLinked, Duplicate, UnknownLetter, WordLength, NotStrong, BufferTooShort, TooManyMatrices}
+use Rattle.answer.specs.declared.Refusal.the-variants.{Truncated, CountOutOfRange, EntryOutOfRange, TrailingBytes, NotAssociative, Unreachable, NotLinked, Duplicate, UnknownLetter, WordLength, NotStrong, BufferTooShort, TooManyMatrices, NameOutOfRange, NameNeverKept}
 use Rattle.answer.specs.Refusals.{numberOf}
 
 -- the place of a number in a list, the last refusal where the list ends
 unfoldable at : List Refusal → ℕ → Refusal
-at [] n = TooManyMatrices
+at [] n = NameNeverKept
 at (r ∷ rs) zero = r
 at (r ∷ rs) (suc n) = at rs n
 
 -- the refusal of a number; 0 and 9, which none has, have the last
 unfoldable refusalOf : ℕ → Refusal
 unfolding at
-refusalOf n = at (TooManyMatrices ∷ Truncated ∷ CountOutOfRange ∷ EntryOutOfRange ∷ TrailingBytes ∷ NotAssociative ∷ Unreachable ∷ NotLinked ∷ Duplicate ∷ TooManyMatrices ∷ UnknownLetter ∷ WordLength ∷ NotStrong ∷ BufferTooShort ∷ []) n
+refusalOf n = at (NameNeverKept ∷ Truncated ∷ CountOutOfRange ∷ EntryOutOfRange ∷ TrailingBytes ∷ NotAssociative ∷ Unreachable ∷ NotLinked ∷ Duplicate ∷ NameNeverKept ∷ UnknownLetter ∷ WordLength ∷ NotStrong ∷ BufferTooShort ∷ TooManyMatrices ∷ NameOutOfRange ∷ []) n
 
 back : (r : Refusal) → refusalOf (numberOf r) ≡ r
 unfolding refusalOf at
@@ -33,6 +33,8 @@ back WordLength = refl
 back NotStrong = refl
 back BufferTooShort = refl
 back TooManyMatrices = refl
+back NameOutOfRange = refl
+back NameNeverKept = refl
 
 pub same-number : (r r′ : Refusal) → numberOf r ≡ numberOf r′ → r ≡ r′
 same-number r r′ e = sym (back r) ∙ ap refusalOf e ∙ back r′
@@ -52,3 +54,5 @@ nine-unused WordLength e = omega (arith, e)
 nine-unused NotStrong e = omega (arith, e)
 nine-unused BufferTooShort e = omega (arith, e)
 nine-unused TooManyMatrices e = omega (arith, e)
+nine-unused NameOutOfRange e = omega (arith, e)
+nine-unused NameNeverKept e = omega (arith, e)

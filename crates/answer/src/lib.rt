@@ -1,5 +1,5 @@
 // Why a call refuses. A call's answer is an enum of its own, whose refused case holds one of these with the input that it
-// lies in and its place there; document 01's number of each is `number`.
+// lies in and its place there; its number in the table of documents 01 and 02 is `number`.
 ghost use mathlib.Core.Path.{_≡_};
 ghost use Rattle.answer.specs.Refusals.{numberOf};
 
@@ -31,9 +31,13 @@ pub enum Refusal {
     BufferTooShort,
     // Document 01: too rich. An automaton has too many matrices.
     TooManyMatrices,
+    // Document 02, Job 1: name above 7.
+    NameOutOfRange,
+    // Document 02, Job 1: return to a name never kept.
+    NameNeverKept,
 }
 
-// Document 01's number of a refusal. 9 is no refusal's number.
+// The number of a refusal in the table. 9 is no refusal's number.
 pub fn number(r: Refusal) -> u8
     ensures { λ n. ⌜ n ≡ numberOf r ⌝ }
 {
@@ -51,5 +55,7 @@ pub fn number(r: Refusal) -> u8
         Refusal::NotStrong => 12,
         Refusal::BufferTooShort => 13,
         Refusal::TooManyMatrices => 14,
+        Refusal::NameOutOfRange => 15,
+        Refusal::NameNeverKept => 16,
     }
 }

@@ -1,5 +1,5 @@
--- The verdict of a monitor that calls have led to is that of the lasso of its history: the letters before the last mark, then
--- those since for ever. Where no mark was made it is that of the letters for ever. Assumes nothing.
+-- The verdict of a monitor that calls have led to, keeps and returns among them, is that of the lasso of its history: the letters before
+-- the last mark, then those since for ever. Where no mark was made it is that of the letters for ever. Assumes nothing.
 use Prim.Native.Nat.{ℕ}
 use mathlib.Core.Path.{_≡_, refl, sym, _∙_, subst}
 use mathlib.Core.Bool.{Bool, true, false}
@@ -15,6 +15,8 @@ use Rattle.formats.specs.RuleFile.{lettersOf, morphismOf, pairsOf}
 use Rattle.promises.specs.declared.Monitor.{Monitor}
 use Rattle.promises.specs.Monitor.{valueOf, monitorChecks}
 use Rattle.promises.specs.Histories.{Action, event, sinceWord, beforeWord, Run}
+use Rattle.promises.specs.Logs.{Stored, Log}
+use Rattle.promises.proofs.Logs.{log-run}
 use Rattle.monitor_state.proofs.Numbers.{value-element}
 use Rattle.monitor_histories.proofs.Histories.{run-follows}
 use Rattle.promises.specs.declared.MonitorVerdict.the-variants.{Decided}
@@ -71,3 +73,14 @@ module _ {bytes : List ℕ} {f : Monitor} (letters : List ℕ) (run : Run bytes 
   events-not-accepted p a =
       history-not-accepted run p
       (subst (λ (u : List ℕ). Accepts (morphismOf bytes) (pairsOf bytes) u (sinceWord (events letters))) (sym (events-before letters)) a)
+
+-- so it is for a monitor with points: the lasso is that of the history, which a return has made the stored one again
+module _ {bytes : List ℕ} {f : Monitor} {points : List ℕ} {history : List Action} {names : ℕ → Stored} (log : Log bytes f points history names) {entry exit : List ℕ} where
+  pub log-accepted : {turns : ℕ} → VerdictPromise bytes f entry exit (Decided true turns) → Accepts (morphismOf bytes) (pairsOf bytes) (beforeWord history) (sinceWord history)
+  log-accepted p = history-accepted (log-run bytes log) p
+
+  pub log-not-accepted : {turns : ℕ} → VerdictPromise bytes f entry exit (Decided false turns) → Accepts (morphismOf bytes) (pairsOf bytes) (beforeWord history) (sinceWord history) → ⊥
+  log-not-accepted p = history-not-accepted (log-run bytes log) p
+
+  pub log-turns : {accepted : Bool} {turns : ℕ} → VerdictPromise bytes f entry exit (Decided accepted turns) → TurnsOf (morphismOf bytes) (sinceWord history) turns
+  log-turns p = history-turns (log-run bytes log) p

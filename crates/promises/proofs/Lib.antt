@@ -1,3 +1,4 @@
+pub mod Logs
 pub mod OneComplement
 pub mod OneInclusion
 pub mod OneInspection
@@ -5,10 +6,13 @@ pub mod OneListing
 pub mod OneMembership
 pub mod OneMove
 pub mod OneMoveInPlace
+pub mod OnePoint
 pub mod OneReduction
 pub mod OneStrength
 pub mod OneSummary
 pub mod OneTranslation
 pub mod OneVerdict
+pub mod PointReadings
+pub mod Points
 pub mod Readings
 pub mod SameReductions

@@ -20,7 +20,7 @@ pub event-single : (bytes : List ℕ) (f : Monitor) (letter : ℕ) (entry : List
 event-single bytes f letter entry = single-append (monitor-single bytes f entry) (single-cons (single-at (λ place (a : LoneUnknownLetterAt _ _ place). a .is-place)) single-nil)
 
 -- answers with one verdict that hand back one monitor
-same-moved : (f next : Monitor) (a b : Moved) → HandsBack f next a → HandsBack f next b → movedVerdict a ≡ movedVerdict b → a ≡ b
+pub same-moved : (f next : Monitor) (a b : Moved) → HandsBack f next a → HandsBack f next b → movedVerdict a ≡ movedVerdict b → a ≡ b
 same-moved f next (To g) (To h) p q e = ap To (p ∙ sym q)
 same-moved f next (To g) (Refused h r i place) p q e = absurd (not-passed (sym e))
 same-moved f next (Refused g r i place) (To h) p q e = absurd (not-passed e)

@@ -5,9 +5,11 @@ pub mod Histories
 pub mod InPlace
 pub mod Inclusion
 pub mod Inspect
+pub mod Logs
 pub mod Member
 pub mod Monitor
 pub mod Moves
+pub mod Points
 pub mod Reduce
 pub mod Stretch
 pub mod Strong

@@ -20,6 +20,11 @@ pub const CLASSES_SIZE: usize = 8192;
 
 pub const NO_CLASS: usize = 65535;
 
+// The bytes of a monitor's named points, and how many names there are, as specs/Points has them.
+pub const POINTS_SIZE: usize = 24;
+
+pub const NAMES_COUNT: usize = 8;
+
 // The linked pairs, the classes, and the joins, which are the first less the second.
 pub enum Listed {
     Counts {
