@@ -3,8 +3,8 @@
  *
  * What a caller owes
  *   - Each pointer is not null, also for a length of 0, and good for its length.
- *   - A buffer that is written (out, scratch, and u and v of duknavet_included) overlaps no other argument's bytes during
- *     the call. Bytes that are only read may overlap.
+ *   - A buffer that is written (out, scratch, u and v of duknavet_included, points of duknavet_keep) overlaps no other
+ *     argument's bytes during the call. Bytes that are only read may overlap.
  *   - Nothing else: any bytes of any length, and any numbers, have their answer. No call keeps a pointer, allocates, or
  *     uses memory shared between calls; calls on different buffers may run at the same time.
  *
@@ -47,6 +47,7 @@ extern "C" {
 #define DUKNAVET_CLASSES 8192  /* out of classes: two bytes for each pair of 64 elements */
 #define DUKNAVET_U 64          /* u of included */
 #define DUKNAVET_V 4224        /* v of included */
+#define DUKNAVET_POINTS 24     /* points of keep and return: three bytes for each of the names 0 to 7 */
 
 /* The most letters that u or v of a lasso may have; the fewest is 0 for u and 1 for v. */
 #define DUKNAVET_WORD 4224
@@ -59,7 +60,8 @@ extern "C" {
 
 /* Why a call refuses, in byte 0 of an answer, with the place that the answer holds. The first check that fails is
  * answered: 13, then 1 to 3 section by section, 4, 5, 6, 7 and 8 pair by pair, the second input's own, then 3 for a monitor's
- * values, 11 for u, then v, or for a verdict, 10 in u, then v, or for an event, 12. For an automaton: 13, 1 to 4, 8, 14. */
+ * values, 11 for u, then v, or for a verdict, 10 in u, then v, or for an event, 12. For an automaton: 13, 1 to 4, 8, 14. For
+ * keep and return: 13, the rule's, 15, 16, 3 for the values of the monitor and of every kept name. */
 enum duknavet_refusal {
     DUKNAVET_RESULT = 0,               /* no refusal */
     DUKNAVET_TRUNCATED = 1,            /* bytes end inside a count or section: the length of the input */
@@ -74,7 +76,9 @@ enum duknavet_refusal {
     DUKNAVET_WORD_LENGTH = 11,         /* u or v is too long, v is empty, or a verdict lacks since: 0 */
     DUKNAVET_NOT_STRONG = 12,          /* the rule is not strong: 0 */
     DUKNAVET_BUFFER_TOO_SHORT = 13,    /* a lent buffer is too short: 0 */
-    DUKNAVET_TOO_MANY_MATRICES = 14    /* an automaton has more than 64 matrices: 0 */
+    DUKNAVET_TOO_MANY_MATRICES = 14,   /* an automaton has more than 64 matrices: 0 */
+    DUKNAVET_NAME_OUT_OF_RANGE = 15,   /* a point's name is above 7: 0 */
+    DUKNAVET_NAME_NEVER_KEPT = 16      /* a return goes to a name that was never kept: 0 */
 };
 
 /* The refusal of an answer; DUKNAVET_RESULT where it is a result. */
@@ -149,7 +153,7 @@ uint64_t duknavet_automaton_rule(const uint8_t *automaton, size_t automaton_leng
                                  uint8_t *scratch, size_t scratch_length);
 
 /* Monitors: before is the value of the letters before the last mark, since of those after it, each an element or
- * DUKNAVET_NONE. A refused event or mark leaves the monitor as the caller has it. */
+ * DUKNAVET_NONE. A refused event, mark, keep or return leaves the monitor as the caller has it. */
 
 /* Field 0 and 1: before and since of a monitor that has seen nothing. Never refuses. */
 uint64_t duknavet_fresh(void);
@@ -163,6 +167,21 @@ uint64_t duknavet_event(const uint8_t *rule, size_t rule_length,
 uint64_t duknavet_mark(const uint8_t *rule, size_t rule_length,
                        size_t before, size_t since,
                        uint8_t *scratch, size_t scratch_length);
+
+/* Keeps the monitor under a name, 0 to 7, in place of what the name held. Field 0 and 1: before and since, as they came. points
+ * (DUKNAVET_POINTS), zeros at first, has three bytes for each name, from byte 3 * name on: 0 while it was never kept, before,
+ * since; a keep writes those of its name, with a 1, and no other byte. The rule may be weak. */
+uint64_t duknavet_keep(const uint8_t *rule, size_t rule_length,
+                       size_t before, size_t since, size_t name,
+                       uint8_t *points, size_t points_length,
+                       uint8_t *scratch, size_t scratch_length);
+
+/* Field 0 and 1: before and since of the monitor that was kept under a name. The points are only read, so that a name can be
+ * returned to again. The rule may be weak. */
+uint64_t duknavet_return(const uint8_t *rule, size_t rule_length,
+                         size_t before, size_t since, size_t name,
+                         const uint8_t *points, size_t points_length,
+                         uint8_t *scratch, size_t scratch_length);
 
 /* Field 0: 1 if a strong rule accepts the lassos whose start has the value before and whose cycle has the value since, 0 if
  * not; where before is DUKNAVET_NONE, those without a start. Field 1, either way: the turns of these cycles, 1 to n. */

@@ -11,8 +11,8 @@ pub enum Refusal {
     Truncated = 1,
     /// A count lies outside its range. Place: its first byte.
     CountOutOfRange = 2,
-    /// An entry names no element, state, letter or state kind (place: its byte), or a monitor's value is neither an element
-    /// nor [`NONE`](crate::NONE) (place 0).
+    /// An entry names no element, state, letter or state kind (place: its byte), or a value of a monitor or under a kept name is
+    /// neither an element nor [`NONE`](crate::NONE) (place 0).
     EntryOutOfRange = 3,
     /// Bytes follow the last section. Place: the first such byte.
     TrailingBytes = 4,
@@ -35,10 +35,14 @@ pub enum Refusal {
     BufferTooShort = 13,
     /// An automaton has more than 64 matrices.
     TooManyMatrices = 14,
+    /// A point's name is above 7.
+    NameOutOfRange = 15,
+    /// A return goes to a name that was never kept.
+    NameNeverKept = 16,
 }
 
 impl Refusal {
-    /// The refusal's number, 1 to 14, never 9.
+    /// The refusal's number, 1 to 16, never 9.
     pub fn number(self) -> u8 {
         self as u8
     }
@@ -59,6 +63,8 @@ impl Refusal {
             12 => Refusal::NotStrong,
             13 => Refusal::BufferTooShort,
             14 => Refusal::TooManyMatrices,
+            15 => Refusal::NameOutOfRange,
+            16 => Refusal::NameNeverKept,
             _ => return None,
         })
     }
@@ -155,7 +161,7 @@ mod tests {
         for number in 0..=255 {
             match Refusal::from_number(number) {
                 Some(refusal) => assert_eq!(refusal.number(), number),
-                None => assert!(number == 0 || number == 9 || number > 14),
+                None => assert!(number == 0 || number == 9 || number > 16),
             }
         }
     }
@@ -177,7 +183,7 @@ mod tests {
 
     #[test]
     fn what_packs_no_answer_panics() {
-        for packed in [0x0000_010f, 0x0000_0109, 0x0100, 0x0001, 0x0301] {
+        for packed in [0x0000_0111, 0x0000_0109, 0x0100, 0x0001, 0x0301] {
             assert!(catch_unwind(|| unpack(packed)).is_err());
         }
         assert!(catch_unwind(|| unpack_bool(0x2_0000)).is_err());

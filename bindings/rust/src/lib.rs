@@ -41,7 +41,8 @@ pub use automata::{automaton_rule, Translated};
 pub use lassos::{member, Membership};
 pub use markings::{classes, complement, included, strong};
 pub use markings::{Classes, Complemented, Inclusion, Strength};
-pub use monitors::{event, fresh, mark, verdict, Monitor, NotMoved, Verdict};
+pub use monitors::{event, fresh, keep, mark, return_to, verdict};
+pub use monitors::{Monitor, NotMoved, Verdict};
 pub use reductions::{reduce, Reduced};
 
 /// The bytes that a scratch must have; a longer one passes.
@@ -58,6 +59,9 @@ pub const U_OUT: usize = 64;
 
 /// The bytes that the buffer for the cycle v of a lasso must have.
 pub const V_OUT: usize = 4_224;
+
+/// The bytes that the named points of a monitor must have: three for each of the names 0 to 7.
+pub const POINTS: usize = 24;
 
 /// The most letters that u or v of a lasso may have; only u may have none.
 pub const WORD: usize = 4_224;

@@ -1,4 +1,5 @@
-//! Monitors: events are read one by one, and marks divide them into what came before and what came since.
+//! Monitors: events are read one by one, and marks divide them into what came before and what came since. A moment can be kept under
+//! a name and returned to.
 
 use crate::answer::{foreign, unpack, unpack_decided};
 use crate::{raw, Refused};
@@ -12,7 +13,7 @@ pub struct Monitor {
     pub since: usize,
 }
 
-/// A refused event or mark, with the monitor as it was.
+/// A refused event, mark, keep or return, with the monitor as it was.
 #[derive(Clone, Copy, Debug, PartialEq, Eq, Hash)]
 pub struct NotMoved {
     /// The monitor that the call was given.
@@ -62,6 +63,33 @@ pub fn event(
 /// The monitor after a mark: what came since now counts as before. With nothing since, nothing changes. The rule may be weak.
 pub fn mark(rule: &[u8], monitor: Monitor, scratch: &mut [u8]) -> Result<Monitor, NotMoved> {
     let packed = raw::mark(rule, monitor.before, monitor.since, scratch);
+    moved(monitor, packed)
+}
+
+/// Keeps the monitor under a name from 0 to 7 in `points`, in place of what the name held, and hands it back.
+///
+/// `points` has [`POINTS`](crate::POINTS) bytes or more, zeros at first: three for each name, whether it was kept, `before` and `since`.
+/// No other byte of it changes, and after a refusal none. The rule may be weak.
+pub fn keep(
+    rule: &[u8],
+    monitor: Monitor,
+    name: usize,
+    points: &mut [u8],
+    scratch: &mut [u8],
+) -> Result<Monitor, NotMoved> {
+    let packed = raw::keep(rule, monitor.before, monitor.since, name, points, scratch);
+    moved(monitor, packed)
+}
+
+/// The monitor that was kept under a name. Every point stays, so that a name can be returned to again. The rule may be weak.
+pub fn return_to(
+    rule: &[u8],
+    monitor: Monitor,
+    name: usize,
+    points: &[u8],
+    scratch: &mut [u8],
+) -> Result<Monitor, NotMoved> {
+    let packed = raw::return_to(rule, monitor.before, monitor.since, name, points, scratch);
     moved(monitor, packed)
 }
 

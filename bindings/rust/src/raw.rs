@@ -68,6 +68,28 @@ mod exported {
             scratch: *mut u8,
             scratch_length: usize,
         ) -> u64;
+        pub fn duknavet_keep(
+            rule: *const u8,
+            rule_length: usize,
+            before: usize,
+            since: usize,
+            name: usize,
+            points: *mut u8,
+            points_length: usize,
+            scratch: *mut u8,
+            scratch_length: usize,
+        ) -> u64;
+        pub fn duknavet_return(
+            rule: *const u8,
+            rule_length: usize,
+            before: usize,
+            since: usize,
+            name: usize,
+            points: *const u8,
+            points_length: usize,
+            scratch: *mut u8,
+            scratch_length: usize,
+        ) -> u64;
         pub fn duknavet_verdict(
             rule: *const u8,
             rule_length: usize,
@@ -198,6 +220,54 @@ pub fn mark(rule: &[u8], before: usize, since: usize, scratch: &mut [u8]) -> u64
             rule.len(),
             before,
             since,
+            scratch.as_mut_ptr(),
+            scratch.len(),
+        )
+    }
+}
+
+pub fn keep(
+    rule: &[u8],
+    before: usize,
+    since: usize,
+    name: usize,
+    points: &mut [u8],
+    scratch: &mut [u8],
+) -> u64 {
+    // SAFETY: as for `event`, with any number for `name`; `points` and `scratch` are borrowed mutably, so they overlap nothing.
+    unsafe {
+        exported::duknavet_keep(
+            rule.as_ptr(),
+            rule.len(),
+            before,
+            since,
+            name,
+            points.as_mut_ptr(),
+            points.len(),
+            scratch.as_mut_ptr(),
+            scratch.len(),
+        )
+    }
+}
+
+pub fn return_to(
+    rule: &[u8],
+    before: usize,
+    since: usize,
+    name: usize,
+    points: &[u8],
+    scratch: &mut [u8],
+) -> u64 {
+    // SAFETY: as for `keep`; `points` is only read.
+    unsafe {
+        exported::duknavet_return(
+            rule.as_ptr(),
+            rule.len(),
+            before,
+            since,
+            name,
+            points.as_ptr(),
+            points.len(),
             scratch.as_mut_ptr(),
             scratch.len(),
         )

@@ -1,9 +1,9 @@
 //! The small rules of document 01, each with the answer that the document gives; and the turns of cycles.
 
-use duknavet::{automaton_rule, classes, complement, event, fresh, included, mark, member};
-use duknavet::{reduce, strong, verdict, Classes, Inclusion, Membership, Monitor};
+use duknavet::{automaton_rule, classes, complement, event, fresh, included, keep, mark, member};
+use duknavet::{reduce, return_to, strong, verdict, Classes, Inclusion, Membership, Monitor};
 use duknavet::{Refusal, Refused, Strength, Verdict};
-use duknavet::{CLASSES_OUT, NONE, RULE_OUT, SCRATCH, U_OUT, V_OUT, WORD};
+use duknavet::{CLASSES_OUT, NONE, POINTS, RULE_OUT, SCRATCH, U_OUT, V_OUT, WORD};
 
 /// Letter 0 without end, over letters 0 and 1.
 const W: [u8; 12] = [2, 0, 0, 0, 1, 2, 0, 1, 1, 0, 0, 0];
@@ -263,6 +263,33 @@ fn a_monitor_of_w() {
     let refusal = event(&W, second, 2, scratch).expect_err("W has two letters");
     assert_eq!(refusal.monitor, second);
     assert_eq!(Err::<(), _>(refusal.refused), refused(10, 1, 0));
+}
+
+#[test]
+fn named_points_of_w() {
+    let scratch = &mut scratch();
+    let points = &mut vec![0; POINTS];
+    let after = |monitor, letter, scratch: &mut [u8]| event(&W, monitor, letter, scratch);
+    let first = after(fresh(), 1, scratch).expect("a letter of W");
+    let never = return_to(&W, first, 7, points, scratch).expect_err("nothing was kept");
+    assert_eq!(Err::<(), _>(never.refused), refused(16, 1, 0));
+    let ninth = keep(&W, first, 8, points, scratch).expect_err("the names are 0 to 7");
+    assert_eq!(Err::<(), _>(ninth.refused), refused(15, 1, 0));
+    assert_eq!(points, &[0; POINTS]);
+    assert_eq!(keep(&W, first, 7, points, scratch), Ok(first));
+    assert_eq!(points[21..], [1, NONE as u8, 1]);
+    let second = after(first, 0, scratch).expect("a letter of W");
+    assert_eq!(return_to(&W, second, 7, points, scratch), Ok(first));
+    assert_eq!(return_to(&W, first, 7, points, scratch), Ok(first));
+    assert_eq!(keep(&W, second, 7, points, scratch), Ok(second));
+    assert_eq!(return_to(&W, first, 7, points, scratch), Ok(second));
+    // A value of a name never kept is not looked at, and one of another kept name is.
+    points[1] = 9;
+    assert_eq!(return_to(&W, first, 7, points, scratch), Ok(second));
+    points[0] = 1;
+    let stray = return_to(&W, first, 7, points, scratch).expect_err("W has two elements");
+    assert_eq!(stray.monitor, first);
+    assert_eq!(Err::<(), _>(stray.refused), refused(3, 1, 0));
 }
 
 #[test]

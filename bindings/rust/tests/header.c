@@ -4,7 +4,8 @@
 
 #include "duknavet.h"
 
-static uint8_t out[DUKNAVET_RULE], classes[DUKNAVET_CLASSES], u[DUKNAVET_U], v[DUKNAVET_V], scratch[DUKNAVET_SCRATCH];
+static uint8_t out[DUKNAVET_RULE], classes[DUKNAVET_CLASSES], u[DUKNAVET_U], v[DUKNAVET_V];
+static uint8_t points[DUKNAVET_POINTS], scratch[DUKNAVET_SCRATCH];
 static int failures;
 
 static void expect(const char *what, int holds)
@@ -49,6 +50,12 @@ int main(void)
     expect("fresh", is_result(duknavet_fresh(), DUKNAVET_NONE, DUKNAVET_NONE, 0));
     expect("event", is_result(duknavet_event(rule, sizeof rule, 0, 1, 1, scratch, sizeof scratch), 0, 1, 0));
     expect("mark", is_result(duknavet_mark(rule, sizeof rule, DUKNAVET_NONE, 1, scratch, sizeof scratch), 1, DUKNAVET_NONE, 0));
+    expect("keep", is_result(duknavet_keep(rule, sizeof rule, 0, 1, 7, points, sizeof points, scratch, sizeof scratch), 0, 1, 0));
+    expect("kept", points[21] == 1 && points[22] == 0 && points[23] == 1);
+    answer = duknavet_return(rule, sizeof rule, 1, DUKNAVET_NONE, 7, points, sizeof points, scratch, sizeof scratch);
+    expect("return", is_result(answer, 0, 1, 0));
+    answer = duknavet_return(rule, sizeof rule, 1, DUKNAVET_NONE, 6, points, sizeof points, scratch, sizeof scratch);
+    expect("never kept", duknavet_refusal_of(answer) == DUKNAVET_NAME_NEVER_KEPT && duknavet_input_of(answer) == 1);
     expect("verdict", is_result(duknavet_verdict(rule, sizeof rule, 1, 0, scratch, sizeof scratch), 1, 1, 0));
     expect("verdict, two turns", is_result(duknavet_verdict(one_letter, sizeof one_letter, 0, 1, scratch, sizeof scratch), 0, 2, 0));
     expect("no mark", is_result(duknavet_verdict(rule, sizeof rule, DUKNAVET_NONE, 1, scratch, sizeof scratch), 0, 1, 0));

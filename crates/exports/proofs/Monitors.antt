@@ -1,15 +1,16 @@
--- The values of a moved monitor are elements or 64. Assumes nothing.
+-- The values of a moved monitor, and of one that is kept or returned to, are elements or 64. Assumes nothing.
 use Prim.Native.Nat.{ℕ, _≤_}
 use mathlib.Core.Path.{refl, sym, subst}
 use mathlib.Core.Logic.{_⊎_, inl, inr, ⊎-elim}
-use mathlib.Core.List.{List}
+use mathlib.Core.List.{List, _∷_}
 use native.Mathlib.Omega.{arith}
 use Rattle.answer.specs.Checks.{passed, FirstFailure}
-use Rattle.answer.proofs.Order.{passed-first, passed-last, passes-head}
+use Rattle.answer.proofs.Order.{passed-first, passed-last, passes-head, passes-tail}
 use Rattle.theory.specs.Rules.{Morphism, Value, join}
 use Rattle.theory.proofs.Values.{Inside, inside-none, inside-element, join-inside}
 use Rattle.formats.specs.RuleFile.{elementsOf, lettersOf, morphismOf}
 use Rattle.rule_check.specs.GoodRule.{GoodRule}
+use Rattle.formats.specs.RuleChecks.{bufferCheck}
 use Rattle.formats.specs.Calls.{checkedChecks}
 use Rattle.rule_check.proofs.Calls.{called-good}
 use Rattle.promises.specs.declared.Monitor.{Monitor}
@@ -17,6 +18,8 @@ use Rattle.promises.specs.Monitor.{valueOf, numberFor, ValueOutOfRange, monitor
 use Rattle.monitor_state.specs.Ready.{GoodNumber}
 use Rattle.monitor_state.proofs.Numbers.{value-none, value-element, not-stray}
 use Rattle.promises.specs.Moves.{afterEvent, afterMark, eventChecks}
+use Rattle.promises.specs.Points.{pointsSize, pointAt, keepChecks, returnChecks}
+use Rattle.promises.proofs.Points.{return-named, return-kept}
 use Rattle.packing.specs.Packing.{monitorContents}
 use Rattle.packing.proofs.ReadBack.{Fits}
 
@@ -75,3 +78,30 @@ event-fits bytes f letter entry all =
       );
       third = omega arith;
     }
+
+-- a monitor whose two values are good
+both-fit : {n : ℕ} {f : Monitor} → n ≤ 64 → (ValueOutOfRange n (f .before) ⊎ ValueOutOfRange n (f .since) → ⊥) → Fits (monitorContents f)
+both-fit small h =
+    record {
+      first = omega (arith, good-small small (not-stray _ _ (λ i. h (inl i))));
+      second = omega (arith, good-small small (not-stray _ _ (λ i. h (inr i))));
+      third = omega arith;
+    }
+
+module _ (bytes : List ℕ) (f : Monitor) (name : ℕ) (points entry : List ℕ) where
+  pub keep-fits : FirstFailure (keepChecks bytes f name points entry) passed → Fits (monitorContents f)
+  keep-fits all =
+      let checked = passed-first (checkedChecks 1 bytes entry) _ (passes-tail all) in
+      let later = passes-tail (passed-last (bufferCheck pointsSize points ∷ checkedChecks 1 bytes entry) _ all) in
+      both-fit (called-good 1 bytes entry checked .table .small) (λ s. passes-head later .nowhere 0 (record { stray = inl s; is-place = refl }))
+
+  pub return-fits : FirstFailure (returnChecks bytes f name points entry) passed → Fits (monitorContents (pointAt points name))
+  return-fits all =
+      let checked = passed-first (checkedChecks 1 bytes entry) _ (passes-tail all) in
+      let later = passes-tail (passes-tail (passed-last (bufferCheck pointsSize points ∷ checkedChecks 1 bytes entry) _ all)) in
+      both-fit (called-good 1 bytes entry checked .table .small)
+      (λ s. passes-head later .nowhere 0
+      (record {
+        stray = inr (record { name = name; named = return-named bytes f name points entry all; kept = return-kept bytes f name points entry all; stray = s });
+        is-place = refl;
+      }))

@@ -20,6 +20,7 @@ use Rattle.promises.specs.Weak.{WeakAt, weakCheck}
 use Rattle.promises.specs.declared.Monitor.{Monitor}
 use Rattle.promises.specs.Monitor.{freshMonitor, MonitorValueOutOfRangeAt, monitorChecks}
 use Rattle.promises.specs.Moves.{LoneUnknownLetterAt, EventPromise, MarkPromise}
+use Rattle.promises.specs.Points.{NameOutOfRangeAt, NameNeverKeptAt, MonitorOrPointOutOfRangeAt, KeepPromise, ReturnPromise}
 use Rattle.promises.specs.Verdict.{NoneAt, VerdictPromise}
 use Rattle.promises.specs.declared.Translated.{Translated}
 use Rattle.promises.specs.declared.Translated.the-variants.{Rule as Automaton-rule, Refused as Not-translated}
@@ -50,10 +51,10 @@ use Rattle.promises.specs.declared.MonitorVerdict.the-variants.{Decided as Judg
 use Rattle.packing.specs.Packing.{unpack, listedContents, strengthContents, membershipContents, complementedContents, reducedContents, translatedContents, inclusionContents, monitorContents, movedContents, monitorVerdictContents, packMonitor}
 use Rattle.packing.proofs.ReadBack.{FieldsFit, Fits, read-back}
 use Rattle.packing.proofs.Contents.{listed-told, strength-told, membership-told, complemented-told, reduced-told, translated-told, inclusion-told, judged-told, moved-told}
-use Rattle.exports.specs.Exports.{ExportedClasses, ExportedStrength, ExportedMember, ExportedComplement, ExportedInclusion, ExportedEvent, ExportedMark, ExportedReduction, ExportedVerdict, ExportedAutomaton}
+use Rattle.exports.specs.Exports.{ExportedClasses, ExportedStrength, ExportedMember, ExportedComplement, ExportedInclusion, ExportedEvent, ExportedMark, ExportedKeep, ExportedReturn, ExportedReduction, ExportedVerdict, ExportedAutomaton}
 use Rattle.exports.proofs.Limits.{Near, refused-fits, at-zero, buffer-limited, checked-limited, second-limited, lasso-limited}
 use Rattle.exports.proofs.AutomatonLimits.{translated-limited}
-use Rattle.exports.proofs.Monitors.{mark-fits, event-fits}
+use Rattle.exports.proofs.Monitors.{mark-fits, event-fits, keep-fits, return-fits}
 
 -- yes or no
 bit-fits : {a : ℕ} → a ≤ 1 → FieldsFit a 0 0
@@ -154,6 +155,24 @@ mark-answer-fits : {bytes : List ℕ} {f : Monitor} {entry exit : List ℕ} (ans
 mark-answer-fits {bytes} {f} {entry} (To g) p = moved-fits (p .monitor) (mark-fits bytes f entry (p .refusal))
 mark-answer-fits {bytes} {f} {entry} (Not-moved g r i place) p = refused-fits r (monitor-limited bytes f entry) (p .refusal)
 
+-- keep, return_to
+keep-answer-fits : {bytes : List ℕ} {f : Monitor} {name : ℕ} {points points-exit entry exit : List ℕ} (answer : Moved) → KeepPromise bytes f name points points-exit entry exit answer
+    → Fits (movedContents answer)
+keep-answer-fits {bytes} {f} {name} {points} {entry = entry} (To g) p = moved-fits (p .monitor) (keep-fits bytes f name points entry (p .refusal))
+keep-answer-fits {bytes} {f} {name} {points} {entry = entry} (Not-moved g r i place) p =
+    refused-fits r (buffer-limited (limited-append (checkedChecks 1 bytes entry) (checked-limited bytes entry)
+    (λ _. limited-cons (λ place (a : NameOutOfRangeAt _ place). at-zero (a .is-place))
+    (λ _. limited-cons (λ place (a : MonitorOrPointOutOfRangeAt _ _ _ place). at-zero (a .is-place)) (λ _. limited-nil))))) (p .refusal)
+
+return-answer-fits : {bytes : List ℕ} {f : Monitor} {name : ℕ} {points entry exit : List ℕ} (answer : Moved) → ReturnPromise bytes f name points entry exit answer
+    → Fits (movedContents answer)
+return-answer-fits {bytes} {f} {name} {points} {entry} (To g) p = moved-fits (p .monitor) (return-fits bytes f name points entry (p .refusal))
+return-answer-fits {bytes} {f} {name} {points} {entry} (Not-moved g r i place) p =
+    refused-fits r (buffer-limited (limited-append (checkedChecks 1 bytes entry) (checked-limited bytes entry)
+    (λ _. limited-cons (λ place (a : NameOutOfRangeAt _ place). at-zero (a .is-place))
+    (λ _. limited-cons (λ place (a : NameNeverKeptAt _ _ place). at-zero (a .is-place))
+    (λ _. limited-cons (λ place (a : MonitorOrPointOutOfRangeAt _ _ _ place). at-zero (a .is-place)) (λ _. limited-nil)))))) (p .refusal)
+
 -- verdict
 verdict-fits : {bytes : List ℕ} {f : Monitor} {entry exit : List ℕ} (answer : MonitorVerdict) → VerdictPromise bytes f entry exit answer → Fits (monitorVerdictContents answer)
 verdict-fits {bytes} {f} {entry} (Judged accepted turns) p =
@@ -178,6 +197,12 @@ module _ {bytes entry exit : List ℕ} {r : ℕ} where
 
     pub mark-read : (x : ExportedMark bytes f entry exit r) → unpack r ≡ movedContents (x .answer)
     mark-read x = ap unpack (x .packed) ∙ read-back _ (mark-answer-fits (x .answer) (x .promise))
+
+    pub keep-read : {name : ℕ} {points points-exit : List ℕ} (x : ExportedKeep bytes f name points points-exit entry exit r) → unpack r ≡ movedContents (x .answer)
+    keep-read x = ap unpack (x .packed) ∙ read-back _ (keep-answer-fits (x .answer) (x .promise))
+
+    pub return-read : {name : ℕ} {points : List ℕ} (x : ExportedReturn bytes f name points entry exit r) → unpack r ≡ movedContents (x .answer)
+    return-read x = ap unpack (x .packed) ∙ read-back _ (return-answer-fits (x .answer) (x .promise))
 
     pub verdict-read : (x : ExportedVerdict bytes f entry exit r) → unpack r ≡ monitorVerdictContents (x .answer)
     verdict-read x = ap unpack (x .packed) ∙ read-back _ (verdict-fits (x .answer) (x .promise))
@@ -219,6 +244,14 @@ module _ {bytes entry exit bytes′ entry′ exit′ : List ℕ} {r : ℕ} where
 
     pub mark-told : (x : ExportedMark bytes f entry exit r) (y : ExportedMark bytes′ f entry′ exit′ r) → x .answer ≡ y .answer
     mark-told x y = moved-told f _ _ _ _ (x .promise .monitor) (y .promise .monitor) (sym (mark-read x) ∙ mark-read y)
+
+    pub keep-told : {name name′ : ℕ} {points points-exit points′ points-exit′ : List ℕ} (x : ExportedKeep bytes f name points points-exit entry exit r)
+        (y : ExportedKeep bytes′ f name′ points′ points-exit′ entry′ exit′ r) → x .answer ≡ y .answer
+    keep-told x y = moved-told f _ _ _ _ (x .promise .monitor) (y .promise .monitor) (sym (keep-read x) ∙ keep-read y)
+
+    pub return-told : {name name′ : ℕ} {points points′ : List ℕ} (x : ExportedReturn bytes f name points entry exit r)
+        (y : ExportedReturn bytes′ f name′ points′ entry′ exit′ r) → x .answer ≡ y .answer
+    return-told x y = moved-told f _ _ _ _ (x .promise .monitor) (y .promise .monitor) (sym (return-read x) ∙ return-read y)
 
   module _ {before after before′ after′ : List ℕ} where
     pub classes-told : (x : ExportedClasses bytes before after entry exit r) (y : ExportedClasses bytes′ before′ after′ entry′ exit′ r)

@@ -15,6 +15,7 @@ use Rattle.promises.specs.Member.{MemberPromise}
 use Rattle.promises.specs.declared.Monitor.{Monitor}
 use Rattle.promises.specs.declared.Moved.{Moved}
 use Rattle.promises.specs.Moves.{EventPromise, MarkPromise}
+use Rattle.promises.specs.Points.{KeepPromise, ReturnPromise}
 use Rattle.promises.specs.declared.Reduced.{Reduced}
 use Rattle.promises.specs.Reduce.{ReducePromise}
 use Rattle.promises.specs.declared.Strength.{Strength}
@@ -56,6 +57,16 @@ pub record ExportedEvent (bytes : List ℕ) (m : Monitor) (letter : ℕ) (entry 
 pub record ExportedMark (bytes : List ℕ) (m : Monitor) (entry exit : List ℕ) (r : ℕ) : Type 0 where
   pub answer : Moved
   pub promise : MarkPromise bytes m entry exit answer
+  pub packed : r ≡ packMoved answer
+
+pub record ExportedKeep (bytes : List ℕ) (m : Monitor) (name : ℕ) (points-entry points-exit entry exit : List ℕ) (r : ℕ) : Type 0 where
+  pub answer : Moved
+  pub promise : KeepPromise bytes m name points-entry points-exit entry exit answer
+  pub packed : r ≡ packMoved answer
+
+pub record ExportedReturn (bytes : List ℕ) (m : Monitor) (name : ℕ) (points entry exit : List ℕ) (r : ℕ) : Type 0 where
+  pub answer : Moved
+  pub promise : ReturnPromise bytes m name points entry exit answer
   pub packed : r ≡ packMoved answer
 
 pub record ExportedReduction (bytes out-entry out-exit entry exit : List ℕ) (r : ℕ) : Type 0 where

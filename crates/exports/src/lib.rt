@@ -15,7 +15,7 @@ use promises::Monitor;
 ghost use mathlib.Core.Path.{_≡_};
 ghost use Rattle.promises.specs.Monitor.{freshMonitor};
 ghost use Rattle.packing.specs.Packing.{packMonitor};
-ghost use Rattle.exports.specs.Exports.{ExportedClasses, ExportedStrength, ExportedMember, ExportedComplement, ExportedInclusion, ExportedEvent, ExportedMark, ExportedReduction, ExportedAutomaton, ExportedVerdict};
+ghost use Rattle.exports.specs.Exports.{ExportedClasses, ExportedStrength, ExportedMember, ExportedComplement, ExportedInclusion, ExportedEvent, ExportedMark, ExportedKeep, ExportedReturn, ExportedReduction, ExportedAutomaton, ExportedVerdict};
 
 // The linked pairs, the classes and the joins; each pair's class in `out`.
 #[no_mangle]
@@ -92,6 +92,36 @@ pub extern "C" fn duknavet_mark(rule: &[u8], before: usize, since: usize, scratc
     ensures { λ r. ⌜ ExportedMark (now (rule .entry)) (record { before = before; since = since }) (now (scratch .entry)) (now (scratch .exit)) r ⌝ }
 {
     pack_moved(rules::mark(rule, Monitor { before, since }, scratch))
+}
+
+// The values of a monitor that is kept under a name in `points`.
+#[no_mangle]
+pub extern "C" fn duknavet_keep(
+    rule: &[u8],
+    before: usize,
+    since: usize,
+    name: usize,
+    points: &mut [u8],
+    scratch: &mut [u8],
+) -> u64
+    ensures { λ r. ⌜ ExportedKeep (now (rule .entry)) (record { before = before; since = since }) name (now (points .entry)) (now (points .exit)) (now (scratch .entry)) (now (scratch .exit)) r ⌝ }
+{
+    pack_moved(rules::keep(rule, Monitor { before, since }, name, points, scratch))
+}
+
+// The values of the monitor that was kept under a name.
+#[no_mangle]
+pub extern "C" fn duknavet_return(
+    rule: &[u8],
+    before: usize,
+    since: usize,
+    name: usize,
+    points: &[u8],
+    scratch: &mut [u8],
+) -> u64
+    ensures { λ r. ⌜ ExportedReturn (now (rule .entry)) (record { before = before; since = since }) name (now (points .entry)) (now (scratch .entry)) (now (scratch .exit)) r ⌝ }
+{
+    pack_moved(rules::return_to(rule, Monitor { before, since }, name, points, scratch))
 }
 
 // 1 where the lassos with the monitor's values are accepted, 0 where they are not; and how many turns settle the value of since.

@@ -33,6 +33,14 @@ impl Stale {
 }
 
 impl Lent {
+    /// Begins the buffer with bytes of the caller's, as many of them as it holds.
+    pub fn begin(&mut self, bytes: &[u8]) {
+        let count = bytes.len().min(self.length);
+        for side in [&mut self.all, &mut self.before] {
+            side[GUARD..GUARD + count].copy_from_slice(&bytes[..count]);
+        }
+    }
+
     pub fn slice(&mut self) -> &mut [u8] {
         &mut self.all[GUARD..GUARD + self.length]
     }

@@ -45,7 +45,7 @@ type Refusals = (&'static str, &'static [(u8, &'static [u8])]);
 
 /// Which refusals each call can answer, with their inputs: every number that applies to it.
 /// A rule's checks are 1 to 8; a second marks section has no table and no letters, so not 5 and 6.
-const REFUSALS: [Refusals; 10] = [
+const REFUSALS: [Refusals; 12] = [
     ("classes", &[(1, &[1, 2, 3, 4, 5, 6, 7, 8, 13])]),
     ("strong", &[(1, &[1, 2, 3, 4, 5, 6, 7, 8, 13])]),
     (
@@ -60,12 +60,14 @@ const REFUSALS: [Refusals; 10] = [
     ("event", &[(1, &[1, 2, 3, 4, 5, 6, 7, 8, 10, 13])]),
     ("mark", &[(1, &[1, 2, 3, 4, 5, 6, 7, 8, 13])]),
     ("verdict", &[(1, &[1, 2, 3, 4, 5, 6, 7, 8, 11, 12, 13])]),
+    ("keep", &[(1, &[1, 2, 3, 4, 5, 6, 7, 8, 13, 15])]),
+    ("return_to", &[(1, &[1, 2, 3, 4, 5, 6, 7, 8, 13, 15, 16])]),
     ("reduce", &[(1, &[1, 2, 3, 4, 5, 6, 7, 8, 12, 13])]),
     ("automaton_rule", &[(1, &[1, 2, 3, 4, 8, 13, 14])]),
 ];
 
 /// Outcomes that must occur at least so often.
-const LEAST: [(&str, &str, u64); 51] = [
+const LEAST: [(&str, &str, u64); 58] = [
     ("classes", "counts", 1000),
     ("strong", "weak", 100),
     ("strong", "strong, marks closed", 1000),
@@ -107,6 +109,13 @@ const LEAST: [(&str, &str, u64); 51] = [
     ("monitor", "histories", 1000),
     ("monitor", "verdicts on histories", 100),
     ("monitor", "verdicts without a mark", 50),
+    ("keep", "kept", 1000),
+    ("keep", "a monitor's value refused", 10),
+    ("return_to", "returned", 1000),
+    ("return_to", "a monitor's value refused", 10),
+    ("log", "logs", 1000),
+    ("log", "logs with returns", 500),
+    ("log", "verdicts on logs", 100),
     ("reduce", "smaller", 100),
     ("reduce", "as large", 100),
     ("reduce", "64 elements", 1),
@@ -130,7 +139,7 @@ pub fn faults(tally: &Tally) -> Vec<String> {
     }
     for (call, inputs) in REFUSALS {
         for input in 1..=2 {
-            for number in 1..=14 {
+            for number in 1..=16 {
                 let here = |(i, numbers): &(u8, &[u8])| *i == input && numbers.contains(&number);
                 let applies = inputs.iter().any(here);
                 let occurred = tally.get(call, &refusal(number, input)) > 0;

@@ -4,6 +4,7 @@ mod automata;
 mod lassos;
 mod markings;
 mod monitors;
+mod points;
 mod reductions;
 
 use crate::definitions::checks::Refusal;
@@ -19,6 +20,7 @@ pub use automata::AUTOMATON_SIZES;
 pub use lassos::MEMBER_SIZES;
 pub use markings::{CLASSES_SIZES, COMPLEMENT_SIZES, INCLUDED_SIZES, STRONG_SIZES};
 pub use monitors::MONITOR_SIZES;
+pub use points::POINTS_SIZES;
 pub use reductions::REDUCE_SIZES;
 
 pub struct Comparison {

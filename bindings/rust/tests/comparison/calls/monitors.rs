@@ -12,7 +12,10 @@ use duknavet::{Monitor, NotMoved, Refused, NONE, SCRATCH};
 pub const MONITOR_SIZES: [usize; 1] = [SCRATCH];
 
 /// What a refused call hands back is what it was given.
-fn unmoved(answer: Result<Monitor, NotMoved>, given: Monitor) -> Result<Monitor, Refused> {
+pub(super) fn unmoved(
+    answer: Result<Monitor, NotMoved>,
+    given: Monitor,
+) -> Result<Monitor, Refused> {
     answer.map_err(|NotMoved { monitor, refused }| {
         assert_eq!(monitor, given, "a refused call changed the monitor");
         refused
@@ -127,8 +130,13 @@ impl Comparison {
         }
     }
 
-    /// Counts refusal 3 of a monitor's value apart from that of a file's entry.
-    fn count_values<T>(&mut self, call: &str, subject: &Subject, expected: &Result<T, Refusal>) {
+    /// Counts refusal 3 of a value of a monitor or of a kept name apart from that of a file's entry.
+    pub(super) fn count_values<T>(
+        &mut self,
+        call: &str,
+        subject: &Subject,
+        expected: &Result<T, Refusal>,
+    ) {
         if subject.read.is_ok() && matches!(expected, Err((3, _, _))) {
             self.tally.count(call, "a monitor's value refused");
         }

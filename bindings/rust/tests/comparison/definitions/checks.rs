@@ -156,6 +156,22 @@ pub fn monitor(m: &Morphism, before: usize, since: usize) -> Result<(), Refusal>
     }
 }
 
+/// Check 15: a point's name is 0 to 7.
+pub fn name(name: usize) -> Result<(), Refusal> {
+    match name > 7 {
+        true => Err((15, 1, 0)),
+        false => Ok(()),
+    }
+}
+
+/// Check 3 of a monitor's values and of those under every kept name, three bytes each: whether it was kept, before, since.
+pub fn points(m: &Morphism, before: usize, since: usize, points: &[u8]) -> Result<(), Refusal> {
+    monitor(m, before, since)?;
+    let kept = points.chunks(3).filter(|bytes| bytes[0] != 0);
+    kept.map(|bytes| monitor(m, bytes[1] as usize, bytes[2] as usize))
+        .collect()
+}
+
 /// An automaton file, before its matrices are counted.
 #[derive(Clone, Debug, PartialEq, Eq)]
 pub struct Automaton {

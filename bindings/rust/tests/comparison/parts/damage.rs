@@ -4,7 +4,7 @@ use crate::calls::*;
 use crate::definitions::rule::{marks_section, Rule};
 use crate::inputs::{automata, marks, morphisms};
 use crate::subject::Subject;
-use duknavet::{Monitor, NONE};
+use duknavet::{Monitor, NONE, POINTS};
 
 pub fn run(c: &mut Comparison, part: usize) {
     let rules = small_rules(c);
@@ -140,7 +140,7 @@ fn any_call(c: &mut Comparison, subject: &Subject, second: &[u8]) {
 }
 
 /// How many calls get a rule.
-const CALLS: usize = 9;
+const CALLS: usize = 11;
 
 /// A call by number, with further inputs that may be faulty too, and buffers that may be short.
 fn call(c: &mut Comparison, which: usize, subject: &Subject, second: &[u8]) {
@@ -159,6 +159,12 @@ fn call(c: &mut Comparison, which: usize, subject: &Subject, second: &[u8]) {
         since: value(),
     };
     let letter = c.random.below(letters + 1) as u8;
+    let name = c.random.below(9);
+    let mut points = [0; POINTS];
+    for bytes in points.chunks_mut(3) {
+        bytes[0] = *c.random.pick(&[0, 0, 0, 1, 2, 255]);
+        bytes[1..].fill_with(|| *c.random.pick(&[0, n - 1, n - 1, n - 1, n - 1, n, NONE]) as u8);
+    }
     let short = c.random.once_in(20);
     fn sizes<const N: usize>(c: &mut Comparison, short: bool, least: [usize; N]) -> [usize; N] {
         match short {
@@ -198,6 +204,14 @@ fn call(c: &mut Comparison, which: usize, subject: &Subject, second: &[u8]) {
         7 => {
             let sizes = sizes(c, short, MONITOR_SIZES);
             c.verdict(subject, monitor, sizes)
+        }
+        8 => {
+            let sizes = sizes(c, short, POINTS_SIZES);
+            c.keep(subject, monitor, name, &mut points, sizes);
+        }
+        9 => {
+            let sizes = sizes(c, short, POINTS_SIZES);
+            c.return_to(subject, monitor, name, &points, sizes);
         }
         _ => {
             let sizes = sizes(c, short, REDUCE_SIZES);

@@ -3,5 +3,6 @@
 pub mod automata;
 pub mod damage;
 pub mod large;
+pub mod logs;
 pub mod rules;
 pub mod words;

@@ -6,6 +6,7 @@ use crate::definitions::cycles::{differing_lassos, Decided};
 use crate::definitions::rule::{marks_section, Morphism};
 use crate::definitions::settling::turns;
 use crate::inputs::{marks, morphisms};
+use crate::parts::logs;
 use crate::subject::Subject;
 use duknavet::{Monitor, Verdict, NONE, SCRATCH};
 use std::cell::OnceCell;
@@ -98,6 +99,7 @@ pub fn every_call(c: &mut Comparison, subject: &Subject) {
     c.verdict(subject, monitor, sizes);
     if c.random.once_in(4) {
         history(c, subject);
+        logs::run(c, subject);
     }
 }
 

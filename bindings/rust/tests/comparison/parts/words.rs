@@ -3,7 +3,7 @@
 use crate::calls::*;
 use crate::inputs::{marks, morphisms};
 use crate::subject::Subject;
-use duknavet::{Monitor, NONE, WORD};
+use duknavet::{Monitor, NONE, POINTS, WORD};
 
 pub fn run(c: &mut Comparison, count: usize) {
     for i in 0..count {
@@ -112,5 +112,13 @@ fn monitors(c: &mut Comparison, subject: &Subject) {
         c.event(subject, monitor, letter, MONITOR_SIZES);
         c.mark(subject, monitor, MONITOR_SIZES);
         c.verdict(subject, monitor, MONITOR_SIZES);
+        let name = *c.random.pick(&[0, 7, 8, 255, 256, usize::MAX]);
+        let mut points = [0; POINTS];
+        let at = 3 * c.random.below(8);
+        points[at] = c.random.below(2) as u8;
+        points[at + 1] = *c.random.pick(&values) as u8;
+        points[at + 2] = *c.random.pick(&values) as u8;
+        c.return_to(subject, monitor, name, &points, POINTS_SIZES);
+        c.keep(subject, monitor, name, &mut points, POINTS_SIZES);
     }
 }
