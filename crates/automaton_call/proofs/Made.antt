@@ -8,9 +8,9 @@ use lib.Dec.{T, leb→le, le→leb}
 use Rattle.theory.specs.Rules.{Morphism, Lawful, level, marked}
 use Rattle.theory.specs.Pairs.{Linked}
 use Rattle.buchi.specs.Automata.{Automaton}
-use Rattle.buchi.specs.Matrices.{Matrix, SameEntries}
+use Rattle.buchi.specs.Matrices.{Matrix, SameEntries, product}
 use Rattle.buchi.specs.Rule.{MatricesOf, Recurs, MarkedBy, MoreMatrices}
-use Rattle.buchi.proofs.Products.{product, same-sym, same-trans}
+use Rattle.buchi.proofs.Products.{same-sym, same-trans}
 use Rattle.buchi.proofs.WordMatrices.{letter-matrix}
 use Rattle.buchi.proofs.MatrixLists.{ClosedList}
 use Rattle.buchi.proofs.MatrixTables.{TableOf, table-lawful, table-matrices}

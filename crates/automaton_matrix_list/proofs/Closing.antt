@@ -6,8 +6,8 @@ use mathlib.Core.List.{List}
 use native.Mathlib.Omega.{arith}
 use Rattle.finite.proofs.FirstWords.{sooner-parent}
 use Rattle.buchi.specs.Automata.{Automaton}
-use Rattle.buchi.specs.Matrices.{Matrix, SameEntries, OtherEntry}
-use Rattle.buchi.proofs.Products.{product, product-same, same-refl, same-sym, same-trans}
+use Rattle.buchi.specs.Matrices.{Matrix, SameEntries, OtherEntry, product}
+use Rattle.buchi.proofs.Products.{product-same, same-refl, same-sym, same-trans}
 use Rattle.buchi.proofs.WordMatrices.{letter-matrix}
 use Rattle.buchi.proofs.MatrixLists.{Among, ClosedList, step-matrix, FoundInOrder}
 use Rattle.automaton_matrices.specs.Bytes.{letterEntry}

@@ -14,9 +14,9 @@ use Rattle.finite.proofs.Numbers.{le-or-lt}
 use Rattle.theory.specs.Words.{over-nil, over-cons}
 use Rattle.theory.proofs.Words.{over-append}
 use Rattle.buchi.specs.Automata.{Automaton}
-use Rattle.buchi.specs.Matrices.{Matrix, IsMatrix, SameEntries, OtherEntry}
+use Rattle.buchi.specs.Matrices.{Matrix, IsMatrix, SameEntries, OtherEntry, product}
 use Rattle.buchi.specs.Rule.{MatrixWord}
-use Rattle.buchi.proofs.Products.{product, product-same, same-refl}
+use Rattle.buchi.proofs.Products.{product-same, same-refl}
 use Rattle.buchi.proofs.WordMatrices.{letter-matrix, letter-is-matrix, matrix-same, matrix-append}
 use Rattle.automaton_products.specs.Arrays.{entryIn}
 use Rattle.automaton_matrices.specs.Bytes.{IsLetter}

@@ -6,9 +6,8 @@ use mathlib.Core.Path.{_≡_}
 use mathlib.Core.List.{List}
 use lib.ListN.{length, getD}
 use Rattle.buchi.specs.Automata.{Automaton}
-use Rattle.buchi.specs.Matrices.{Matrix, SameEntries, OtherEntry}
+use Rattle.buchi.specs.Matrices.{Matrix, SameEntries, OtherEntry, product}
 use Rattle.buchi.specs.Rule.{MoreMatrices}
-use Rattle.buchi.proofs.Products.{product}
 use Rattle.buchi.proofs.MatrixLists.{ClosedList, FoundInOrder}
 use Rattle.automaton_products.specs.Arrays.{StateEntries}
 use Rattle.automaton_matrices.specs.Bytes.{MarkingAt, matrixFrom, letterEntry}

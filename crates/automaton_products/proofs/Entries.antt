@@ -8,7 +8,7 @@ use native.Mathlib.Omega.{arith}
 use borrow.Author.Count.{below-more}
 use lib.ListN.{length, getD, set, replicate, length-set}
 use lib.Seq.{getD-set-same, getD-set-other}
-use Rattle.buchi.proofs.Products.{through, greatest, product}
+use Rattle.buchi.specs.Matrices.{through, greatest, product}
 use Rattle.automaton_products.specs.Arrays.{entryIn, RowOf, rowProduct}
 use Rattle.automaton_products.proofs.Rows.{zeros-at}
 

@@ -5,13 +5,13 @@ use mathlib.Core.Logic.{⊎-elim}
 use mathlib.Core.List.{List}
 use native.Mathlib.Omega.{arith}
 use Rattle.finite.proofs.Numbers.{le-or-lt}
-use Rattle.buchi.specs.Matrices.{Matrix}
-use Rattle.buchi.proofs.Products.{product, Via, product-elim}
+use Rattle.buchi.specs.Matrices.{Matrix, product}
+use Rattle.buchi.proofs.Products.{Via, product-elim}
 use Rattle.automaton_products.specs.Arrays.{entryIn, StateEntries, MatrixShape, IsProduct}
 use Rattle.automaton_products.proofs.Rows.{RowsOf, rows-same, rows-shape}
 
 -- entries of at most 2 have products of at most 2
-product-small : {n : ℕ} {M N : Matrix} → n ≤ 6 → StateEntries n M → StateEntries n N → (p q : ℕ) → p < n → q < n → product n M N p q ≤ 2
+pub product-small : {n : ℕ} {M N : Matrix} → n ≤ 6 → StateEntries n M → StateEntries n N → (p q : ℕ) → p < n → q < n → product n M N p q ≤ 2
 product-small {n} {M} {N} few left right p q hp hq =
     ⊎-elim (λ h. h) (λ h. absurd (too-high (product-elim n M N p q (omega arith) h))) (le-or-lt (product n M N p q) 2)
   where

@@ -3,8 +3,7 @@ use Prim.Native.Nat.{ℕ, _≤_, _<_}
 use mathlib.Core.Path.{_≡_}
 use mathlib.Core.List.{List, []}
 use lib.ListN.{length, getD}
-use Rattle.buchi.specs.Matrices.{Matrix, SameEntries}
-use Rattle.buchi.proofs.Products.{through, greatest, product}
+use Rattle.buchi.specs.Matrices.{Matrix, SameEntries, through, greatest, product}
 
 -- the entries of six rows
 unfoldable pub entryIn : List (List ℕ) → Matrix

@@ -2,7 +2,7 @@
 // with neither 0.
 ghost use mathlib.Core.Path.{_≡_};
 ghost use Prim.Native.Nat.{max, _≤_};
-ghost use Rattle.buchi.proofs.Products.{through};
+ghost use Rattle.buchi.specs.Matrices.{through};
 ghost use Rattle.automaton_products.specs.Arrays.{rowProduct, MatrixShape, RowOf, IsProduct};
 
 // The greater of two entries.

@@ -7,8 +7,8 @@ use mathlib.Core.List.{List}
 use native.Mathlib.Numerals.{add-one}
 use native.Mathlib.Omega.{arith}
 use lib.ListN.{getD}
-use Rattle.buchi.specs.Matrices.{SameEntries}
-use Rattle.buchi.proofs.Products.{product, product-same, product-along, same-refl, same-sym, same-trans}
+use Rattle.buchi.specs.Matrices.{SameEntries, product}
+use Rattle.buchi.proofs.Products.{product-same, product-along, same-refl, same-sym, same-trans}
 use Rattle.automaton_matrices.specs.Bytes.{letterEntry}
 use Rattle.automaton_matrix_search.specs.Lists.{matrixAt, nextAt, parentAt, letterAt, stepEntry}
 use Rattle.automaton_table.specs.Laying.{StepNeeds, StepList, RowLaid, TableNumber}

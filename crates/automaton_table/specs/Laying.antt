@@ -7,9 +7,8 @@ use lib.ListN.{length, getD}
 use Rattle.theory.specs.Rules.{Morphism, Marking}
 use Rattle.theory.specs.Pairs.{Linked}
 use Rattle.buchi.specs.Automata.{Automaton}
-use Rattle.buchi.specs.Matrices.{SameEntries}
+use Rattle.buchi.specs.Matrices.{SameEntries, product}
 use Rattle.buchi.specs.Rule.{Recurs}
-use Rattle.buchi.proofs.Products.{product}
 use Rattle.automaton_matrices.specs.Bytes.{initialAt, finalAt}
 use Rattle.automaton_matrix_search.specs.Lists.{matrixAt, nextAt, parentAt, letterAt, MatrixList, KeptBelow, Recorded}
 use Rattle.scratch.specs.Map.{laidMarksBase, laidProductsBase}

@@ -9,8 +9,7 @@ use Rattle.theory.specs.Words.{endless}
 use Rattle.theory.proofs.Words.{seg, seg-append, repeat}
 use Rattle.theory.proofs.Periods.{Periodic, seg-periodic-shift, seg-repeat, endless-periodic, endless-start, endless-cycle}
 use Rattle.buchi.specs.Automata.{Automaton}
-use Rattle.buchi.specs.Matrices.{Matrix, IsMatrix, SameEntries}
-use Rattle.buchi.proofs.Products.{product}
+use Rattle.buchi.specs.Matrices.{Matrix, IsMatrix, SameEntries, product}
 use Rattle.buchi.proofs.WordMatrices.{matrix-same, matrix-append}
 
 module _ {a : Automaton} {y : List ℕ} {E : Matrix} (cycle : IsMatrix a y E) where

@@ -21,9 +21,9 @@ use Rattle.theory.proofs.Starts.{start-or-turn, lasso-started, same-started, eq
 use Rattle.theory.proofs.Strength.{lasso-of, value-two, settled-cycle, settled-start, settled-linked, Settled, settle}
 use Rattle.theory.proofs.Closure.{linked-test, linked-intro, linked-elim}
 use Rattle.buchi.specs.Automata.{Automaton, AcceptedBy}
-use Rattle.buchi.specs.Matrices.{Matrix, IsMatrix, SameEntries}
+use Rattle.buchi.specs.Matrices.{Matrix, IsMatrix, SameEntries, product}
 use Rattle.buchi.specs.Rule.{MatrixWord, MatricesOf, Recurs, MarkedBy, AcceptsRuns}
-use Rattle.buchi.proofs.Products.{product, equal-numbers}
+use Rattle.buchi.proofs.Products.{equal-numbers}
 use Rattle.buchi.proofs.WordMatrices.{matrix-unique, matrix-append}
 use Rattle.buchi.proofs.Recurrence.{recurrence, recurs-accepted}
 use Rattle.buchi.proofs.LassoRuns.{accepted-same}

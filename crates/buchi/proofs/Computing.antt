@@ -6,7 +6,7 @@ use Rattle.finite.proofs.Search.{allBelow, leastBelow, leastFrom}
 use Rattle.theory.proofs.Words.{repeat}
 use Rattle.theory.proofs.Closure.{linked-test}
 use Rattle.theory.proofs.TableTests.{all-pairs}
-use Rattle.buchi.proofs.Products.{through, greatest, product}
+use Rattle.buchi.specs.Matrices.{through, greatest, product}
 use Rattle.buchi.proofs.WordMatrices.{letter-matrix, matrix-of}
 use Rattle.buchi.proofs.MatrixTests.{same-test, returns-at, returns-from, recurs-test, settles, run-test}
 use Rattle.buchi.proofs.AutomatonRule.{run-marks}

@@ -10,9 +10,9 @@ use Rattle.theory.specs.Words.{endless}
 use Rattle.theory.proofs.Words.{repeat, repeat-some}
 use Rattle.theory.proofs.Periods.{same-unrolled-repeated}
 use Rattle.buchi.specs.Automata.{Automaton, AcceptedBy}
-use Rattle.buchi.specs.Matrices.{Matrix, IsMatrix, SameEntries}
+use Rattle.buchi.specs.Matrices.{Matrix, IsMatrix, SameEntries, product}
 use Rattle.buchi.specs.Rule.{Recurs}
-use Rattle.buchi.proofs.Products.{product, product-same, same-refl, same-trans, same-sym, product-associative}
+use Rattle.buchi.proofs.Products.{product-same, same-refl, same-trans, same-sym, product-associative}
 use Rattle.buchi.proofs.WordMatrices.{matrix-unique, matrix-append, matrix-of, word-is-matrix}
 use Rattle.buchi.proofs.Recurrence.{recurrence}
 

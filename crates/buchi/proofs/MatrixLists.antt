@@ -10,9 +10,8 @@ use Rattle.finite.proofs.FirstWords.{Sooner}
 use Rattle.theory.specs.Words.{Over, over-nil, over-cons}
 use Rattle.theory.specs.Rules.{Morphism, Lawful}
 use Rattle.buchi.specs.Automata.{Automaton}
-use Rattle.buchi.specs.Matrices.{Matrix, IsMatrix, SameEntries, OtherEntry}
+use Rattle.buchi.specs.Matrices.{Matrix, IsMatrix, SameEntries, OtherEntry, product}
 use Rattle.buchi.specs.Rule.{MatrixWord, MatricesOf}
-use Rattle.buchi.proofs.Products.{product}
 use Rattle.buchi.proofs.WordMatrices.{matrix-same, matrix-unique, matrix-append, letter-matrix, letter-is-matrix}
 use Rattle.buchi.proofs.MatrixTests.{same-test, same-intro, same-elim}
 use Rattle.buchi.proofs.MatrixTables.{TableOf, table-lawful, table-matrices}

@@ -8,9 +8,9 @@ use Rattle.theory.specs.Words.{Over, over-nil, over-cons}
 use Rattle.theory.specs.Rules.{Morphism, Lawful, element, join, value, AllReached}
 use Rattle.theory.proofs.Values.{element-same, element-apart, value-some}
 use Rattle.buchi.specs.Automata.{Automaton}
-use Rattle.buchi.specs.Matrices.{Matrix, IsMatrix, SameEntries, OtherEntry}
+use Rattle.buchi.specs.Matrices.{Matrix, IsMatrix, SameEntries, OtherEntry, product}
 use Rattle.buchi.specs.Rule.{MatrixWord, MatricesOf}
-use Rattle.buchi.proofs.Products.{product, product-along, same-sym, same-trans, equal-numbers}
+use Rattle.buchi.proofs.Products.{product-along, same-sym, same-trans, equal-numbers}
 use Rattle.buchi.proofs.WordMatrices.{matrix-same, matrix-append, letter-matrix, letter-is-matrix}
 
 -- the table's elements are matrices, and its product is theirs

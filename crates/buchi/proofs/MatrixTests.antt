@@ -13,9 +13,8 @@ use Rattle.finite.specs.Search.{anyBelow}
 use Rattle.finite.proofs.Search.{any-intro, any-elim, allBelow, all-intro, all-elim, all-or-not}
 use Rattle.theory.proofs.Words.{repeat, repeat-some}
 use Rattle.buchi.specs.Automata.{Automaton, AcceptedBy}
-use Rattle.buchi.specs.Matrices.{Matrix, SameEntries, OtherEntry}
+use Rattle.buchi.specs.Matrices.{Matrix, SameEntries, OtherEntry, product}
 use Rattle.buchi.specs.Rule.{Recurs}
-use Rattle.buchi.proofs.Products.{product}
 use Rattle.buchi.proofs.WordMatrices.{matrix-of, word-is-matrix}
 use Rattle.buchi.proofs.LassoRuns.{lasso-recurrence}
 

@@ -7,22 +7,7 @@ use native.Mathlib.Nat.{not-suc-le-zero, le-antisymm, le-max-left, le-max-right,
 use native.Mathlib.Decide.{ℕ-discrete}
 use native.Mathlib.Omega.{arith}
 use Rattle.finite.proofs.Numbers.{below-cases, le-or-lt}
-use Rattle.buchi.specs.Matrices.{Matrix, SameEntries, OtherEntry}
-
--- the greater of two entries, 0 where one of them is 0
-unfoldable pub through : ℕ → ℕ → ℕ
-through zero y = 0
-through (suc x) zero = 0
-through (suc x) (suc y) = max (suc x) (suc y)
-
--- the greatest of f 0 .. f (n - 1), 0 where there is none
-unfoldable pub greatest : ℕ → (ℕ → ℕ) → ℕ
-greatest zero f = 0
-greatest (suc n) f = max (f n) (greatest n f)
-
--- the product of matrices over n states
-unfoldable pub product : ℕ → Matrix → Matrix → Matrix
-product n M N p q = greatest n (λ r. through (M p r) (N r q))
+use Rattle.buchi.specs.Matrices.{Matrix, SameEntries, OtherEntry, through, greatest, product}
 
 -- ---- what the entries reach
 

@@ -12,9 +12,8 @@ use Rattle.finite.proofs.Pigeonhole.{Collision, pigeonhole}
 use Rattle.finite.proofs.Numbers.{below-cases}
 use Rattle.theory.specs.Words.{endless}
 use Rattle.buchi.specs.Automata.{Automaton, WordPath, FinalPath, Run, FinalFrom, AcceptedBy}
-use Rattle.buchi.specs.Matrices.{Matrix, IsMatrix, SameEntries}
+use Rattle.buchi.specs.Matrices.{Matrix, IsMatrix, SameEntries, product}
 use Rattle.buchi.specs.Rule.{Recurs}
-use Rattle.buchi.proofs.Products.{product}
 use Rattle.buchi.proofs.WordMatrices.{matrix-path, matrix-final, path-matrix, final-matrix}
 use Rattle.buchi.proofs.LaidRuns.{laid-accepting}
 use Rattle.buchi.proofs.RunPaths.{run-path, run-final}

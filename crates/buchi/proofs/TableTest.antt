@@ -10,9 +10,8 @@ use Rattle.finite.proofs.Search.{allBelow, all-elim}
 use Rattle.theory.specs.Rules.{Morphism, Lawful, AllReached}
 use Rattle.theory.proofs.TableTests.{all-pairs, all-pairs-elim}
 use Rattle.buchi.specs.Automata.{Automaton}
-use Rattle.buchi.specs.Matrices.{Matrix, OtherEntry}
+use Rattle.buchi.specs.Matrices.{Matrix, OtherEntry, product}
 use Rattle.buchi.specs.Rule.{MatricesOf}
-use Rattle.buchi.proofs.Products.{product}
 use Rattle.buchi.proofs.WordMatrices.{letter-matrix}
 use Rattle.buchi.proofs.MatrixTests.{same-test, same-elim, other-elim}
 use Rattle.buchi.proofs.MatrixTables.{TableOf, table-matrices, reached-word}

@@ -11,9 +11,9 @@ use lib.Dec.{T}
 use Rattle.finite.proofs.Numbers.{le-or-lt}
 use Rattle.finite.proofs.Tests.{T-or-left, T-or-right, T-or-cases, true-T}
 use Rattle.buchi.specs.Automata.{Automaton, WordPath, path-end, path-step, FinalPath, final-here, final-later}
-use Rattle.buchi.specs.Matrices.{Matrix, IsEntry, entry-final, entry-plain, entry-none, IsMatrix, SameEntries}
+use Rattle.buchi.specs.Matrices.{Matrix, IsEntry, entry-final, entry-plain, entry-none, IsMatrix, SameEntries, product}
 use Rattle.buchi.proofs.Paths.{path-from, path-to, final-path, path-append, final-append-first, final-append-second, path-split, final-split}
-use Rattle.buchi.proofs.Products.{product, Via, product-intro, product-elim}
+use Rattle.buchi.proofs.Products.{Via, product-intro, product-elim}
 
 -- ---- one entry
 

@@ -1,7 +1,7 @@
 -- The loop holds that the first p rows are those of the product. Assumes nothing.
 use Prim.Native.Nat.{_-_, _≤_}
 use borrow.Author.Needs.{needs}
-use Rattle.buchi.proofs.Products.{product}
+use Rattle.buchi.specs.Matrices.{product}
 use Rattle.automaton_products.specs.Arrays.{entryIn}
 use Rattle.automaton_products.proofs.Entries.{row-of-product}
 use Rattle.automaton_products.proofs.Rows.{RowsOf, rows-none, rows-more}
