@@ -14,7 +14,7 @@ use Rattle.formats.specs.AutomatonFile.{statesOf, lettersOf, hasTransition}
 use Rattle.automaton_file.specs.Answers.{TransitionsLaid, ReadPromise}
 use Rattle.automaton_file.specs.declared.AutomatonRead.the-variants.{Automaton, Refused as Read-refused}
 use Rattle.automaton_file.proofs.Calls.{scratch-long, called-good, zeros-left}
-use Rattle.automaton_call.specs.Promise.{ReadHere, MadePromise}
+use Rattle.automaton_translation.specs.Promise.{ReadHere, MadePromise}
 use Rattle.promises.specs.Automaton.{RulePromise}
 use Rattle.promises.specs.declared.Translated.{Translated}
 use Rattle.promises.specs.declared.Translated.the-variants.{Refused}

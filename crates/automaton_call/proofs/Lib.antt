@@ -1,6 +1,2 @@
-pub mod Laid
-pub mod Reading
-pub mod Order
-pub mod Made
-pub mod Making
 pub mod Calling
+pub mod TwoWays

@@ -1,55 +1,23 @@
-// The rule of an automaton. Its elements are the matrices of all non-empty words, numbered in the order in which they are found.
-//
-// Scratch holds the bytes of the transitions up to byte 576, the matrices from byte 8192 on, and from byte 12288 on what is recorded
-// while they are found, first of all the element of each letter. Behind them the rule is laid out: from byte 16384 on the products, by
-// rows as the file has them, and from byte 24576 on the marks, a byte for each pair (s, e) at s * 64 + e.
+// The call for the rule of an automaton: the file is checked, then its rule made, by the table of products where there are two states.
 use answer::Refusal;
 use automaton_file::AutomatonRead;
 use automaton_file::read_automaton;
-use automaton_marks::lay_marks;
-use automaton_matrix_list::list_matrices;
-use automaton_matrix_search::MatrixCount;
-use automaton_table::lay_products;
+use automaton_ready_table::make_ready_rule;
+use automaton_translation::make_rule;
 use formats::RULE_SIZE;
 use promises::Translated;
-use rule_laid::write_laid;
-use scratch::STEPS_BASE;
-use sections::zero;
-ghost use Rattle.automaton_table.specs.Laying.{StepList, MarkNeeds, RuleLaid};
-ghost use Rattle.automaton_call.specs.Promise.{ReadHere, MadePromise};
+ghost use Rattle.automaton_translation.specs.Promise.{ReadHere, MadePromise};
 ghost use Rattle.promises.specs.Automaton.{RulePromise};
 
-// Lays out the rule whose elements are the listed matrices.
-fn lay_rule(kinds: &[u8], n: usize, scratch: &mut [u8], count: usize)
-    requires { ⌜ StepList (now kinds) n (now scratch) count ⌝ }
-    requires { ⌜ MarkNeeds (now kinds) n (now scratch) count ⌝ }
-    ensures { λ _. ⌜ RuleLaid (now (kinds .entry)) n count (now (scratch .entry)) (now (scratch .exit)) ⌝ }
-{
-    lay_products(scratch, count);
-    lay_marks(kinds, n, scratch, count);
-}
-
-// The rule of an automaton whose transitions stand in scratch, unless it has too many matrices.
-fn make_rule(automaton: &[u8], n: usize, k: usize, out: &mut [u8], scratch: &mut [u8]) -> Translated
+// The rule of an automaton that was read: by the table of products where it has two states, without a table else.
+fn translate(automaton: &[u8], n: usize, k: usize, out: &mut [u8], scratch: &mut [u8]) -> Translated
     requires { ⌜ ReadHere (now automaton) n k (now out) (now scratch) ⌝ }
     ensures { λ r. ⌜ MadePromise (now (automaton .entry)) (now (out .entry)) (now (out .exit)) (now (scratch .entry)) (now (scratch .exit)) r ⌝ }
 {
-    let kinds = &automaton[1..];
-    let count = match list_matrices(kinds, n, k, scratch) {
-        MatrixCount::Listed(c) => c,
-        MatrixCount::TooMany => {
-            zero(scratch);
-            return Translated::Refused {
-                refusal: Refusal::TooManyMatrices,
-                input: 1,
-                place: 0,
-            };
-        }
-    };
-    lay_rule(kinds, n, scratch, count);
-    let length = write_laid(scratch, STEPS_BASE, count, k, out);
-    zero(scratch);
-    Translated::Rule(length)
+    if n == 2 {
+        return make_ready_rule(automaton, n, k, out, scratch);
+    }
+    make_rule(automaton, n, k, out, scratch, &automaton[..0])
 }
 
 // Checks an automaton and writes its rule, or refuses it. Scratch ends as zeros, but where a buffer is too short.
@@ -68,7 +36,7 @@ pub fn automaton_rule(automaton: &[u8], out: &mut [u8], scratch: &mut [u8]) -> T
             states,
             letters,
             transitions,
-        } => make_rule(automaton, states, letters, out, scratch),
+        } => translate(automaton, states, letters, out, scratch),
         AutomatonRead::Refused {
             refusal,
             input,

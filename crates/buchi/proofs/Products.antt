@@ -1,6 +1,6 @@
 -- The product of matrices: entry (p, q) is the greatest entry among all pairs (p, r) and (r, q) with neither 0, and 0 if there
 -- is no such r. Entries are compared by the numbers g ≥ 1 that they reach; the product is associative. Assumes nothing.
-use Prim.Native.Nat.{ℕ, zero, suc, max, _≤_, _<_}
+use Prim.Native.Nat.{ℕ, zero, suc, _≤_, _<_}
 use mathlib.Core.Path.{_≡_, refl, sym, subst, _∙_}
 use mathlib.Core.Logic.{_⊎_, inl, inr, ⊎-elim}
 use native.Mathlib.Nat.{not-suc-le-zero, le-antisymm, le-max-left, le-max-right, le-trans}

@@ -15,8 +15,8 @@ read-automaton-requires c κs = search needs
 enum-known-states : tie.Need-enum-known-states
 enum-known-states c = search needs
 
-make-rule-requires : tie.Need-make-rule-requires
-make-rule-requires c κs = read-here _ _ _ (c .before .before .before .before .before .before .before .before .before .if1 .left) (was-read 1 _ _ _ (c .before .before .before .before .before .before .before .read-automaton .result) (c .before .before .before .before .before .before .before .read-automaton .ensures) (c .before .before .before .states .given .1))
+translate-requires : tie.Need-translate-requires
+translate-requires c κs = read-here _ _ _ (c .before .before .before .before .before .before .before .before .before .if1 .left) (was-read 1 _ _ _ (c .before .before .before .before .before .before .before .read-automaton .result) (c .before .before .before .before .before .before .before .read-automaton .ensures) (c .before .before .before .states .given .1))
 
 enum-known-refusal : tie.Need-enum-known-refusal
 enum-known-refusal c = search needs
@@ -28,7 +28,7 @@ same-length-2 : tie.Need-same-length-2
 same-length-2 c = search needs
 
 returns-2 : tie.Need-returns-2
-returns-2 c = rule-promised _ _ _ (c .before .before .before .before .before .before .before .before .before .before .before .before .before .before .if1 .left) (was-read 1 _ _ _ (c .before .before .before .before .before .before .before .before .before .before .before .before .read-automaton .result) (c .before .before .before .before .before .before .before .before .before .before .before .before .read-automaton .ensures) (c .before .before .before .before .before .before .before .before .states .given .1)) (c .before .before .before .before .make-rule .ensures)
+returns-2 c = rule-promised _ _ _ (c .before .before .before .before .before .before .before .before .before .before .before .before .before .before .if1 .left) (was-read 1 _ _ _ (c .before .before .before .before .before .before .before .before .before .before .before .before .read-automaton .result) (c .before .before .before .before .before .before .before .before .before .before .before .before .read-automaton .ensures) (c .before .before .before .before .before .before .before .before .states .given .1)) (c .before .before .before .before .translate .ensures)
 
 same-length-3 : tie.Need-same-length-3
 same-length-3 c = search needs
@@ -43,7 +43,7 @@ automaton-rule-spec =
     returns
     read-automaton-requires
     enum-known-states
-    make-rule-requires
+    translate-requires
     enum-known-refusal
     same-length
     same-length-2

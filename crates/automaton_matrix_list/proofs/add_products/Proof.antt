@@ -10,37 +10,41 @@ use Rattle.automaton_matrix_list.proofs.add_products.Statement.{stateme
 use Rattle.automaton_matrix_list.proofs.add_products.Tie as tie
 
 abbrev Inv-loop : tie.InvT-loop
-Inv-loop n k scratch₀ count from left total₀ letter₀ scratch total letter = (letter ≤ k) × Multiplied n k scratch₀ count (from + 1) scratch total letter
+Inv-loop n k scratch₀ count from table left total₀ letter₀ scratch total letter = (letter ≤ k) × Multiplied n k scratch₀ count (from + 1) scratch total letter
 
 abbrev μ-loop : tie.MeasureT-loop
-μ-loop n k scratch₀ count from left total₀ letter₀ scratch total letter = k - letter
+μ-loop n k scratch₀ count from table left total₀ letter₀ scratch total letter = k - letter
 
 load-matrix-requires : tie.Need-load-matrix-requires Inv-loop μ-loop
-load-matrix-requires c κs = from-place (c .before .before .pre .0) (c .before .before .pre .1)
+load-matrix-requires c κs = from-place (c .before .before .before .pre .0) (c .before .before .before .pre .1 .0)
 
 loop-holds : tie.Need-loop-holds Inv-loop μ-loop
-loop-holds c = (search needs, multiplied-start (c .before .before .before .pre .0) (c .before .before .before .pre .1))
+loop-holds c = (search needs, multiplied-start (c .before .before .before .before .pre .0) (c .before .before .before .before .pre .1 .0))
 
 add-at : tie.Need-add-at Inv-loop μ-loop
-add-at c = omega (arith, c .before .before .before .before .before .pre .0 .few-letters)
+add-at c = omega (arith, c .before .before .before .before .before .before .pre .0 .few-letters)
 
 slice-read-at : tie.Need-slice-read-at Inv-loop μ-loop
-slice-read-at c = omega (arith, c .before .before .before .before .before .before .pre .0 .few-letters, c .before .before .loop .inv .1 .letters .list .room)
+slice-read-at c = omega (arith, c .before .before .before .before .before .before .before .pre .0 .few-letters, c .before .before .loop .inv .1 .letters .list .room)
 
 cast-at : tie.Need-cast-at Inv-loop μ-loop
 cast-at c = fits-8-64 (c .slice-known2 .given _)
 
 load-matrix-requires-2 : tie.Need-load-matrix-requires-2 Inv-loop μ-loop
-load-matrix-requires-2 c κs = right-place (c .before .before .before .before .before .before .before .pre .0) (c .before .before .before .before .before .before .before .pre .1) (c .before .before .before .loop .inv .1) (c .before .before .loop-test .taken)
+load-matrix-requires-2 c κs = right-place (c .before .before .before .before .before .before .before .before .pre .0) (c .before .before .before .before .before .before .before .before .pre .1 .0) (c .before .before .before .loop .inv .1) (c .before .before .loop-test .taken)
 
-matrix-product-requires : tie.Need-matrix-product-requires Inv-loop μ-loop
-matrix-product-requires c κs = (c .before .before .before .before .before .before .before .before .pre .0 .list .few-states, (left-shape (c .before .before .before .before .before .before .before .before .pre .0) (c .before .before .before .before .before .before .before .before .pre .1) (c .before .before .before .before .before .load-matrix .ensures), right-shape (c .before .before .before .before .before .before .before .before .pre .0) (c .before .before .before .before .before .before .before .before .pre .1) (c .before .before .before .before .loop .inv .1) (c .before .before .before .loop-test .taken) (c .load-matrix2 .ensures)))
+any-product-requires : tie.Need-any-product-requires Inv-loop μ-loop
+any-product-requires c κs =
+    let start = c .before .before .before .before .before .before .before .before .before in
+    let left = left-shape (start .pre .0) (start .pre .1 .0) (c .before .before .before .before .before .load-matrix .ensures) in
+    let right = right-shape (start .pre .0) (start .pre .1 .0) (c .before .before .before .before .loop .inv .1) (c .before .before .before .loop-test .taken) (c .load-matrix2 .ensures) in
+    (start .pre .0 .list .few-states, ((left, right), start .pre .1 .1))
 
 add-add-step : tie.Need-add-add-step Inv-loop μ-loop
-add-add-step c = omega (arith, c .before .before .before .before .before .before .before .before .before .before .pre .0 .list .few, c .before .before .before .before .before .before .before .before .before .before .pre .1)
+add-add-step c = omega (arith, c .before .before .before .before .before .before .before .before .before .before .before .pre .0 .list .few, c .before .before .before .before .before .before .before .before .before .before .before .pre .1 .0)
 
 add-step-requires : tie.Need-add-step-requires Inv-loop μ-loop
-add-step-requires c κs = (c .before .before .before .before .before .before .loop .inv .1 .letters .list, (c .before .matrix-product .ensures .shape, (omega (arith, c .before .before .before .before .before .before .before .before .before .before .pre .1, c .before .before .before .before .before .before .loop .inv .1 .grown .more), omega (arith, c .before .before .before .before .before .before .before .before .before .before .pre .0 .few-letters))))
+add-step-requires c κs = (c .before .before .before .before .before .before .loop .inv .1 .letters .list, (c .before .any-product .ensures .shape, (omega (arith, c .before .before .before .before .before .before .before .before .before .before .before .pre .1 .0, c .before .before .before .before .before .before .loop .inv .1 .grown .more), omega (arith, c .before .before .before .before .before .before .before .before .before .before .before .pre .0 .few-letters))))
 
 enum-known-c : tie.Need-enum-known-c Inv-loop μ-loop
 enum-known-c c = search needs
@@ -49,10 +53,10 @@ enum-told : tie.Need-enum-told Inv-loop μ-loop
 enum-told c = search needs
 
 same-length : tie.Need-same-length Inv-loop μ-loop
-same-length c = multiplied-full (c .before .before .before .before .before .before .before .before .before .before .before .before .before .before .before .pre .0) (c .before .before .before .before .before .before .before .before .before .before .before .before .before .before .before .pre .1) (c .before .before .before .before .before .before .before .before .before .before .before .loop .inv .1) (c .before .before .before .before .before .before .before .before .before .before .loop-test .taken) (c .before .before .before .before .before .before .before .before .before .before .before .before .load-matrix .ensures) (c .before .before .before .before .before .before .before .load-matrix2 .ensures) (c .before .before .before .before .before .before .matrix-product .ensures) (step-full (c .before .before .before .before .add-step .ensures) (c .enum-told .given .1)) (c .before .before .before .before .add-step .ensures .kept) .kept .same-length
+same-length c = multiplied-full (c .before .before .before .before .before .before .before .before .before .before .before .before .before .before .before .before .pre .0) (c .before .before .before .before .before .before .before .before .before .before .before .before .before .before .before .before .pre .1 .0) (c .before .before .before .before .before .before .before .before .before .before .before .loop .inv .1) (c .before .before .before .before .before .before .before .before .before .before .loop-test .taken) (c .before .before .before .before .before .before .before .before .before .before .before .before .load-matrix .ensures) (c .before .before .before .before .before .before .before .load-matrix2 .ensures) (c .before .before .before .before .before .before .any-product .ensures) (step-full (c .before .before .before .before .add-step .ensures) (c .enum-told .given .1)) (c .before .before .before .before .add-step .ensures .kept) .kept .same-length
 
 returns : tie.Need-returns Inv-loop μ-loop
-returns c = multiplied-full (c .before .before .before .before .before .before .before .before .before .before .before .before .before .before .before .pre .0) (c .before .before .before .before .before .before .before .before .before .before .before .before .before .before .before .pre .1) (c .before .before .before .before .before .before .before .before .before .before .before .loop .inv .1) (c .before .before .before .before .before .before .before .before .before .before .loop-test .taken) (c .before .before .before .before .before .before .before .before .before .before .before .before .load-matrix .ensures) (c .before .before .before .before .before .before .before .load-matrix2 .ensures) (c .before .before .before .before .before .before .matrix-product .ensures) (step-full (c .before .before .before .before .add-step .ensures) (c .enum-told .given .1)) (c .before .before .before .before .add-step .ensures .kept)
+returns c = multiplied-full (c .before .before .before .before .before .before .before .before .before .before .before .before .before .before .before .before .pre .0) (c .before .before .before .before .before .before .before .before .before .before .before .before .before .before .before .before .pre .1 .0) (c .before .before .before .before .before .before .before .before .before .before .before .loop .inv .1) (c .before .before .before .before .before .before .before .before .before .before .loop-test .taken) (c .before .before .before .before .before .before .before .before .before .before .before .before .load-matrix .ensures) (c .before .before .before .before .before .before .before .load-matrix2 .ensures) (c .before .before .before .before .before .before .any-product .ensures) (step-full (c .before .before .before .before .add-step .ensures) (c .enum-told .given .1)) (c .before .before .before .before .add-step .ensures .kept)
 
 add-letter : tie.Need-add-letter Inv-loop μ-loop
 add-letter c = search needs
@@ -61,13 +65,13 @@ loop-less : tie.Need-loop-less Inv-loop μ-loop
 loop-less c = search needs
 
 loop-again : tie.Need-loop-again Inv-loop μ-loop
-loop-again c = (search needs, multiplied-next (c .before .before .before .before .before .before .before .before .before .before .before .before .before .before .before .before .pre .0) (c .before .before .before .before .before .before .before .before .before .before .before .before .before .before .before .before .pre .1) (c .before .before .before .before .before .before .before .before .before .before .before .before .loop .inv .1) (c .before .before .before .before .before .before .before .before .before .before .before .loop-test .taken) (c .before .before .before .before .before .before .before .before .before .before .before .before .before .load-matrix .ensures) (c .before .before .before .before .before .before .before .before .load-matrix2 .ensures) (c .before .before .before .before .before .before .before .matrix-product .ensures) (step-listed (c .before .before .before .before .before .add-step .ensures) (c .before .c .given .1)))
+loop-again c = (search needs, multiplied-next (c .before .before .before .before .before .before .before .before .before .before .before .before .before .before .before .before .before .pre .0) (c .before .before .before .before .before .before .before .before .before .before .before .before .before .before .before .before .before .pre .1 .0) (c .before .before .before .before .before .before .before .before .before .before .before .before .loop .inv .1) (c .before .before .before .before .before .before .before .before .before .before .before .loop-test .taken) (c .before .before .before .before .before .before .before .before .before .before .before .before .before .load-matrix .ensures) (c .before .before .before .before .before .before .before .before .load-matrix2 .ensures) (c .before .before .before .before .before .before .before .any-product .ensures) (step-listed (c .before .before .before .before .before .add-step .ensures) (c .before .c .given .1)))
 
 same-length-2 : tie.Need-same-length-2 Inv-loop μ-loop
 same-length-2 c = c .before .loop .inv .1 .grown .kept .same-length
 
 returns-2 : tie.Need-returns-2 Inv-loop μ-loop
-returns-2 c = multiplied-all (c .before .before .before .before .before .pre .0) (c .before .before .before .before .before .pre .1) (c .before .loop .inv .1) (c .before .loop .inv .0) (c .loop-test .left)
+returns-2 c = multiplied-all (c .before .before .before .before .before .before .pre .0) (c .before .before .before .before .before .before .pre .1 .0) (c .before .loop .inv .1) (c .before .loop .inv .0) (c .loop-test .left)
 
 pub add-products-spec : {M : Type 1} → statement M
 add-products-spec =
@@ -81,7 +85,7 @@ add-products-spec =
     slice-read-at
     cast-at
     load-matrix-requires-2
-    matrix-product-requires
+    any-product-requires
     add-add-step
     add-step-requires
     enum-known-c

@@ -7,16 +7,16 @@ use Rattle.automaton_matrix_list.proofs.close_list.Statement.{statement
 use Rattle.automaton_matrix_list.proofs.close_list.Tie as tie
 
 abbrev Inv-loop : tie.InvT-loop
-Inv-loop n k scratch₀ begun count₀ from₀ scratch count from = Closing n k scratch₀ begun scratch count from
+Inv-loop n k scratch₀ begun table count₀ from₀ scratch count from = Closing n k scratch₀ begun scratch count from
 
 abbrev μ-loop : tie.MeasureT-loop
-μ-loop n k scratch₀ begun count₀ from₀ scratch count from = 64 - from
+μ-loop n k scratch₀ begun table count₀ from₀ scratch count from = 64 - from
 
 loop-holds : tie.Need-loop-holds Inv-loop μ-loop
-loop-holds c = closing-start (c .before .pre .0)
+loop-holds c = closing-start (c .before .before .pre .0)
 
 add-products-requires : tie.Need-add-products-requires Inv-loop μ-loop
-add-products-requires c κs = (c .before .before .loop .inv .letters, c .before .loop-test .taken)
+add-products-requires c κs = (c .before .before .loop .inv .letters, (c .before .loop-test .taken, c .before .before .before .before .before .pre .1 .1))
 
 enum-known-c : tie.Need-enum-known-c Inv-loop μ-loop
 enum-known-c c = search needs
@@ -43,7 +43,7 @@ same-length-2 : tie.Need-same-length-2 Inv-loop μ-loop
 same-length-2 c = c .before .loop .inv .kept .same-length
 
 returns-2 : tie.Need-returns-2 Inv-loop μ-loop
-returns-2 c = closing-done (c .before .loop .inv) (c .before .before .before .pre .1) (c .loop-test .left)
+returns-2 c = closing-done (c .before .loop .inv) (c .before .before .before .before .pre .1 .0) (c .loop-test .left)
 
 pub close-list-spec : {M : Type 1} → statement M
 close-list-spec =

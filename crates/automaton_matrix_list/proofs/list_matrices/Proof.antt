@@ -17,16 +17,16 @@ same-length : tie.Need-same-length
 same-length c = search needs
 
 returns : tie.Need-returns
-returns c = begun-full (c .before .before .before .before .before .before .before .before .pre .0) (c .before .before .before .before .add-letters .ensures) (c .enum-told .given .1)
+returns c = begun-full (c .before .before .before .before .before .before .before .before .before .pre .0) (c .before .before .before .before .add-letters .ensures) (c .enum-told .given .1)
 
 close-list-requires : tie.Need-close-list-requires
-close-list-requires c κs = (begun-list (c .before .before .before .before .before .before .before .before .before .before .pre .0) (c .before .before .before .before .before .before .add-letters .ensures) (c .before .before .c .given .1), c .before .before .before .before .before .before .before .before .before .before .pre .1)
+close-list-requires c κs = (begun-list (c .before .before .before .before .before .before .before .before .before .before .before .pre .0) (c .before .before .before .before .before .before .add-letters .ensures) (c .before .before .c .given .1), (c .before .before .before .before .before .before .before .before .before .before .before .pre .1 .0, c .before .before .before .before .before .before .before .before .before .before .before .pre .1 .1))
 
 same-length-2 : tie.Need-same-length-2
 same-length-2 c = search needs
 
 returns-2 : tie.Need-returns-2
-returns-2 c = begun-done (c .before .before .before .before .before .before .before .before .before .before .before .before .before .pre .0) (c .before .before .before .before .before .before .before .before .before .add-letters .ensures) (c .before .before .before .before .before .c .given .1) (c .before .before .close-list .ensures)
+returns-2 c = begun-done (c .before .before .before .before .before .before .before .before .before .before .before .before .before .before .pre .0) (c .before .before .before .before .before .before .before .before .before .add-letters .ensures) (c .before .before .before .before .before .c .given .1) (c .before .before .close-list .ensures)
 
 pub list-matrices-spec : {M : Type 1} → statement M
 list-matrices-spec =

@@ -12,7 +12,7 @@ use Rattle.automaton_matrices.specs.Bytes.{initialAt, finalAt, stepAt, MarkingA
 use Rattle.automaton_matrix_search.specs.Lists.{ListNeeds, StandsHere}
 use Rattle.scratch.proofs.Parts.{part-length, part-byte}
 use Rattle.promises.specs.Automaton.{automatonOf}
-use Rattle.automaton_call.specs.Promise.{ReadHere}
+use Rattle.automaton_translation.specs.Promise.{ReadHere}
 
 -- "0 plain, 1 initial, 2 final, 3 both": the final kinds are those above 1
 final-kind : (kind : ℕ) → kind < 4 → (eqb kind 2 || eqb kind 3) ≡ ltb 1 kind

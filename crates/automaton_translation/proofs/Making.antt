@@ -15,10 +15,10 @@ use Rattle.promises.specs.Automaton.{automatonOf, matricesCheck}
 use Rattle.automaton_table.specs.Laying.{laidRule, laidMarks, StepList, MarkNeeds, RuleLaid}
 use Rattle.rule_laid.specs.Laid.{LaidNeeds, LaidAs, LaidWritten}
 use Rattle.scratch.specs.Map.{stepsBase}
-use Rattle.automaton_call.specs.Promise.{ReadHere, MadePromise}
+use Rattle.automaton_translation.specs.Promise.{ReadHere, MadePromise}
 use Rattle.promises.specs.declared.Translated.the-variants.{Rule, Refused}
-use Rattle.automaton_call.proofs.Reading.{read-stands, read-place, read-letters}
-use Rattle.automaton_call.proofs.Made.{step-list, mark-place, laid-lawful, laid-matrices, laid-order, laid-marking, not-rich}
+use Rattle.automaton_translation.proofs.Reading.{read-stands, read-place, read-letters}
+use Rattle.automaton_translation.proofs.Made.{step-list, mark-place, laid-lawful, laid-matrices, laid-order, laid-marking, not-rich}
 
 -- the bytes of the states
 abbrev kinds : List ℕ → List ℕ

@@ -23,7 +23,7 @@ use Rattle.automaton_matrix_search.proofs.Growing.{here-kept}
 use Rattle.automaton_matrix_search.proofs.Staying.{matrix-stays}
 use Rattle.automaton_table.specs.Laying.{laidRule, laidMarks, initialStates, StepList, ProductNumber, MarkNeeds, RuleLaid}
 use Rattle.formats.specs.FirstWords.{ByFirstWords}
-use Rattle.automaton_call.proofs.Order.{table-by-first-words}
+use Rattle.automaton_translation.proofs.Order.{table-by-first-words}
 use Rattle.automaton_table.proofs.Staying.{step-stays, product-number-stays}
 use Rattle.automaton_table.proofs.Marks.{recurs-same}
 

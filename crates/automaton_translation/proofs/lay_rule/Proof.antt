@@ -1,9 +1,9 @@
--- `automaton_call::lay_rule` meets its contract: the products stay through the marks. Assumes nothing.
+-- `automaton_translation::lay_rule` meets its contract: the products stay through the marks. Assumes nothing.
 use borrow.Author.Needs.{needs}
 use Rattle.automaton_table.proofs.Numbers.{step-place}
-use Rattle.automaton_call.proofs.Laid.{marks-next, rule-laid}
-use Rattle.automaton_call.proofs.lay_rule.Statement.{statement}
-use Rattle.automaton_call.proofs.lay_rule.Tie as tie
+use Rattle.automaton_translation.proofs.Laid.{marks-next, rule-laid}
+use Rattle.automaton_translation.proofs.lay_rule.Statement.{statement}
+use Rattle.automaton_translation.proofs.lay_rule.Tie as tie
 
 lay-products-requires : tie.Need-lay-products-requires
 lay-products-requires c κs = step-place (c .before .before .before .pre .0)

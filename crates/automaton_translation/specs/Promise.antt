@@ -25,3 +25,9 @@ pub record MadePromise (bytes out-entry out-exit entry exit : List ℕ) (answer 
   pub refusal : FirstFailure (matricesCheck bytes ∷ []) (ruleVerdict answer)
   pub answered : RuleAnswer bytes out-entry out-exit answer
   pub scratch : exit ≡ replicate (length entry) 0
+
+-- "yields the same file .. refusals included": two answers are one, and the buffer for the file and scratch are left alike
+pub record SameOutcome (answer answer′ : Translated) (out-exit out-exit′ exit exit′ : List ℕ) : Type 0 where
+  pub same-answer : answer ≡ answer′
+  pub same-file : out-exit ≡ out-exit′
+  pub same-scratch : exit ≡ exit′
