@@ -29,6 +29,7 @@ fn share(half: usize) -> Tally {
     timed("damaged files", &mut |c| parts::damage::run(c, half));
     timed("small rules", &mut |c| parts::rules::run(c, 1_000));
     timed("automata", &mut |c| parts::automata::run(c, 2_000));
+    timed("two states", &mut |c| parts::automata::two_states(c, half));
     timed("words and monitors", &mut |c| parts::words::run(c, 60));
     timed("large rules", &mut |c| parts::large::run(c));
     c.tally

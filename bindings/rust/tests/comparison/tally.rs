@@ -67,7 +67,7 @@ const REFUSALS: [Refusals; 12] = [
 ];
 
 /// Outcomes that must occur at least so often.
-const LEAST: [(&str, &str, u64); 58] = [
+const LEAST: [(&str, &str, u64); 59] = [
     ("classes", "counts", 1000),
     ("strong", "weak", 100),
     ("strong", "strong, marks closed", 1000),
@@ -123,6 +123,7 @@ const LEAST: [(&str, &str, u64); 58] = [
     ("reduce", "elements exchanged, and found", 1000),
     ("reduce", "the same from another numbering", 1000),
     ("automaton_rule", "written", 1000),
+    ("automaton_rule", "two states", 4000),
     ("automaton_rule", "marks exchanged, and found", 500),
     ("automaton_rule", "elements exchanged, and found", 1000),
     ("automaton_rule", "the same from another numbering", 1000),

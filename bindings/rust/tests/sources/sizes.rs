@@ -126,8 +126,10 @@ impl<'a> Sizes<'a> {
             .push(format!("crates/{path}:{line}: {what}: {why}"));
     }
 
-    /// A constant may be large, but a value that is it would be a copy: it is named only as an argument that is lent, `&NAME`.
+    /// A constant may be large, but a value that is it would be a copy: it is named only as an argument that is lent, `&NAME`. And it is
+    /// built anew wherever it is named: only one function names it, once.
     fn only_lent(&mut self, constant: &Constant) {
+        let mut is_named = false;
         for home in self.crates.clone() {
             let written = match self.library.code(home) {
                 Some(code) => &code.written,
@@ -146,9 +148,13 @@ impl<'a> Sizes<'a> {
                     from >= by && marks.contains(&written[from - by].text.as_str())
                 };
                 let is_lent = is_before(1, &["&"]) && is_before(2, &["(", ","]);
+                let line = written[at].line;
                 if !is_lent || !(is(written, at + 1, ")") || is(written, at + 1, ",")) {
-                    let line = written[at].line;
                     self.fault(home, line, &constant.name, "is named and not only lent");
+                } else if is_named {
+                    self.fault(home, line, &constant.name, "is named a second time");
+                } else {
+                    is_named = true;
                 }
             }
         }

@@ -2,6 +2,7 @@
 //! compared before anything is timed.
 //!
 //!     benchmark                           prints a table in Markdown
+//!     benchmark times ROW ..              prints it of some rows
 //!     benchmark rows                      prints the names of its rows
 //!     benchmark count ROW ENGINE N CALLS  runs one call so many times, for a count of its instructions
 
@@ -28,7 +29,7 @@ fn times(row: &Row, n: usize) -> Option<[Times; ENGINES.len()]> {
     }))
 }
 
-fn print_table() {
+fn print_table(rows: &[Row]) {
     inputs::confirm();
     let sizes = SIZES.map(|n| n.to_string()).join(" | ");
     let beside: Vec<String> = ENGINES[1..]
@@ -37,8 +38,8 @@ fn print_table() {
         .collect();
     println!("| Call | {sizes} | {} | spread |", beside.join(" | "));
     println!("|---{}|", "|---".repeat(1 + SIZES.len() * ENGINES.len()));
-    for row in rows() {
-        let measured = SIZES.map(|n| times(&row, n));
+    for row in rows {
+        let measured = SIZES.map(|n| times(row, n));
         let cells = |cell: &dyn Fn(&[Times; ENGINES.len()]) -> String| {
             let cells = measured.each_ref().map(|times| times.as_ref().map(cell));
             cells
@@ -67,7 +68,13 @@ fn main() {
     let arguments: Vec<String> = std::env::args().skip(1).collect();
     let arguments: Vec<&str> = arguments.iter().map(String::as_str).collect();
     match arguments[..] {
-        [] => print_table(),
+        [] => print_table(&rows()),
+        ["times", ref names @ ..] => {
+            let mut chosen = rows();
+            chosen.retain(|row| names.contains(&row.name.as_str()));
+            assert_eq!(chosen.len(), names.len(), "there is no such row");
+            print_table(&chosen);
+        }
         ["rows"] => rows().iter().for_each(|row| println!("{}", row.name)),
         ["count", name, engine, n, calls] => {
             let row = rows().into_iter().find(|row| row.name == name);
@@ -78,6 +85,6 @@ fn main() {
                 _ => panic!("there is no such row or engine, or a number is none"),
             }
         }
-        _ => panic!("benchmark [rows | count ROW ENGINE N CALLS]"),
+        _ => panic!("benchmark [times ROW .. | rows | count ROW ENGINE N CALLS]"),
     }
 }

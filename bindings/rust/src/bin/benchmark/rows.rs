@@ -81,6 +81,7 @@ pub fn rows() -> Vec<Row> {
     let mut rows: Vec<Row> = LETTERS.into_iter().flat_map(rows_with).collect();
     // Two states have at most 24 matrices of words.
     rows.push(automata(2, 3, 16));
+    rows.push(automata(2, 16, 16));
     rows.push(automata(4, 3, 64));
     rows.push(automata(4, 16, 64));
     rows

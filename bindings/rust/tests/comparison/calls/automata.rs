@@ -39,6 +39,9 @@ impl Comparison {
         if count == 64 {
             self.tally.count("automaton_rule", "64 matrices");
         }
+        if automaton.states() == 2 {
+            self.tally.count("automaton_rule", "two states");
+        }
         Some(written)
     }
 

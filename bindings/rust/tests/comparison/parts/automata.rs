@@ -2,6 +2,7 @@
 
 use super::rules::every_call;
 use crate::calls::*;
+use crate::definitions::checks::Automaton;
 use crate::inputs::automata;
 use crate::subject::Subject;
 
@@ -37,7 +38,50 @@ pub fn run(c: &mut Comparison, count: usize) {
     c.automaton_rule(&more, AUTOMATON_SIZES);
 }
 
-/// Every cut and every single-byte change of document 01's automaton.
+/// Automata of two states, whose products come from a table: all with one or two letters, and the largest. The kinds of their states are
+/// all 16.
+pub fn two_states(c: &mut Comparison, half: usize) {
+    let all: Vec<(u8, u8)> = (0..16).map(|kinds| (kinds % 4, kinds / 4)).collect();
+    for letters in 1..=2 {
+        let triples = |set: usize| {
+            let places = (0..4 * letters).filter(move |at| set >> at & 1 == 1);
+            places.map(|at| ((at % 2) as u8, (at / 4) as u8, (at / 2 % 2) as u8))
+        };
+        for set in (half..1 << (4 * letters)).step_by(2) {
+            for kinds in &all {
+                let automaton = Automaton {
+                    kinds: vec![kinds.0, kinds.1],
+                    letters,
+                    transitions: triples(set).collect(),
+                };
+                let sizes = c.enough(AUTOMATON_SIZES);
+                c.automaton_rule(&automaton.bytes(), sizes);
+            }
+        }
+    }
+    for kinds in all {
+        for percent in [10, 30, 50, 100] {
+            let letters = c.random.within(3, 16);
+            let mut automaton = automata::automaton(&mut c.random, 2, letters, percent);
+            automaton.kinds = vec![kinds.0, kinds.1];
+            c.automaton_rule(&automaton.bytes(), AUTOMATON_SIZES);
+            let sizes = c.short(AUTOMATON_SIZES);
+            c.automaton_rule(&automaton.bytes(), sizes);
+        }
+        // As many letters and transitions as there may be.
+        let mut full = automata::automaton(&mut c.random, 2, 16, 100);
+        assert_eq!(full.transitions.len(), 64);
+        full.kinds = vec![kinds.0, kinds.1];
+        c.automaton_rule(&full.bytes(), AUTOMATON_SIZES);
+        let mut more = full.bytes();
+        more.extend([0, 0, 0]);
+        c.automaton_rule(&more, AUTOMATON_SIZES);
+        more[4..6].copy_from_slice(&65u16.to_le_bytes());
+        c.automaton_rule(&more, AUTOMATON_SIZES);
+    }
+}
+
+/// Every cut and every single-byte change of document 01's automaton, which has two states.
 fn every_damage(c: &mut Comparison) {
     let bytes = [2, 1, 2, 2, 4, 0, 0, 0, 1, 0, 1, 0, 1, 0, 1, 1, 1, 0];
     for cut in 0..=bytes.len() {

@@ -32,8 +32,12 @@ pub fn run(c: &mut Comparison, part: usize) {
         let second = second_marks(c, &rule);
         any_call(c, &Subject::new(bytes), &second);
     }
-    for _ in 0..3_000 {
-        let (states, letters) = (c.random.within(1, 6), c.random.within(1, 16));
+    for i in 0..4_000 {
+        let states = match i % 4 {
+            0 => 2,
+            _ => c.random.within(1, 6),
+        };
+        let letters = c.random.within(1, 16);
         let automaton = automata::automaton(&mut c.random, states, letters, 3);
         let mut bytes = automaton.bytes();
         damage(c, &mut bytes);
