@@ -12,3 +12,4 @@ pub mod Explored
 pub mod Discovery
 pub mod Select
 pub mod Tells
+pub mod Highest

@@ -28,3 +28,5 @@ pub mod Examples
 pub mod Exclusions
 pub mod RivalExclusions
 pub mod SmallReductions
+pub mod Gradings
+pub mod ClosureGrades

@@ -4,3 +4,4 @@ pub mod Acceptance
 pub mod Pairs
 pub mod Smallest
 pub mod Inclusion
+pub mod Grades
