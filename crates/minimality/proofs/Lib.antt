@@ -14,3 +14,7 @@ pub mod Complements
 pub mod Reductions
 pub mod ReduceModel
 pub mod ReducedExamples
+pub mod GradeOutcomes
+pub mod GradeSaturation
+pub mod GradeReductions
+pub mod GradeComplements

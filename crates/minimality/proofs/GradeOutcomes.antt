@@ -1,0 +1,52 @@
+-- The grade of a lasso under a strong marking as an outcome: a number of the values that depends on the endless word only. Assumes
+-- nothing.
+use Prim.Native.Nat.{ℕ, _≤_, _<_}
+use native.Mathlib.Omega.{arith}
+use mathlib.Core.Path.{_≡_, sym}
+use mathlib.Core.Logic.{_↔_, ⊎-elim}
+use mathlib.Core.List.{List}
+use Rattle.finite.proofs.Numbers.{le-or-lt}
+use Rattle.finite.proofs.Highest.{same-above}
+use Rattle.theory.specs.Words.{Lasso}
+use Rattle.theory.specs.Rules.{Morphism, Lawful, Marking, level, AllReached}
+use Rattle.theory.specs.Grades.{AtLeast, StrongMarking}
+use Rattle.theory.proofs.Strength.{settled-start, settled-cycle, accepts-same, started-accepts}
+use Rattle.theory.proofs.Closure.{acceptance-passes, strong-acceptance}
+use Rattle.theory.proofs.Gradings.{GradedMarks, level-linked, at-least-small}
+use Rattle.theory.proofs.ClosureGrades.{closure-grade, closure-grade-small, closure-level}
+use Rattle.minimality.proofs.Smallest.{outcome, LassoValues, lasso-values, values-outcome}
+use Rattle.minimality.proofs.Saturation.{DependsOnWord}
+
+-- the grade of the lassos with the values (s, z): that of their settled pair in the closure
+unfoldable pub grading : Morphism → Marking → ℕ → ℕ → ℕ
+grading m marks s z = closure-grade m marks (settled-start m s z) (settled-cycle m z)
+
+pub grading-small : (m : Morphism) (marks : Marking) (s z : ℕ) → grading m marks s z ≤ 3
+unfolding grading
+grading-small m marks s z = closure-grade-small m marks (settled-start m s z) (settled-cycle m z)
+
+module _ {m : Morphism} {marks : Marking} (law : Lawful m) (reached : AllReached m) (good : GradedMarks m marks) (strong : StrongMarking m marks) where
+  -- a lasso has grade g or more exactly if its outcome is that or more
+  pub grading-outcome : {u v : List ℕ} (g : ℕ) → 1 ≤ g → Lasso (m .letters) u v → AtLeast m marks g u v ↔ (g ≤ outcome m (grading m marks) u v)
+  unfolding grading
+  grading-outcome {u} {v} g some l =
+      let k : LassoValues m u v = lasso-values law l in
+      let s = settled-start m (k .start) (k .cycle) in
+      let e = settled-cycle m (k .cycle) in
+      let started = started-accepts {m = m} {P = level g marks} u v (l .cycle-some) in
+      let a = strong-acceptance law reached (level-linked law good some) (strong .at-each g some) (k .start-has .over) (l .cycle-over) (k .start-has .is) (k .cycle-has .is) in
+      let p = acceptance-passes m (level g marks) (k .start) (k .cycle) in
+      rw (values-outcome (grading m marks) k) (
+        λ x. closure-level law good g s e some (at-least-small law good x) .0 (p .1 (a .0 (started .1 x))),
+        λ y. ⊎-elim (λ (h : g ≤ 3). started .0 (a .1 (p .0 (closure-level law good g s e some h .1 y))))
+            (λ h. absurd (omega (arith, closure-grade-small m marks s e))) (le-or-lt g 3),
+      )
+
+  -- it depends on the endless word only
+  pub grading-depends : DependsOnWord m (grading m marks)
+  grading-depends = record {
+    same-outcome = λ u v u′ v′ l l′ same. same-above (λ g some. (
+      λ h. grading-outcome g some l′ .0 (accepts-same (l′ .cycle-some) same (grading-outcome g some l .1 h)),
+      λ h. grading-outcome g some l .0 (accepts-same (l .cycle-some) (λ i. sym (same i)) (grading-outcome g some l′ .1 h)),
+    ));
+  }
