@@ -6,14 +6,14 @@ use mathlib.Core.Logic.{_↔_}
 use mathlib.Core.List.{List}
 use lib.Dec.{T}
 use Rattle.finite.proofs.Tests.{tests-equal}
-use Rattle.theory.specs.Rules.{Morphism, Lawful, Pairs}
+use Rattle.theory.specs.Rules.{Morphism, Lawful, Pairs, marked}
 use Rattle.theory.specs.Acceptance.{Accepts, Strong}
 use Rattle.theory.specs.Pairs.{LinkedOnly}
 use Rattle.theory.proofs.Values.{inside-of}
 use Rattle.theory.proofs.Strength.{Closed, all-strong}
 use Rattle.theory.proofs.Closure.{closure-test, closure-intro, closure-elim}
 use Rattle.theory.proofs.Included.{marked-accepted}
-use Rattle.scratch.specs.Map.{pairsFrom}
+use Rattle.scratch.specs.Map.{marksFrom}
 use Rattle.mark_closure.specs.Closure.{ClosureLaid, ClosedMarks}
 
 -- the sets agree on the elements
@@ -70,10 +70,10 @@ module _ {m : Morphism} (law : Lawful m) (P Q : Pairs) (same : SameOn m P Q) whe
       (λ t. closure-intro (closed-agrees m Q P (same-back m P Q same) (closure-elim law (linked-agrees m P Q same linked) s e t)))
 
 -- the closure that was laid out is that of the rule's marks
-pub laid-closure : {m : Morphism} {entry exit : List ℕ} → Lawful m → (P : Pairs) → LinkedOnly m P → SameOn m P (pairsFrom entry 0) → ClosureLaid m entry exit
-    → SameOn m (pairsFrom exit 4096) (closure-test m P)
+pub laid-closure : {m : Morphism} {entry exit : List ℕ} → Lawful m → (P : Pairs) → LinkedOnly m P → SameOn m P (marked (marksFrom entry 0)) → ClosureLaid m entry exit
+    → SameOn m (marked (marksFrom exit 4096)) (closure-test m P)
 laid-closure {entry = entry} law P linked same l s e hs he =
-    l .closure s e hs he ∙ sym (closure-agrees law P (pairsFrom entry 0) same linked s e)
+    l .closure s e hs he ∙ sym (closure-agrees law P (marked (marksFrom entry 0)) same linked s e)
 
 -- closed marks are strong
 pub closed-strong : {m : Morphism} {P : Pairs} → Lawful m → LinkedOnly m P → ClosedMarks m P → Strong m P

@@ -9,8 +9,8 @@ use native.Mathlib.Decide.{decLt}
 use borrow.Author.Count.{below-more}
 use lib.ListN.{getD}
 use lib.Dec.{T}
-use Rattle.theory.specs.Rules.{Morphism}
-use Rattle.scratch.specs.Map.{pairsFrom}
+use Rattle.theory.specs.Rules.{Morphism, marked}
+use Rattle.scratch.specs.Map.{marksFrom}
 use Rattle.mark_closure.specs.Closure.{ClosureRoom, ClosureLaid, ClosedMarks, UnclosedMarks, ClosureAnswer}
 use Rattle.mark_closure.specs.Closing.{SecondInFirst, SecondOnly, WithinAnswer}
 use Rattle.mark_closure.proofs.Tables.{pair-in, pair-byte, first-in, first-byte}
@@ -42,7 +42,7 @@ module _ {bytes : List ℕ} where
 
 module _ {m : Morphism} {entry exit : List ℕ} (small : m .size ≤ 64) (r : ClosureRoom m entry) (l : ClosureLaid m entry exit) where
   -- wherever the second table is not 0 the first is not: the marks are closed
-  closed-all : SecondInFirst exit (m .size * 64) → ClosedMarks m (pairsFrom entry 0)
+  closed-all : SecondInFirst exit (m .size * 64) → ClosedMarks m (marked (marksFrom entry 0))
   closed-all w = record {
     closed = λ s e hs he t.
         (let second = pair-byte exit 4096 s e (subst T (sym (l .closure s e hs he)) t) in
@@ -61,7 +61,7 @@ module _ {m : Morphism} {entry exit : List ℕ} (small : m .size ≤ 64) (r : Cl
       )
 
   -- a place where the first table is 0 and the second is not: that pair of the closure is not marked
-  closed-not : SecondOnly exit (m .size * 64) → UnclosedMarks m (pairsFrom entry 0)
+  closed-not : SecondOnly exit (m .size * 64) → UnclosedMarks m (marked (marksFrom entry 0))
   closed-not w =
       let i = w .below in
       let hs : w .at / 64 < m .size = omega arith in

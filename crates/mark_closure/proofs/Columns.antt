@@ -8,21 +8,21 @@ use lib.ListN.{length, getD, set, length-set}
 use lib.Seq.{getD-set-same, getD-set-other}
 use Rattle.finite.proofs.Count.{bit, bit-passes}
 use Rattle.finite.proofs.Tests.{T-true}
-use Rattle.theory.specs.Rules.{Morphism}
+use Rattle.theory.specs.Rules.{Morphism, marked}
 use Rattle.theory.proofs.BestConjugates.{better-not, better-taken, better-same, bettered-none, bettered-more}
-use Rattle.scratch.specs.Map.{pairsFrom}
+use Rattle.scratch.specs.Map.{marksFrom}
 use Rattle.mark_closure.specs.Closing.{place, ByteAfter, ColumnClosed}
 use Rattle.mark_closure.proofs.Tables.{place-same, first-in, first-byte, kept-none, kept-both, kept-first}
 
 -- the ways through the code for one byte where s·e = s: (s·x, f) is not marked, or it is
 module _ (m : Morphism) (bytes : List ℕ) (x e f s old : ℕ) {kept t : ℕ} (is-kept : kept ≡ m .product s e) (is-start : t ≡ m .product s x) where
-  pub after-unmarked : getD bytes (t * 64 + f) 0 ≡ 0 → ByteAfter m (pairsFrom bytes 0) x e f s old old
-  after-unmarked z = better-not is-kept is-start (λ h. absurd (let b = first-byte bytes t f (bit-passes (pairsFrom bytes 0 t f) .1 h) in omega arith))
+  pub after-unmarked : getD bytes (t * 64 + f) 0 ≡ 0 → ByteAfter m (marked (marksFrom bytes 0)) x e f s old old
+  after-unmarked z = better-not is-kept is-start (λ h. absurd (let b = first-byte bytes t f (bit-passes (marked (marksFrom bytes 0) t f) .1 h) in omega arith))
 
-  pub after-marked : kept ≡ s → (getD bytes (t * 64 + f) 0 ≡ 0 → ⊥) → ByteAfter m (pairsFrom bytes 0) x e f s old 1
+  pub after-marked : kept ≡ s → (getD bytes (t * 64 + f) 0 ≡ 0 → ⊥) → ByteAfter m (marked (marksFrom bytes 0)) x e f s old 1
   after-marked p g =
       let b : getD bytes (t * 64 + f) 0 ≢ 0 = g in
-      better-taken is-kept is-start p (sym (ap bit (T-true (pairsFrom bytes 0 t f) (first-in bytes t f (omega arith))))) (λ h. omega arith)
+      better-taken is-kept is-start p (sym (ap bit (T-true (marked (marksFrom bytes 0) t f) (first-in bytes t f (omega arith))))) (λ h. omega arith)
 
 -- no byte of the column has changed yet
 pub column-none : (m : Morphism) (x e f : ℕ) (l : List ℕ) → ColumnClosed m x e f 0 l l
@@ -31,7 +31,7 @@ column-none m x e f l = record { kept = kept-none (m .size) l; column = bettered
 -- the byte of one more element
 module _ {m : Morphism} {x e f s : ℕ} {entry now : List ℕ} {byte : ℕ} (small : m .size ≤ 64) (hs : s < m .size) (he : e < m .size) (hf : f < m .size)
     (ht : m .product s x < m .size) (inside : place s e < length now) (l : ColumnClosed m x e f s entry now)
-    (d : ByteAfter m (pairsFrom now 0) x e f s (getD now (place s e) 0) byte) where
+    (d : ByteAfter m (marked (marksFrom now 0)) x e f s (getD now (place s e) 0) byte) where
   pub column-more : ColumnClosed m x e f (s + 1) entry (set now (place s e) byte)
   column-more = record {
     kept = kept-both (l .kept) (record {

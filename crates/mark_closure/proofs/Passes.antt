@@ -10,10 +10,10 @@ use lib.Dec.{T}
 use Rattle.finite.proofs.Count.{bit, bit-le, bit-passes}
 use Rattle.finite.proofs.Numbers.{row-more}
 use Rattle.finite.proofs.Tests.{tests-equal}
-use Rattle.theory.specs.Rules.{Morphism, Lawful, Pairs}
+use Rattle.theory.specs.Rules.{Morphism, Lawful, Pairs, marked}
 use Rattle.theory.proofs.BestConjugates.{Attained, of-conjugate, of-none, BestSoFar, best-none, best-all, so-far-same}
 use Rattle.theory.proofs.Closure.{closure-test, closure-intro, closure-elim}
-use Rattle.scratch.specs.Map.{pairsFrom}
+use Rattle.scratch.specs.Map.{marksFrom}
 use Rattle.mark_closure.specs.Closure.{ClosureRoom, ClosureLaid}
 use Rattle.mark_closure.specs.Closing.{place, anyMark, markBit, secondTable, Kept, ClosedSoFar, Advanced}
 use Rattle.mark_closure.proofs.Tables.{pair-in, pair-byte, kept-both, kept-before, kept-after, kept-first}
@@ -27,7 +27,7 @@ closed-none small r = record {
 
 -- more factors were tried, and the second table has what they say by the first table as it was
 pub advanced-by : {m : Morphism} {count : ℕ} {entry exit : List ℕ} → m .size ≤ 64 → Lawful m → 8192 ≤ length entry → Kept (m .size) entry exit
-    → BestSoFar m anyMark (markBit (pairsFrom entry 0)) count (secondTable exit) → Advanced m count entry exit
+    → BestSoFar m anyMark (markBit (marked (marksFrom entry 0))) count (secondTable exit) → Advanced m count entry exit
 advanced-by small law room k b = record {
   so-far = record {
     room = omega (arith, k .same-length);
@@ -57,22 +57,22 @@ module _ {m : Morphism} (P : Pairs) {s e byte : ℕ} where
 
 -- all factors were tried: the second table has the closure
 module _ {m : Morphism} {entry exit : List ℕ} (small : m .size ≤ 64) (law : Lawful m) (r : ClosureRoom m entry) (a : Advanced m (m .size * m .size) entry exit) where
-  best : BestSoFar m anyMark (markBit (pairsFrom entry 0)) (m .size * m .size) (secondTable exit)
+  best : BestSoFar m anyMark (markBit (marked (marksFrom entry 0))) (m .size * m .size) (secondTable exit)
   best = so-far-same law (λ s e hs he. ap bit (kept-first small (a .kept) s e hs he)) (a .so-far .pairs)
 
-  closure-at : (s e : ℕ) → s < m .size → e < m .size → pairsFrom exit 4096 s e ≡ closure-test m (pairsFrom entry 0) s e
+  closure-at : (s e : ℕ) → s < m .size → e < m .size → marked (marksFrom exit 4096) s e ≡ closure-test m (marked (marksFrom entry 0)) s e
   closure-at s e hs he =
-      tests-equal (pairsFrom exit 4096 s e) (closure-test m (pairsFrom entry 0) s e)
-      (λ t. best-closure (pairsFrom entry 0) (best .cells s e hs he .attained) (pair-byte exit 4096 s e t))
+      tests-equal (marked (marksFrom exit 4096) s e) (closure-test m (marked (marksFrom entry 0)) s e)
+      (λ t. best-closure (marked (marksFrom entry 0)) (best .cells s e hs he .attained) (pair-byte exit 4096 s e t))
       (λ t.
       let c = closure-elim law (r .linked) s e t in
-      pair-in exit 4096 s e (best-all (best .cells s e hs he) (c .conjugate) (bit-passes (pairsFrom entry 0 (c .to-start) (c .to-cycle)) .0 (c .is-marked))))
+      pair-in exit 4096 s e (best-all (best .cells s e hs he) (c .conjugate) (bit-passes (marked (marksFrom entry 0) (c .to-start) (c .to-cycle)) .0 (c .is-marked))))
 
   -- a byte of the second table is that of a pair of elements, or 0 as it was
   bit-at : (i : ℕ) → 4096 ≤ i → i < 8192 → Dec (i / 64 - 64 < m .size) → Dec (i % 64 < m .size) → getD exit i 0 ≤ 1
   bit-at i h g (yes hs) (yes he) =
       let split : place (i / 64 - 64) (i % 64) ≡ i = omega arith in
-      subst (λ (j : ℕ). getD exit j 0 ≤ 1) split (best-bit (pairsFrom entry 0) (best .cells (i / 64 - 64) (i % 64) hs he .attained))
+      subst (λ (j : ℕ). getD exit j 0 ≤ 1) split (best-bit (marked (marksFrom entry 0)) (best .cells (i / 64 - 64) (i % 64) hs he .attained))
   bit-at i h g (yes hs) (no w) =
       omega (arith, a .kept .kept i (λ s e hs he q. w (let p : i % 64 ≡ e = omega arith in omega arith)), r .blank i h g)
   bit-at i h g (no w) he = omega (arith, a .kept .kept i (λ s e hs he q. w (let p : i / 64 - 64 ≡ s = omega arith in omega arith)), r .blank i h g)

@@ -7,7 +7,8 @@ use native.Mathlib.Nat.{zero-add}
 use lib.ListN.{getD}
 use lib.Dec.{T, ltb}
 use mir.Facts.{ltb-yes, yes-ltb}
-use Rattle.scratch.specs.Map.{pairsFrom}
+use Rattle.theory.specs.Rules.{level, marked}
+use Rattle.scratch.specs.Map.{marksFrom}
 use Rattle.mark_closure.specs.Closing.{place, Kept}
 
 -- a place tells the pair
@@ -15,25 +16,25 @@ pub place-same : (s e s′ e′ : ℕ) → e < 64 → e′ < 64 → place s e �
 place-same s e s′ e′ he he′ p = (omega arith, omega arith)
 
 -- a pair is in a table exactly if its byte is not 0
-pub pair-in : (bytes : List ℕ) (base s e : ℕ) → 0 < getD bytes (base + (s * 64 + e)) 0 → T (pairsFrom bytes base s e)
-unfolding pairsFrom
+pub pair-in : (bytes : List ℕ) (base s e : ℕ) → 0 < getD bytes (base + (s * 64 + e)) 0 → T (marked (marksFrom bytes base) s e)
+unfolding marked level marksFrom
 pair-in bytes base s e h = yes-ltb h
 
-pub pair-byte : (bytes : List ℕ) (base s e : ℕ) → T (pairsFrom bytes base s e) → 0 < getD bytes (base + (s * 64 + e)) 0
-unfolding pairsFrom
+pub pair-byte : (bytes : List ℕ) (base s e : ℕ) → T (marked (marksFrom bytes base) s e) → 0 < getD bytes (base + (s * 64 + e)) 0
+unfolding marked level marksFrom
 pair-byte bytes base s e t = ltb-yes t
 
 -- the same of the first table, whose places are counted from 0
-pub first-in : (bytes : List ℕ) (s e : ℕ) → 0 < getD bytes (s * 64 + e) 0 → T (pairsFrom bytes 0 s e)
+pub first-in : (bytes : List ℕ) (s e : ℕ) → 0 < getD bytes (s * 64 + e) 0 → T (marked (marksFrom bytes 0) s e)
 first-in bytes s e h = pair-in bytes 0 s e (rw zero-add h)
 
-pub first-byte : (bytes : List ℕ) (s e : ℕ) → T (pairsFrom bytes 0 s e) → 0 < getD bytes (s * 64 + e) 0
+pub first-byte : (bytes : List ℕ) (s e : ℕ) → T (marked (marksFrom bytes 0) s e) → 0 < getD bytes (s * 64 + e) 0
 first-byte bytes s e t = rw zero-add at (pair-byte bytes 0 s e t)
 
 -- a byte that is as it was says what it said
 pub pair-kept : (now next : List ℕ) (base s e : ℕ) → getD next (base + (s * 64 + e)) 0 ≡ getD now (base + (s * 64 + e)) 0
-    → pairsFrom next base s e ≡ pairsFrom now base s e
-unfolding pairsFrom
+    → marked (marksFrom next base) s e ≡ marked (marksFrom now base) s e
+unfolding marked level marksFrom
 pair-kept now next base s e p = ap (ltb 0) p
 
 pub kept-none : (n : ℕ) (l : List ℕ) → Kept n l l
@@ -51,5 +52,5 @@ module _ {n : ℕ} {entry exit : List ℕ} (small : n ≤ 64) (k : Kept n entry 
   kept-after i h = k .kept i (λ s e hs he q. omega arith)
 
   -- the first table is as it was
-  pub kept-first : (s e : ℕ) → s < n → e < n → pairsFrom exit 0 s e ≡ pairsFrom entry 0 s e
+  pub kept-first : (s e : ℕ) → s < n → e < n → marked (marksFrom exit 0) s e ≡ marked (marksFrom entry 0) s e
   kept-first s e hs he = pair-kept entry exit 0 s e (kept-before (0 + (s * 64 + e)) (omega arith))

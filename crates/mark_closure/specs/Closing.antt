@@ -6,9 +6,9 @@ use mathlib.Core.Bool.{Bool, true, false}
 use mathlib.Core.List.{List}
 use lib.ListN.{length, getD}
 use Rattle.finite.proofs.Count.{bit}
-use Rattle.theory.specs.Rules.{Morphism, Marking, Pairs}
+use Rattle.theory.specs.Rules.{Morphism, Marking, Pairs, marked}
 use Rattle.theory.proofs.BestConjugates.{Ranking, Better, BestSoFar, ColumnBettered}
-use Rattle.scratch.specs.Map.{secondBase, tablesEnd, pairsFrom}
+use Rattle.scratch.specs.Map.{secondBase, tablesEnd, marksFrom}
 
 -- the byte of (s, e) in the second table
 abbrev pub place : ℕ → ℕ → ℕ
@@ -39,7 +39,7 @@ anyMark = record {
 -- the second table has the pairs that the factors tried so far take to a pair of the first
 pub record ClosedSoFar (m : Morphism) (count : ℕ) (bytes : List ℕ) : Type 0 where
   pub room : tablesEnd ≤ length bytes
-  pub pairs : BestSoFar m anyMark (markBit (pairsFrom bytes 0)) count (secondTable bytes)
+  pub pairs : BestSoFar m anyMark (markBit (marked (marksFrom bytes 0))) count (secondTable bytes)
 
 -- the second table after factors were tried, and nothing else changed
 pub record Advanced (m : Morphism) (count : ℕ) (entry exit : List ℕ) : Type 0 where
@@ -54,7 +54,7 @@ ByteAfter m P x e f s old byte = Better m anyMark (markBit P) x e f s old byte
 -- the bytes of (s, e) for the first elements s have changed so, and every other byte is as it was
 pub record ColumnClosed (m : Morphism) (x e f rows : ℕ) (entry exit : List ℕ) : Type 0 where
   pub kept : Kept (m .size) entry exit
-  pub column : ColumnBettered m anyMark (markBit (pairsFrom entry 0)) x e f rows (secondTable entry) (secondTable exit)
+  pub column : ColumnBettered m anyMark (markBit (marked (marksFrom entry 0))) x e f rows (secondTable entry) (secondTable exit)
 
 -- of the first bytes of the second table, each that is not 0 has its fellow in the first table not 0
 pub record SecondInFirst (bytes : List ℕ) (count : ℕ) : Type 0 where

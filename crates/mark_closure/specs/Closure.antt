@@ -5,21 +5,21 @@ use mathlib.Core.Bool.{Bool, true, false}
 use mathlib.Core.List.{List}
 use lib.ListN.{length, getD}
 use lib.Dec.{T}
-use Rattle.theory.specs.Rules.{Morphism, Pairs}
+use Rattle.theory.specs.Rules.{Morphism, Pairs, marked}
 use Rattle.theory.specs.Pairs.{LinkedOnly}
 use Rattle.theory.proofs.Closure.{closure-test}
-use Rattle.scratch.specs.Map.{secondBase, tablesEnd, pairsFrom}
+use Rattle.scratch.specs.Map.{secondBase, tablesEnd, marksFrom}
 
 -- the marks of a rule in the first table, and a second table with no marks yet
 pub record ClosureRoom (m : Morphism) (scratch : List ℕ) : Type 0 where
   pub room : tablesEnd ≤ length scratch
   pub blank : (i : ℕ) → secondBase ≤ i → i < tablesEnd → getD scratch i 0 ≡ 0
-  pub linked : LinkedOnly m (pairsFrom scratch 0)
+  pub linked : LinkedOnly m (marked (marksFrom scratch 0))
 
 -- the second table has the closure of the first; no byte has changed but those of pairs of elements there
 pub record ClosureLaid (m : Morphism) (entry exit : List ℕ) : Type 0 where
   pub same-length : length exit ≡ length entry
-  pub closure : (s e : ℕ) → s < m .size → e < m .size → pairsFrom exit secondBase s e ≡ closure-test m (pairsFrom entry 0) s e
+  pub closure : (s e : ℕ) → s < m .size → e < m .size → marked (marksFrom exit secondBase) s e ≡ closure-test m (marked (marksFrom entry 0)) s e
   pub bits : (i : ℕ) → secondBase ≤ i → i < tablesEnd → getD exit i 0 ≤ 1
   pub before : (i : ℕ) → i < secondBase → getD exit i 0 ≡ getD entry i 0
   pub after : (i : ℕ) → tablesEnd ≤ i → getD exit i 0 ≡ getD entry i 0
@@ -46,4 +46,4 @@ ClosedAnswer m P false = UnclosedMarks m P
 -- the closure is laid out, and the answer says whether the marks are closed
 pub record ClosureAnswer (m : Morphism) (entry exit : List ℕ) (answer : Bool) : Type 0 where
   pub laid : ClosureLaid m entry exit
-  pub answered : ClosedAnswer m (pairsFrom entry 0) answer
+  pub answered : ClosedAnswer m (marked (marksFrom entry 0)) answer

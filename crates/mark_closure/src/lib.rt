@@ -4,10 +4,10 @@ use rule_table::product;
 use scratch::SECOND_BASE;
 ghost use Prim.Native.Nat.{_+_, _*_, _≤_, _<_};
 ghost use lib.ListN.{length, getD};
-ghost use Rattle.theory.specs.Rules.{Lawful};
+ghost use Rattle.theory.specs.Rules.{Lawful, marked};
 ghost use Rattle.rule_table.specs.Table.{Table};
 ghost use Rattle.formats.specs.Table.{morphismAt};
-ghost use Rattle.scratch.specs.Map.{markTableSize, tablesEnd, pairsFrom};
+ghost use Rattle.scratch.specs.Map.{markTableSize, tablesEnd, marksFrom};
 ghost use Rattle.mark_closure.specs.Closure.{ClosureRoom, ClosureAnswer};
 ghost use Rattle.mark_closure.specs.Closing.{place, ClosedSoFar, Advanced, ByteAfter, ColumnClosed, WithinAnswer};
 
@@ -25,7 +25,7 @@ fn byte_after(
     requires { ⌜ Table (now rule) n k ⌝ }
     requires { ⌜ tablesEnd ≤ length (now scratch) ⌝ }
     requires { ⌜ (x < n) × (e < n) × (f < n) × (s < n) ⌝ }
-    ensures { λ r. ⌜ ByteAfter (morphismAt (now (rule .entry)) n k) (pairsFrom (now (scratch .entry)) 0) x e f s (getD (now (scratch .entry)) (place s e) 0) r ⌝ }
+    ensures { λ r. ⌜ ByteAfter (morphismAt (now (rule .entry)) n k) (marked (marksFrom (now (scratch .entry)) 0)) x e f s (getD (now (scratch .entry)) (place s e) 0) r ⌝ }
 {
     let old = scratch[SECOND_BASE + (s * 64 + e)];
     let kept = product(rule, n, s, e);

@@ -4,17 +4,18 @@ use mathlib.Core.Path.{_≡_, refl, ap, _∙_, subst}
 use mathlib.Core.List.{List}
 use native.Mathlib.Omega.{arith}
 use lib.ListN.{length, replicate}
-use Rattle.theory.specs.Rules.{Morphism, Pairs}
+use Rattle.theory.specs.Rules.{Morphism, Marking, level, marked}
 use Rattle.theory.proofs.Included.{none-included, escape-witness}
 use Rattle.rule_table.specs.Table.{Table}
 use Rattle.formats.specs.Table.{morphismAt}
 use Rattle.rule_reach.specs.Reach.{placeAt, Empty, WordOrder}
 use Rattle.rule_reach.proofs.Words.{wordAt, found-word, reached-found}
-use Rattle.scratch.specs.Map.{pairsFrom}
+use Rattle.scratch.specs.Map.{marksFrom, MarkingAt}
+use Rattle.scratch.proofs.Markings.{marking-itself}
 use Rattle.mark_spelling.specs.Spelling.{SpellNeeds}
 use Rattle.formats.specs.Front.{AtFront}
 use Rattle.mark_spelling.proofs.Entries.{spell-place}
-use Rattle.mark_search.specs.Search.{MarkingAt, EscapeNeeds, EscapeAnswer, EscapedAt, Escaped}
+use Rattle.mark_search.specs.Search.{EscapeNeeds, EscapeAnswer, EscapedAt, Escaped}
 use Rattle.mark_search.specs.declared.Escape.{Escape}
 use Rattle.mark_search.specs.declared.Escape.the-variants.{At, Nothing as No-escape}
 use Rattle.mark_cycles.specs.Cycles.{CycleNeeds, CycleWritten}
@@ -46,12 +47,17 @@ module _ {m : Morphism} {entry : List ℕ} (place : CompareNeeds m entry) where
     room = place .room;
   }
 
-  module _ {mid : List ℕ} {answer : Escape} (r : Escaped m 0 4096 entry mid answer) where
+  module _ {mid : List ℕ} {answer : Escape} (r : Escaped m 1 0 4096 entry mid answer) where
+    said : {answered : Escape} → answer ≡ answered → (F S : Marking) → MarkingAt (m .size) F entry 0 → MarkingAt (m .size) S entry 4096
+        → EscapeAnswer m (marked F) (marked S) mid answered
+    unfolding marked
+    said e F S t t′ = subst (EscapeAnswer m (level 1 F) (level 1 S) mid) e (r .says F S t t′)
+
     -- no cycle escapes
     pub compared-within : {end : List ℕ} (u v : List ℕ) → answer ≡ No-escape → end ≡ replicate (length mid) 0 → Compared m u u v v entry end Is-included
     compared-within u v e z = record {
-      answers = λ P P′ l l′ t t′. record {
-        included = none-included (place .lawful) l l′ (subst (EscapeAnswer m P P′ mid) e (r .says P P′ t t′));
+      answers = λ F S l l′ t t′. record {
+        included = none-included (place .lawful) l l′ (said e F S t t′);
         start-kept = refl;
         cycle-kept = refl;
       };
@@ -60,12 +66,12 @@ module _ {m : Morphism} {entry : List ℕ} (place : CompareNeeds m entry) where
     }
 
     module _ {s i : ℕ} (e : answer ≡ At s i) where
-      escaped : (P P′ : Pairs) → MarkingAt (m .size) P entry 0 → MarkingAt (m .size) P′ entry 4096 → EscapedAt m P P′ s mid i
-      escaped P P′ t t′ = subst (EscapeAnswer m P P′ mid) e (r .says P P′ t t′)
+      escaped : (F S : Marking) → MarkingAt (m .size) F entry 0 → MarkingAt (m .size) S entry 4096 → EscapedAt m (marked F) (marked S) s mid i
+      escaped F S t t′ = said e F S t t′
 
       -- the markings stand as the table itself says
-      itself : EscapedAt m (pairsFrom entry 0) (pairsFrom entry 4096) s mid i
-      itself = escaped (pairsFrom entry 0) (pairsFrom entry 4096) (record { same = λ u f hu hf. refl }) (record { same = λ u f hu hf. refl })
+      itself : EscapedAt m (marked (marksFrom entry 0)) (marked (marksFrom entry 4096)) s mid i
+      itself = escaped (marksFrom entry 0) (marksFrom entry 4096) (marking-itself (m .size) entry 0) (marking-itself (m .size) entry 4096)
 
       pub start-room : {u : List ℕ} → 64 ≤ length u → StartNeeds m s u
       start-room h = record { lawful = place .lawful; reached = place .reached; inside = itself .start-inside; room = h }
@@ -77,11 +83,11 @@ module _ {m : Morphism} {entry : List ℕ} (place : CompareNeeds m entry) where
       pub compared-apart : {end u u′ v v′ : List ℕ} {a b : ℕ} → StartWritten m s u u′ a → CycleWritten (m .size) mid i v v′ b → end ≡ replicate (length mid) 0
           → Compared m u u′ v v′ entry end (NotIncluded a b)
       compared-apart x y z = record {
-        answers = λ P P′ l l′ t t′. record {
+        answers = λ F S l l′ t t′. record {
           start = x .found .word;
           cycle = y .word;
           witness =
-              let k = escaped P P′ t t′ .ended in
+              let k = escaped F S t t′ .ended in
               escape-witness (place .lawful) l l′ (x .found)
               (record { cycle = y .word; escapes = spelled-escapes (place .lawful) k (y .spells); short = ended-short (place .lawful) k (length (y .word)) (y .short) });
           start-written = x .written;

@@ -3,15 +3,14 @@ use Prim.Native.Nat.{ℕ, _≤_, _<_}
 use mathlib.Core.Path.{_≡_}
 use mathlib.Core.List.{List}
 use lib.ListN.{length, replicate}
-use Rattle.theory.specs.Rules.{Morphism, Lawful, Pairs, AllReached}
+use Rattle.theory.specs.Rules.{Morphism, Lawful, Marking, AllReached, marked}
 use Rattle.theory.specs.Pairs.{LinkedOnly}
 use Rattle.theory.proofs.ShortWords.{ShortWord}
-use Rattle.mark_search.specs.Search.{MarkingAt}
 use Rattle.formats.specs.Front.{AtFront}
 use Rattle.promises.specs.Inclusion.{InclusionAnswer}
 use Rattle.promises.specs.declared.Inclusion.{Inclusion}
 use Rattle.promises.specs.declared.Inclusion.the-variants.{Included as Is-included, NotIncluded}
-use Rattle.scratch.specs.Map.{secondBase}
+use Rattle.scratch.specs.Map.{secondBase, MarkingAt}
 use Rattle.formats.specs.RuleChecks.{scratchSize}
 
 -- a table whose elements are all reached, one of them, and room for its first word
@@ -39,7 +38,7 @@ pub data Answered : Inclusion → Type 0 where
 
 -- two markings compared; scratch is zeros then
 pub record Compared (m : Morphism) (u-entry u-exit v-entry v-exit entry exit : List ℕ) (answer : Inclusion) : Type 0 where
-  pub answers : (P P′ : Pairs) → LinkedOnly m P → LinkedOnly m P′ → MarkingAt (m .size) P entry 0 → MarkingAt (m .size) P′ entry secondBase
-      → InclusionAnswer m P P′ u-entry u-exit v-entry v-exit answer
+  pub answers : (F S : Marking) → LinkedOnly m (marked F) → LinkedOnly m (marked S) → MarkingAt (m .size) F entry 0 → MarkingAt (m .size) S entry secondBase
+      → InclusionAnswer m (marked F) (marked S) u-entry u-exit v-entry v-exit answer
   pub answered : Answered answer
   pub scratch : exit ≡ replicate (length entry) 0

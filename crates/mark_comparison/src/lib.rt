@@ -39,7 +39,7 @@ pub fn compare(
     requires { ⌜ (64 ≤ length (now u)) × (4224 ≤ length (now v)) ⌝ }
     ensures { λ r. ⌜ Compared (morphismAt (now (rule .entry)) n k) (now (u .entry)) (now (u .exit)) (now (v .entry)) (now (v .exit)) (now (scratch .entry)) (now (scratch .exit)) r ⌝ }
 {
-    match first_escape(rule, n, k, scratch, 0, SECOND_BASE) {
+    match first_escape(rule, n, k, scratch, 0, SECOND_BASE, 1) {
         Escape::Nothing => {
             zero(scratch);
             Inclusion::Included

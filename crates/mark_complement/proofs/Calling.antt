@@ -11,7 +11,7 @@ use Rattle.answer.proofs.Order.{first-passes, first-fails, none-left, refused-b
 use Rattle.theory.specs.Rules.{Morphism, marked, level}
 use Rattle.theory.specs.Acceptance.{Strong}
 use Rattle.formats.specs.Table.{morphismAt}
-use Rattle.formats.specs.RuleFile.{morphismOf, pairsOf}
+use Rattle.formats.specs.RuleFile.{morphismOf, markingOf, pairsOf}
 use Rattle.formats.specs.RuleChecks.{ruleSize}
 use Rattle.formats.proofs.Buffers.{buffer-short, buffer-long}
 use Rattle.rule_layout.specs.declared.Shape.{Shape}
@@ -23,7 +23,7 @@ use Rattle.rule_check.proofs.Calls.{called-good, zeros-left, checked-length, sh
 use Rattle.formats.specs.ReadBack.{WrittenRule}
 use Rattle.formats.proofs.ReadBack.{written-rule}
 use Rattle.formats.specs.Front.{AtFront}
-use Rattle.scratch.specs.Map.{pairsFrom}
+use Rattle.scratch.specs.Map.{marksFrom}
 use Rattle.mark_strong.specs.Deciding.{StrongIf, Decided}
 use Rattle.promises.specs.Weak.{weakCheck}
 use Rattle.mark_strong.proofs.Calling.{checked-table, checked-lawful, checked-reached, checked-linked, marks-stand, checked-room, decided-file}
@@ -87,14 +87,14 @@ module _ (bytes out entry : List ℕ) where
           e = sym (not-not answer) ∙ ap not n
 
           strong : Strong m (pairsOf bytes)
-          strong = subst (StrongIf m (pairsOf bytes)) e (d .decision (pairsOf bytes) (checked-linked 1 bytes entry p) (marks-stand 1 bytes entry p))
+          strong = subst (StrongIf m (pairsOf bytes)) e (d .decision (markingOf bytes) (checked-linked 1 bytes entry p) (marks-stand 1 bytes entry p))
 
           -- the second table marks the complement
           second-marks : ComplementMarks m (pairsOf bytes) (marked (secondMarking laid))
-          unfolding marked level pairsFrom
+          unfolding marked level marksFrom
           second-marks =
               laid-complement (checked-lawful 1 bytes entry p) (checked-reached 1 bytes entry p) (checked-linked 1 bytes entry p) strong
-              (λ s c hs hc. sym (d .closure (pairsOf bytes) (checked-linked 1 bytes entry p) (marks-stand 1 bytes entry p) .same s c hs hc)) l
+              (λ s c hs hc. sym (d .closure (markingOf bytes) (checked-linked 1 bytes entry p) (marks-stand 1 bytes entry p) s c hs hc)) l
 
           written : {exit : List ℕ} {r : ℕ} → AtFront (secondFile m laid) out exit r → WrittenRule m (secondMarking laid) out exit r
           written w =

@@ -16,7 +16,7 @@ use Rattle.theory.proofs.Strength.{settled-cycle, settled-start}
 use Rattle.theory.proofs.Closure.{linked-test, linked-elim, closure-test, acceptance}
 use Rattle.minimality.proofs.Saturation.{saturated}
 use Rattle.minimality.proofs.Complements.{refusal, complement-marks, complement-saturates, complement-accepts, complement-strong, complement-right}
-use Rattle.scratch.specs.Map.{pairsFrom}
+use Rattle.scratch.specs.Map.{marksFrom}
 use Rattle.mark_closure.proofs.Agreement.{SameOn, linked-agrees, accepts-agrees, strong-agrees}
 use Rattle.mark_complement_marks.specs.Complement.{linkedOutside, ComplementLaid}
 use Rattle.promises.specs.Complement.{ComplementMarks}
@@ -74,7 +74,7 @@ module _ {m : Morphism} {P : Pairs} (law : Lawful m) (reached : AllReached m) (l
 
 -- the marks that the code leaves, where the second table was the closure
 pub laid-complement : {m : Morphism} {P : Pairs} {entry exit : List ℕ} → Lawful m → AllReached m → LinkedOnly m P → Strong m P
-    → SameOn m (pairsFrom entry 4096) (closure-test m P) → ComplementLaid m entry exit → ComplementMarks m P (pairsFrom exit 4096)
+    → SameOn m (marked (marksFrom entry 4096)) (closure-test m P) → ComplementLaid m entry exit → ComplementMarks m P (marked (marksFrom exit 4096))
 laid-complement {m} {P} {entry} {exit} law reached linked strong closed l =
-    outside-complement law reached linked strong (pairsFrom exit 4096)
+    outside-complement law reached linked strong (marked (marksFrom exit 4096))
     (λ s e hs he. l .marks s e hs he ∙ ap (λ (b : Bool). linked-test m s e && not b) (closed s e hs he))

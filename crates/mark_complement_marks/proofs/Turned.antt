@@ -9,10 +9,10 @@ use native.Mathlib.Decide.{ℕ-discrete}
 use lib.ListN.{length, getD, set, length-set}
 use lib.Seq.{getD-set-same, getD-set-other}
 use Rattle.finite.proofs.Tests.{T-true, T-false}
-use Rattle.theory.specs.Rules.{Morphism}
+use Rattle.theory.specs.Rules.{Morphism, level, marked}
 use Rattle.theory.specs.Pairs.{Linked}
 use Rattle.theory.proofs.Closure.{linked-test, linked-intro, linked-elim}
-use Rattle.scratch.specs.Map.{pairsFrom}
+use Rattle.scratch.specs.Map.{marksFrom}
 use Rattle.mark_closure.specs.Closing.{place, Kept}
 use Rattle.mark_closure.proofs.Tables.{place-same, pair-in, pair-byte, pair-kept, kept-before, kept-after}
 use Rattle.mark_complement_marks.specs.Complement.{ComplementLaid, ComplementByte, ComplementRow, ComplementRows}
@@ -24,26 +24,26 @@ and-false false = refl
 
 -- the ways through the code for one byte: the pair is in the table, is not linked, or is to be marked
 module _ (m : Morphism) (bytes : List ℕ) (s e : ℕ) where
-  in-table : (getD bytes (place s e) 0 ≡ 0 → ⊥) → pairsFrom bytes 4096 s e ≡ true
+  in-table : (getD bytes (place s e) 0 ≡ 0 → ⊥) → marked (marksFrom bytes 4096) s e ≡ true
   in-table g =
       let b : getD bytes (place s e) 0 ≢ 0 = g in
-      T-true (pairsFrom bytes 4096 s e) (pair-in bytes 4096 s e (omega arith))
+      T-true (marked (marksFrom bytes 4096) s e) (pair-in bytes 4096 s e (omega arith))
 
-  not-in-table : getD bytes (place s e) 0 ≡ 0 → pairsFrom bytes 4096 s e ≡ false
-  not-in-table z = T-false (pairsFrom bytes 4096 s e) (λ t. (let b = pair-byte bytes 4096 s e t in omega arith))
+  not-in-table : getD bytes (place s e) 0 ≡ 0 → marked (marksFrom bytes 4096) s e ≡ false
+  not-in-table z = T-false (marked (marksFrom bytes 4096) s e) (λ t. (let b = pair-byte bytes 4096 s e t in omega arith))
 
   pub turned-in : (getD bytes (place s e) 0 ≡ 0 → ⊥) → ComplementByte m bytes s e 0
   turned-in g = record { says = sym (ap (λ (b : Bool). linked-test m s e && not b) (in-table g) ∙ and-false (linked-test m s e)); bit = omega arith }
 
   pub turned-unlinked : (Linked m s e → ⊥) → ComplementByte m bytes s e 0
   turned-unlinked g = record {
-    says = sym (ap (λ (b : Bool). b && not (pairsFrom bytes 4096 s e)) (T-false (linked-test m s e) (λ t. g (linked-elim m s e t))));
+    says = sym (ap (λ (b : Bool). b && not (marked (marksFrom bytes 4096) s e)) (T-false (linked-test m s e) (λ t. g (linked-elim m s e t))));
     bit = omega arith;
   }
 
   pub turned-new : getD bytes (place s e) 0 ≡ 0 → Linked m s e → ComplementByte m bytes s e 1
   turned-new z l = record {
-    says = sym (ap (λ (b : Bool). b && not (pairsFrom bytes 4096 s e)) (T-true (linked-test m s e) (linked-intro l)) ∙ ap not (not-in-table z));
+    says = sym (ap (λ (b : Bool). b && not (marked (marksFrom bytes 4096) s e)) (T-true (linked-test m s e) (linked-intro l)) ∙ ap not (not-in-table z));
     bit = omega arith;
   }
 
@@ -107,7 +107,7 @@ module _ {m : Morphism} {entry exit : List ℕ} (small : m .size ≤ 64) (l : Co
   rows-kept = record { same-length = l .same-length; kept = l .others }
 
   pub rows-all : ComplementLaid m entry exit
-  unfolding pairsFrom
+  unfolding marked level marksFrom
   rows-all = record {
     same-length = l .same-length;
     marks = λ s e hs he. l .rows s e hs he .says;

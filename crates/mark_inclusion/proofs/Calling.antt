@@ -1,20 +1,19 @@
 -- What each way through the call that compares two markings promises. Assumes nothing.
 use Prim.Native.Nat.{ℕ, _+_, _*_, _≤_, _<_}
-use mathlib.Core.Path.{_≡_, refl, sym, ap, _∙_, subst}
+use mathlib.Core.Path.{_≡_, refl, sym, _∙_, subst}
 use mathlib.Core.List.{List, _∷_, _++_}
 use native.Mathlib.Omega.{arith}
 use lib.ListN.{length, replicate}
-use lib.Dec.{leb}
 use borrow.Author.Tests.{lt-ltb, le-ltb}
 use Rattle.answer.specs.declared.Refusal.{Refusal}
 use Rattle.answer.specs.declared.Refusal.the-variants.{BufferTooShort}
 use Rattle.answer.specs.Checks.{Verdict, passed, FirstFailure}
 use Rattle.answer.proofs.Order.{refused-before, passed-before, passed-last, passes-tail}
-use Rattle.theory.specs.Rules.{Morphism, marked, level}
+use Rattle.theory.specs.Rules.{Morphism}
 use Rattle.theory.specs.Pairs.{LinkedOnly}
 use Rattle.formats.specs.Sections.{twoBytes, sectionChecks}
 use Rattle.formats.specs.Table.{morphismAt}
-use Rattle.formats.specs.RuleFile.{elementsOf, morphismOf, pairsOf, markWidth, marksSection}
+use Rattle.formats.specs.RuleFile.{elementsOf, morphismOf, marksIn, markingOf, pairsOf, markWidth, marksSection}
 use Rattle.formats.proofs.Buffers.{buffer-short, buffer-long}
 use Rattle.formats.specs.RuleChecks.{scratchSize, trailingCheck, markChecks, secondMarksChecks}
 use Rattle.rule_layout.specs.declared.Shape.{Shape}
@@ -26,15 +25,14 @@ use Rattle.rule_check.specs.Answers.{CheckPromise}
 use Rattle.formats.specs.Calls.{checkedChecks, afterCall}
 use Rattle.rule_check.proofs.Calls.{zeros-left, checked-length, shape-morphism}
 use Rattle.rule_check.proofs.MarksPassed.{passed-marks, marking-linked}
-use Rattle.scratch.specs.Map.{pairsFrom}
-use Rattle.mark_search.specs.Search.{MarkingAt}
+use Rattle.scratch.specs.Map.{marksFrom, MarkingAt}
 use Rattle.mark_strong.proofs.Calling.{checked-table, checked-lawful, checked-reached, checked-linked, marks-stand, checked-room}
 use Rattle.mark_inclusion.specs.Laying.{SecondLaid, LaidAnswer}
 use Rattle.mark_comparison.specs.Comparison.{CompareNeeds, Answered, answered-included, answered-apart, Compared}
 use Rattle.promises.specs.Inclusion.{InclusionAnswer, startSize, cycleSize, secondPairs, inclusionChecks, inclusionVerdict, inclusionLeft, InclusionPromise}
 use Rattle.promises.specs.declared.Inclusion.{Inclusion}
 use Rattle.promises.specs.declared.Inclusion.the-variants.{Refused}
-use Rattle.mark_inclusion.proofs.Laying.{moved-marks}
+use Rattle.scratch.proofs.Markings.{marking-kept}
 
 module _ (bytes second u v entry : List ℕ) where
   -- a short buffer is refused, and all are left as they came
@@ -113,19 +111,19 @@ module _ (bytes second u v entry : List ℕ) where
                 subst (λ (x : Morphism). LinkedOnly x (secondPairs second)) (sym (shape-morphism (p .scratch .shape-is)))
                 (marking-linked second 0 (passed-marks 2 (twoBytes second 0) (passes-tail rest)))
 
-            second-stands : MarkingAt (shape .elements) (secondPairs second) laid 4096
-            unfolding marked level pairsFrom
-            second-stands = record { same = λ s c hs hc. ap (λ (x : ℕ). leb 1 x) (sym (second-laid .mark s c hs hc)) }
+            second-stands : MarkingAt (shape .elements) (marksIn second 0) laid 4096
+            unfolding marksFrom
+            second-stands = record { same = λ s c hs hc. sym (second-laid .mark s c hs hc) }
 
-            first-stands : MarkingAt (shape .elements) (pairsOf bytes) laid 0
-            first-stands = moved-marks (checked-table 1 bytes entry p .small) (second-laid .before) (marks-stand 1 bytes entry p)
+            first-stands : MarkingAt (shape .elements) (markingOf bytes) laid 0
+            first-stands = marking-kept 0 (checked-table 1 bytes entry p .small) (λ i g h. second-laid .before i h) (marks-stand 1 bytes entry p)
 
             -- the markings are compared
             pub both-compared : {u′ v′ end : List ℕ} {r : Inclusion} → Compared m u u′ v v′ laid end r → InclusionPromise bytes second u u′ v v′ entry end r
             both-compared {u′} {v′} {end} {r} c = record {
               refusal = after-buffers (subst (FirstFailure _) (sym (no-refusal (c .answered))) (passed-before _ _ (p .refusal) second-passed));
               answered = subst (λ (x : Morphism). InclusionAnswer x (pairsOf bytes) (secondPairs second) u u′ v v′ r) (shape-morphism (p .scratch .shape-is))
-                  (c .answers (pairsOf bytes) (secondPairs second) (checked-linked 1 bytes entry p) second-linked first-stands second-stands);
+                  (c .answers (markingOf bytes) (marksIn second 0) (checked-linked 1 bytes entry p) second-linked first-stands second-stands);
               scratch = zeros laid end (second-laid .same-length) (c .scratch);
             }
               where

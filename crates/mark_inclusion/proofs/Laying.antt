@@ -1,14 +1,12 @@
 -- What laying out the second marking shows. Assumes nothing.
 use Prim.Native.Nat.{ℕ, _+_, _*_, _-_, _≤_, _<_}
-use mathlib.Core.Path.{_≡_, sym, ap, _∙_, subst}
+use mathlib.Core.Path.{_≡_, sym, _∙_, subst}
 use mathlib.Core.Logic.{⊎-elim}
 use mathlib.Core.List.{List, _++_}
 use native.Mathlib.Omega.{arith}
 use lib.ListN.{length, getD, take, drop, List·getD-eq-default}
-use lib.Dec.{ltb}
 use borrow.Rule.Slice.PartMut.{putMid, same-len-mid}
 use Rattle.finite.proofs.Numbers.{le-or-lt}
-use Rattle.theory.specs.Rules.{Pairs}
 use Rattle.formats.specs.RuleFile.{marksIn}
 use Rattle.formats.specs.RuleChecks.{scratchSize}
 use Rattle.rule_marks.specs.declared.Fault.{Fault}
@@ -16,8 +14,7 @@ use Rattle.rule_marks.specs.declared.Fault.the-variants.{Nothing, Refused as Fa
 use Rattle.rule_marks.specs.Faults.{MarksLaid}
 use Rattle.rule_second_marks.specs.SecondMarks.{MarksSpace, SecondAnswer}
 use Rattle.sections.specs.Answers.{PartZeroed}
-use Rattle.scratch.specs.Map.{pairsFrom, secondBase, tablesEnd}
-use Rattle.mark_search.specs.Search.{MarkingAt}
+use Rattle.scratch.specs.Map.{secondBase, tablesEnd}
 use Rattle.mark_inclusion.specs.Laying.{SecondLaid, LaidAnswer}
 use Rattle.scratch.proofs.Parts.{part-length, part-byte, before-part, in-part}
 
@@ -78,8 +75,3 @@ module _ {entry scratch : List ℕ} (room : scratchSize ≤ length entry) (z : P
           mark = d .mark;
         }
     laid-answer (Fault-refused refusal place) l = put-length l ∙ z .outside .same-length
-
--- the first marks stand where they stood
-pub moved-marks : {n : ℕ} {P : Pairs} {entry exit : List ℕ} → n ≤ 64 → ((i : ℕ) → i < 4096 → getD exit i 0 ≡ getD entry i 0) → MarkingAt n P entry 0 → MarkingAt n P exit 0
-unfolding pairsFrom
-moved-marks small k t = record { same = λ s e hs he. t .same s e hs he ∙ ap (ltb 0) (sym (k (0 + (s * 64 + e)) (omega arith))) }

@@ -1,43 +1,38 @@
 -- The search at one start value after the other. Assumes nothing.
-use Prim.Native.Nat.{ℕ, _+_, _*_, _≤_, _<_}
-use mathlib.Core.Path.{_≡_, sym, ap, _∙_, subst}
+use Prim.Native.Nat.{ℕ, _+_, _≤_, _<_}
+use mathlib.Core.Path.{_≡_, _∙_, subst}
 use mathlib.Core.Logic.{_⊎_, inl, inr}
 use mathlib.Core.List.{List}
 use native.Mathlib.Omega.{arith}
 use lib.ListN.{getD}
-use lib.Dec.{ltb}
 use Rattle.finite.proofs.Numbers.{below-cases}
-use Rattle.theory.specs.Rules.{Morphism, Pairs}
+use Rattle.theory.specs.Rules.{Morphism, Marking, level}
 use Rattle.theory.proofs.Escapes.{Escapes}
 use Rattle.sections.specs.Answers.{PartZeroed}
-use Rattle.scratch.specs.Map.{pairsFrom, tablesEnd, statesBase, firstPreimagesBase, nextPreimagesBase}
+use Rattle.scratch.specs.Map.{MarkingAt, tablesEnd, statesBase, firstPreimagesBase, nextPreimagesBase}
 use Rattle.scratch.specs.Preimages.{PreimagesRoom, PreimagesListed}
 use Rattle.mark_search_list.specs.Queue.{seenAt, Kept}
-use Rattle.mark_search.specs.Search.{MarkingAt, SearchNeeds, Searched, AllNeeds, EscapeNeeds, Escaped}
+use Rattle.mark_search.specs.Search.{SearchNeeds, Searched, AllNeeds, EscapeNeeds, Escaped}
 use Rattle.mark_search.specs.declared.Ended.{Ended}
 use Rattle.mark_search.specs.declared.Ended.the-variants.{At, Nothing}
 use Rattle.mark_search.specs.declared.Escape.{Escape}
 use Rattle.mark_search.specs.declared.Escape.the-variants.{At as Escape-at, Nothing as No-escape}
+use Rattle.scratch.proofs.Markings.{marking-kept}
 use Rattle.scratch.proofs.Unchanged.{unchanged-none, unchanged-both}
 use Rattle.mark_search_list.proofs.Taking.{preimages-kept}
 
--- a set of pairs that stands in a table in front of the worklist stays there
-pub stands-kept : {n : ℕ} {P : Pairs} {entry exit : List ℕ} (base : ℕ) → n ≤ 64 → base ≤ 4096 → ((i : ℕ) → i < 8192 → getD exit i 0 ≡ getD entry i 0)
-    → MarkingAt n P entry base → MarkingAt n P exit base
-unfolding pairsFrom
-stands-kept base small h k t = record { same = λ s e hs he. t .same s e hs he ∙ ap (ltb 0) (sym (k (base + (s * 64 + e)) (omega arith))) }
-
 -- no cycle escapes at the start values before s
-pub record SearchedTo (m : Morphism) (first second s : ℕ) (entry now : List ℕ) : Type 0 where
+pub record SearchedTo (m : Morphism) (least first second s : ℕ) (entry now : List ℕ) : Type 0 where
   pub kept : Kept entry now
   pub seen : (c : ℕ) → c < 4225 → seenAt now c ≤ s
-  pub none : (P P′ : Pairs) → MarkingAt (m .size) P entry first → MarkingAt (m .size) P′ entry second → (t : ℕ) → t < s → (v : List ℕ) → Escapes m P P′ t v → ⊥
+  pub none : (F S : Marking) → MarkingAt (m .size) F entry first → MarkingAt (m .size) S entry second → (t : ℕ) → t < s → (v : List ℕ)
+      → Escapes m (level least F) (level least S) t v → ⊥
 
-module _ {m : Morphism} {first second : ℕ} {entry : List ℕ} (small : m .size ≤ 64) (place : AllNeeds m first second entry) where
-  pub searched-start : SearchedTo m first second 0 entry entry
-  searched-start = record { kept = unchanged-none tablesEnd firstPreimagesBase entry; seen = place .unseen; none = λ P P′ t t′ u h. absurd (omega arith) }
+module _ {m : Morphism} (least : ℕ) {first second : ℕ} {entry : List ℕ} (small : m .size ≤ 64) (place : AllNeeds m first second entry) where
+  pub searched-start : SearchedTo m least first second 0 entry entry
+  searched-start = record { kept = unchanged-none tablesEnd firstPreimagesBase entry; seen = place .unseen; none = λ F S t t′ u h. absurd (omega arith) }
 
-  module _ {s : ℕ} {now : List ℕ} (k : SearchedTo m first second s entry now) where
+  module _ {s : ℕ} {now : List ℕ} (k : SearchedTo m least first second s entry now) where
     pub next-place : s < m .size → SearchNeeds m first second s now
     next-place h = record {
       lawful = place .lawful;
@@ -49,47 +44,47 @@ module _ {m : Morphism} {first second : ℕ} {entry : List ℕ} (small : m .size
       unseen = k .seen;
     }
 
-    module _ (P P′ : Pairs) (t : MarkingAt (m .size) P entry first) (t′ : MarkingAt (m .size) P′ entry second) where
-      first-stands : MarkingAt (m .size) P now first
-      first-stands = stands-kept first small (place .first-base) (k .kept .before) t
+    module _ (F S : Marking) (t : MarkingAt (m .size) F entry first) (t′ : MarkingAt (m .size) S entry second) where
+      first-stands : MarkingAt (m .size) F now first
+      first-stands = marking-kept first small (λ i g h. k .kept .before i (omega (arith, place .first-base))) t
 
-      second-stands : MarkingAt (m .size) P′ now second
-      second-stands = stands-kept second small (place .second-base) (k .kept .before) t′
+      second-stands : MarkingAt (m .size) S now second
+      second-stands = marking-kept second small (λ i g h. k .kept .before i (omega (arith, place .second-base))) t′
 
     -- the search at s ends at an entry
-    pub escaped-at : {exit : List ℕ} {answer : Ended} {i : ℕ} → s < m .size → Searched m first second s now exit answer → answer ≡ At i
-        → Escaped m first second entry exit (Escape-at s i)
+    pub escaped-at : {exit : List ℕ} {answer : Ended} {i : ℕ} → s < m .size → Searched m least first second s now exit answer → answer ≡ At i
+        → Escaped m least first second entry exit (Escape-at s i)
     escaped-at {exit} {i = i} h r e =
-        let d : Searched m first second s now exit (At i) = subst (Searched m first second s now exit) e r in
+        let d : Searched m least first second s now exit (At i) = subst (Searched m least first second s now exit) e r in
         let w = unchanged-both (k .kept) (d .kept) in
         record {
           same-length = w .same-length;
-          says = λ P P′ t t′. record { start-inside = h; ended = d .ends P P′ (first-stands P P′ t t′) (second-stands P P′ t t′) };
+          says = λ F S t t′. record { start-inside = h; ended = d .ends F S (first-stands F S t t′) (second-stands F S t t′) };
           marks = w .before;
           behind = λ j g. w .after j (omega arith);
         }
 
     -- or it does not
-    pub searched-next : {exit : List ℕ} {answer : Ended} → Searched m first second s now exit answer → answer ≡ Nothing
-        → SearchedTo m first second (s + 1) entry exit
+    pub searched-next : {exit : List ℕ} {answer : Ended} → Searched m least first second s now exit answer → answer ≡ Nothing
+        → SearchedTo m least first second (s + 1) entry exit
     searched-next {exit} r e =
-        let d : Searched m first second s now exit Nothing = subst (Searched m first second s now exit) e r in
+        let d : Searched m least first second s now exit Nothing = subst (Searched m least first second s now exit) e r in
         record {
           kept = unchanged-both (k .kept) (d .kept);
           seen = d .seen;
-          none = λ P P′ t t′ u h v. go P P′ t t′ u v (d .ends P P′ (first-stands P P′ t t′) (second-stands P P′ t t′)) (below-cases (omega arith));
+          none = λ F S t t′ u h v. go F S t t′ u v (d .ends F S (first-stands F S t t′) (second-stands F S t t′)) (below-cases (omega arith));
         }
       where
-        go : (P P′ : Pairs) → MarkingAt (m .size) P entry first → MarkingAt (m .size) P′ entry second → (u : ℕ) (v : List ℕ)
-            → ((w : List ℕ) → Escapes m P P′ s w → ⊥) → (u ≡ s) ⊎ (u < s) → Escapes m P P′ u v → ⊥
-        go P P′ t t′ u v d (inl p) x = d v (subst (λ (y : ℕ). Escapes m P P′ y v) p x)
-        go P P′ t t′ u v d (inr l) x = k .none P P′ t t′ u l v x
+        go : (F S : Marking) → MarkingAt (m .size) F entry first → MarkingAt (m .size) S entry second → (u : ℕ) (v : List ℕ)
+            → ((w : List ℕ) → Escapes m (level least F) (level least S) s w → ⊥) → (u ≡ s) ⊎ (u < s) → Escapes m (level least F) (level least S) u v → ⊥
+        go F S t t′ u v d (inl p) x = d v (subst (λ (y : ℕ). Escapes m (level least F) (level least S) y v) p x)
+        go F S t t′ u v d (inr l) x = k .none F S t t′ u l v x
 
     -- no start value has a cycle that escapes
-    pub escaped-none : m .size ≤ s → Escaped m first second entry now No-escape
+    pub escaped-none : m .size ≤ s → Escaped m least first second entry now No-escape
     escaped-none h = record {
       same-length = k .kept .same-length;
-      says = λ P P′ t t′ u l. k .none P P′ t t′ u (omega arith);
+      says = λ F S t t′ u l. k .none F S t t′ u (omega arith);
       marks = k .kept .before;
       behind = λ j g. k .kept .after j (omega arith);
     }
@@ -112,10 +107,10 @@ module _ {m : Morphism} {first second : ℕ} {entry blank : List ℕ} (small : m
       unseen = λ c h. omega (arith, l .kept .before (49152 + c) (omega arith), z .zeros (49152 + c) (omega arith) (omega arith));
     }
 
-    pub escaped-listed : {exit : List ℕ} {answer : Escape} → Escaped m first second mid exit answer → Escaped m first second entry exit answer
+    pub escaped-listed : {least : ℕ} {exit : List ℕ} {answer : Escape} → Escaped m least first second mid exit answer → Escaped m least first second entry exit answer
     escaped-listed r = record {
       same-length = r .same-length ∙ l .kept .same-length ∙ z .outside .same-length;
-      says = λ P P′ t t′. r .says P P′ (moved first (place .first-base) t) (moved second (place .second-base) t′);
+      says = λ F S t t′. r .says F S (moved first (place .first-base) t) (moved second (place .second-base) t′);
       marks = λ i h. r .marks i h ∙ same i h;
       behind = λ i h. r .behind i h ∙ l .kept .after i h ∙ z .outside .after i (omega arith);
     }
@@ -123,5 +118,5 @@ module _ {m : Morphism} {first second : ℕ} {entry blank : List ℕ} (small : m
         same : (i : ℕ) → i < 8192 → getD mid i 0 ≡ getD entry i 0
         same i h = l .kept .before i (omega arith) ∙ z .outside .before i (omega arith)
 
-        moved : {P : Pairs} (base : ℕ) → base ≤ 4096 → MarkingAt (m .size) P entry base → MarkingAt (m .size) P mid base
-        moved base h t = stands-kept base small h same t
+        moved : {F : Marking} (base : ℕ) → base ≤ 4096 → MarkingAt (m .size) F entry base → MarkingAt (m .size) F mid base
+        moved base h t = marking-kept base small (λ i g l. same i (omega arith)) t

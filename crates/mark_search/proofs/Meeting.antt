@@ -11,17 +11,18 @@ use lib.Dec.{T, ltb}
 use borrow.Author.Tests.{lt-ltb, le-ltb}
 use Rattle.finite.proofs.Numbers.{le-or-lt}
 use Rattle.finite.proofs.Worklist.{Entry, Closed, reached-entry}
-use Rattle.theory.specs.Rules.{Morphism, Lawful, Pairs, Value, none, element, join}
+use Rattle.theory.specs.Rules.{Morphism, Lawful, Marking, level, Value, none, element, join}
 use Rattle.theory.proofs.Values.{element-apart, element-same}
 use Rattle.theory.proofs.Codes.{value-at, value-code, value-code-below, value-at-code}
 use Rattle.theory.proofs.Turns.{turned}
 use Rattle.theory.proofs.Splits.{turn-square}
 use Rattle.theory.proofs.Escapes.{Escapes, State, Begins, Moves, split-state, escapes-reached}
-use Rattle.scratch.specs.Map.{pairsFrom}
+use Rattle.scratch.specs.Map.{marksFrom, MarkingAt}
+use Rattle.scratch.proofs.Markings.{level-at}
 use Rattle.scratch.specs.Preimages.{afterLetter}
 use Rattle.mark_search_list.specs.Queue.{frontAt, backAt, HasState}
 use Rattle.mark_search_list.specs.Steps.{beforeLetter, splitMarked}
-use Rattle.mark_search.specs.Search.{MarkingAt, Source, a-start, a-step, Entries, Tried}
+use Rattle.mark_search.specs.Search.{Source, a-start, a-step, Entries, Tried}
 use Rattle.mark_search_list.proofs.Values.{before-element, before-none, turned-element, turned-none}
 
 -- the state of an entry
@@ -65,26 +66,26 @@ module _ {m : Morphism} (law : Lawful m) where
   turned-below : (x y : ℕ) → x < m .size → turned m (value-at (m .size) y) x < m .size
   turned-below x y h = ⊎-elim (λ l. rw (turned-none m x y l) h) (λ l. rw (turned-element m x y l) (law .closed y x l h)) (le-or-lt (m .size) y)
 
-  -- the pair of a split is one of elements, so any set of pairs that stands in the table says the same of it
-  pub split-inside : {P : Pairs} {scratch : List ℕ} {base s x : ℕ} (y : ℕ) → MarkingAt (m .size) P scratch base → s < m .size → x < m .size
-      → splitMarked m P s x y ≡ splitMarked m (pairsFrom scratch base) s x y
+  -- the pair of a split is one of elements, so any marking that stands in the table says the same of it
+  pub split-inside : (least : ℕ) {F : Marking} {scratch : List ℕ} {base s x : ℕ} (y : ℕ) → MarkingAt (m .size) F scratch base → s < m .size → x < m .size
+      → splitMarked m (level least F) s x y ≡ splitMarked m (level least (marksFrom scratch base)) s x y
   unfolding splitMarked turn-square
-  split-inside {s = s} {x = x} y t hs hx =
-      t .same _ _ (law .closed s x hs hx) (law .closed _ _ (turned-below x y hx) (turned-below x y hx))
+  split-inside least {s = s} {x = x} y t hs hx =
+      level-at least t (law .closed s x hs hx) (law .closed _ _ (turned-below x y hx) (turned-below x y hx))
 
--- the sources under other sets of pairs that stand in the tables
-module _ {m : Morphism} (law : Lawful m) {P P′ : Pairs} {first second s : ℕ} {entry : List ℕ} (hs : s < m .size)
-    (t : MarkingAt (m .size) P entry first) (t′ : MarkingAt (m .size) P′ entry second) where
-  source-as : {scratch : List ℕ} {i : ℕ} → Source m (pairsFrom entry first) (pairsFrom entry second) s scratch i → Source m P P′ s scratch i
-  source-as (a-start f k b) = a-start f (subst T (sym (t .same s _ hs f)) k) b
-  source-as (a-step p l f a b u) = a-step p l f a b (λ k. u (subst T (split-inside law _ t′ hs f) k))
+-- the sources under other markings that stand in the tables
+module _ {m : Morphism} (law : Lawful m) (least : ℕ) {F S : Marking} {first second s : ℕ} {entry : List ℕ} (hs : s < m .size)
+    (t : MarkingAt (m .size) F entry first) (t′ : MarkingAt (m .size) S entry second) where
+  source-as : {scratch : List ℕ} {i : ℕ} → Source m (level least (marksFrom entry first)) (level least (marksFrom entry second)) s scratch i → Source m (level least F) (level least S) s scratch i
+  source-as (a-start f k b) = a-start f (subst T (sym (level-at least t hs f)) k) b
+  source-as (a-step p l f a b u) = a-step p l f a b (λ k. u (subst T (split-inside law least _ t′ hs f) k))
 
-  pub entries-as : {scratch : List ℕ} {count : ℕ} → Entries m (pairsFrom entry first) (pairsFrom entry second) s scratch count → Entries m P P′ s scratch count
+  pub entries-as : {scratch : List ℕ} {count : ℕ} → Entries m (level least (marksFrom entry first)) (level least (marksFrom entry second)) s scratch count → Entries m (level least F) (level least S) s scratch count
   entries-as e = record { queue = e .queue; source = λ i h. source-as (e .source i h) }
 
   -- once every entry was tried, no cycle escapes
-  module _ {scratch : List ℕ} {count : ℕ} (starts : (e : ℕ) → e < m .size → T (pairsFrom entry first s e) → HasState scratch count e (m .size))
-      (tried : (p : ℕ) → p < count → Tried m (pairsFrom entry second) s scratch count p) where
+  module _ {scratch : List ℕ} {count : ℕ} (starts : (e : ℕ) → e < m .size → T (level least (marksFrom entry first) s e) → HasState scratch count e (m .size))
+      (tried : (p : ℕ) → p < count → Tried m (level least (marksFrom entry second)) s scratch count p) where
     abbrev state : ℕ → State
     state = stateAt (m .size) scratch
 
@@ -96,19 +97,19 @@ module _ {m : Morphism} (law : Lawful m) {P P′ : Pairs} {first second s : ℕ}
       same = λ i. split-state ((ap (value-at (m .size)) (h .front) ∙ p) i) ((ap (value-at (m .size)) (h .back) ∙ q) i);
     }
 
-    closed : Closed (Begins m P s) (Moves m P′ s) state count
+    closed : Closed (Begins m (level least F) s) (Moves m (level least S) s) state count
     unfolding stateAt splitMarked
     closed = record {
-      starts = λ x b. has-entry (starts (b .cycle-element) (b .inside) (subst T (t .same s _ hs (b .inside)) (b .is-marked)))
+      starts = λ x b. has-entry (starts (b .cycle-element) (b .inside) (subst T (level-at least t hs (b .inside)) (b .is-marked)))
           (value-at-element (m .size) _ (b .inside) ∙ sym (b .all-front)) (value-at-none (m .size) _ (le-refl (m .size)) ∙ sym (b .no-back));
       steps = λ i a y h g. step i a y h g (tried i h);
     }
       where
-        step : (i a : ℕ) (y : State) → i < count → Moves m P′ s a (stateAt (m .size) scratch i) y → Tried m (pairsFrom entry second) s scratch count i → Entry state count y
+        step : (i a : ℕ) (y : State) → i < count → Moves m (level least S) s a (stateAt (m .size) scratch i) y → Tried m (level least (marksFrom entry second)) s scratch count i → Entry state count y
         step i a y h g k =
             let f : frontAt scratch i ≡ g .front-element = element-same (sym (value-at-element (m .size) _ (k .has-front)) ∙ g .has-front) in
-            let unmarked : T (splitMarked m (pairsFrom entry second) s (frontAt scratch i) (backAt scratch i)) → ⊥ =
-            λ u. g .unmarked (subst T (ap (λ (x : ℕ). splitMarked m P′ s x (backAt scratch i)) f) (subst T (sym (split-inside law _ t′ hs (k .has-front))) u)) in
+            let unmarked : T (splitMarked m (level least (marksFrom entry second)) s (frontAt scratch i) (backAt scratch i)) → ⊥ =
+            λ u. g .unmarked (subst T (ap (λ (x : ℕ). splitMarked m (level least S) s x (backAt scratch i)) f) (subst T (sym (split-inside law least _ t′ hs (k .has-front))) u)) in
             let c = value-code (m .size) (y .front) in
             let below : c ≤ m .size = let e = value-code-below (g .inside) in omega arith in
             let after : afterLetter m a c ≡ frontAt scratch i =
@@ -116,7 +117,7 @@ module _ {m : Morphism} (law : Lawful m) {P P′ : Pairs} {first second s : ℕ}
             has-entry (k .takes unmarked a (g .letter) .holds c below after) (value-at-code (g .inside))
             (value-at-element (m .size) _ (before-below law a _ (g .letter)) ∙ sym (before-join m a _) ∙ sym (g .back-more))
 
-    pub no-escape : (v : List ℕ) → Escapes m P P′ s v → ⊥
+    pub no-escape : (v : List ℕ) → Escapes m (level least F) (level least S) s v → ⊥
     unfolding stateAt
     no-escape v k =
         let e = reached-entry closed (escapes-reached law k) in

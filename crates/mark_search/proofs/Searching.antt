@@ -8,16 +8,17 @@ use native.Mathlib.Omega.{arith}
 use lib.ListN.{length, getD}
 use lib.Dec.{T}
 use Rattle.finite.proofs.Numbers.{below-cases, le-or-lt}
-use Rattle.theory.specs.Rules.{Morphism, Pairs}
-use Rattle.scratch.specs.Map.{tablesEnd, firstPreimagesBase, pairsFrom}
+use Rattle.theory.specs.Rules.{Morphism, Marking, Pairs, level}
+use Rattle.scratch.specs.Map.{tablesEnd, firstPreimagesBase, marksFrom, MarkingAt}
 use Rattle.mark_search_list.specs.Queue.{frontAt, backAt, letterAt, parentAt, Queue, SameEntry, Grown}
 use Rattle.mark_search_list.specs.Steps.{BeginNeeds, Begun, ExpandNeeds, beforeLetter, Takes, splitMarked, Visited}
-use Rattle.mark_search.specs.Search.{MarkingAt, Source, a-start, a-step, Tried, Searching, SearchNeeds, RunNeeds, Searched}
+use Rattle.mark_search.specs.Search.{Source, a-start, a-step, Tried, Searching, SearchNeeds, RunNeeds, Searched}
 use Rattle.mark_search.specs.declared.Ended.{Ended}
 use Rattle.mark_search.specs.declared.Ended.the-variants.{At, Nothing}
+use Rattle.scratch.proofs.Markings.{marking-itself, marking-kept}
 use Rattle.scratch.proofs.Unchanged.{unchanged-none, unchanged-both}
 use Rattle.mark_search_list.proofs.Growth.{grown-trans, state-grown, queue-few}
-use Rattle.mark_search_list.proofs.Beginning.{queue-none, pairs-kept}
+use Rattle.mark_search_list.proofs.Beginning.{queue-none, level-kept}
 use Rattle.mark_search_list.proofs.Taking.{preimages-kept}
 use Rattle.mark_search.proofs.Meeting.{no-escape, split-inside, entries-as}
 use Rattle.formats.specs.RuleChecks.{scratchSize}
@@ -38,19 +39,19 @@ source-grown {m} {P} {P′} {s} {i = i} {entry = entry} {exit = exit} g h (a-ste
         (rw (e .parent, d .back, e .letter, e .back) b) (rw (e .parent, d .front, d .back) u)
 
 -- the marks and the lists stand, and no state was found for s
-module _ {m : Morphism} {first second s : ℕ} {entry : List ℕ} (place : SearchNeeds m first second s entry) where
+pub begin-place : {m : Morphism} {first second s : ℕ} {entry : List ℕ} → SearchNeeds m first second s entry → m .size ≤ 64 → BeginNeeds (m .size) s entry first 0
+begin-place place small = record { queue = queue-none small (place .start-inside) (place .room) (place .unseen); base = place .first-base }
+
+module _ {m : Morphism} (least : ℕ) {first second s : ℕ} {entry : List ℕ} (place : SearchNeeds m first second s entry) where
   abbrev P : Pairs
-  P = pairsFrom entry first
+  P = level least (marksFrom entry first)
 
   abbrev P′ : Pairs
-  P′ = pairsFrom entry second
-
-  pub begin-place : m .size ≤ 64 → BeginNeeds (m .size) s entry first 0
-  begin-place small = record { queue = queue-none small (place .start-inside) (place .room) (place .unseen); base = place .first-base }
+  P′ = level least (marksFrom entry second)
 
   -- the entries that the search begins with
   pub searching-start : {now : List ℕ} {count : ℕ} → Begun (m .size) s P (m .size) entry now count
-      → Searching m (pairsFrom now first) (pairsFrom now second) s now now count 0
+      → Searching m (level least (marksFrom now first)) (level least (marksFrom now second)) s now now count 0
   searching-start {now} {count} b = record {
     grown = record { queue = b .grown .queue; more = omega arith; same = λ i h. omega arith; kept = unchanged-none tablesEnd firstPreimagesBase now };
     preimages = preimages-kept (b .grown .kept) (place .preimages);
@@ -60,17 +61,17 @@ module _ {m : Morphism} {first second s : ℕ} {entry : List ℕ} (place : Searc
     within = omega arith;
   }
     where
-      same-mark : {e : ℕ} → e < m .size → pairsFrom now first s e ≡ P s e
-      same-mark h = pairs-kept first (b .grown .kept) (place .first-base) (omega (arith, b .grown .queue .small, place .start-inside)) (omega (arith, b .grown .queue .small))
+      same-mark : {e : ℕ} → e < m .size → level least (marksFrom now first) s e ≡ P s e
+      same-mark h = level-kept least first (b .grown .kept) (place .first-base) (omega (arith, b .grown .queue .small, place .start-inside)) (omega (arith, b .grown .queue .small))
 
   pub place-begun : {now : List ℕ} {count : ℕ} → Begun (m .size) s P (m .size) entry now count → RunNeeds m first second s
   place-begun b = record { lawful = place .lawful; start-inside = place .start-inside; first-base = place .first-base; second-base = place .second-base }
 
   -- what the entries after the beginning find holds of the marks before it
-  pub searched-begun : {now exit : List ℕ} {count : ℕ} {answer : Ended} → Begun (m .size) s P (m .size) entry now count → Searched m first second s now exit answer
-      → Searched m first second s entry exit answer
+  pub searched-begun : {now exit : List ℕ} {count : ℕ} {answer : Ended} → Begun (m .size) s P (m .size) entry now count → Searched m least first second s now exit answer
+      → Searched m least first second s entry exit answer
   searched-begun {now} b r = record {
-    ends = λ R R′ t t′. r .ends R R′ (moved first (place .first-base) t) (moved second (place .second-base) t′);
+    ends = λ F S t t′. r .ends F S (moved first (place .first-base) t) (moved second (place .second-base) t′);
     kept = unchanged-both (b .grown .kept) (r .kept);
     seen = r .seen;
   }
@@ -78,12 +79,12 @@ module _ {m : Morphism} {first second s : ℕ} {entry : List ℕ} (place : Searc
       small : m .size ≤ 64
       small = b .grown .queue .small
 
-      moved : {Q : Pairs} (base : ℕ) → base ≤ 4096 → MarkingAt (m .size) Q entry base → MarkingAt (m .size) Q now base
-      moved base h t = record { same = λ u e hu he. t .same u e hu he ∙ sym (pairs-kept base (b .grown .kept) h (omega arith) (omega arith)) }
+      moved : {F : Marking} (base : ℕ) → base ≤ 4096 → MarkingAt (m .size) F entry base → MarkingAt (m .size) F now base
+      moved base h t = marking-kept base small (λ i g l. b .grown .kept .before i (omega arith)) t
 
 -- the loop over the entries
-module _ {m : Morphism} {first second s : ℕ} {entry : List ℕ} (place : RunNeeds m first second s) where
-  module _ {now : List ℕ} {count at : ℕ} (k : Searching m (pairsFrom entry first) (pairsFrom entry second) s entry now count at) where
+module _ {m : Morphism} (least : ℕ) {first second s : ℕ} {entry : List ℕ} (place : RunNeeds m first second s) where
+  module _ {now : List ℕ} {count at : ℕ} (k : Searching m (level least (marksFrom entry first)) (level least (marksFrom entry second)) s entry now count at) where
     queue : Queue (m .size) s now count
     queue = k .grown .queue
 
@@ -104,17 +105,15 @@ module _ {m : Morphism} {first second s : ℕ} {entry : List ℕ} (place : RunNe
       has-front = let l = queue .front-inside at h in omega arith;
     }
 
-    same-split : {x : ℕ} (y : ℕ) → x < m .size → splitMarked m (pairsFrom now second) s x y ≡ splitMarked m (pairsFrom entry second) s x y
-    same-split y h = sym (split-inside (place .lawful) y stands (place .start-inside) h)
+    same-split : {x : ℕ} (y : ℕ) → x < m .size → splitMarked m (level least (marksFrom now second)) s x y ≡ splitMarked m (level least (marksFrom entry second)) s x y
+    same-split y h = sym (split-inside (place .lawful) least y stands (place .start-inside) h)
       where
-        stands : MarkingAt (m .size) (pairsFrom entry second) now second
-        stands = record {
-          same = λ u e hu he. sym (pairs-kept second (k .grown .kept) (place .second-base) (omega (arith, queue .small)) (omega (arith, queue .small)));
-        }
+        stands : MarkingAt (m .size) (marksFrom entry second) now second
+        stands = marking-kept second (queue .small) (λ i g l. k .grown .kept .before i (omega (arith, place .second-base))) (marking-itself (m .size) entry second)
 
     -- it was tried
     pub searching-next : {next : List ℕ} {total : ℕ} → at < count → (getD now (8192 + at) 0 ≡ m .size → ⊥)
-        → Visited m (pairsFrom now second) s now count at next total → Searching m (pairsFrom entry first) (pairsFrom entry second) s entry next total (at + 1)
+        → Visited m (level least (marksFrom now second)) s now count at next total → Searching m (level least (marksFrom entry first)) (level least (marksFrom entry second)) s entry next total (at + 1)
     searching-next {next} {total} h f v = record {
       grown = grown-trans (k .grown) g;
       preimages = preimages-kept (g .kept) (k .preimages);
@@ -134,21 +133,21 @@ module _ {m : Morphism} {first second s : ℕ} {entry : List ℕ} (place : RunNe
         same = g .same at h
 
         -- a new entry comes from the one at hand
-        new : (i : ℕ) → i < total → count ≤ i → Source m (pairsFrom entry first) (pairsFrom entry second) s next i
+        new : (i : ℕ) → i < total → count ≤ i → Source m (level least (marksFrom entry first)) (level least (marksFrom entry second)) s next i
         new i l n =
             let p = v .found .parent i n l in
             a-step (rw p (omega arith)) (v .found .letter i n l) (rw (p, same .front) here) (v .found .front i n l ∙ sym (ap (frontAt next) p ∙ same .front))
             (v .found .back i n l ∙ ap (beforeLetter m (letterAt next i)) (sym (ap (backAt next) p ∙ same .back)))
             (rw (p, same .front, same .back) (λ t. v .unmarked i n l (subst T (sym (same-split (backAt now at) here)) t)))
 
-        source : (i : ℕ) → i < total → (count ≤ i) ⊎ (i < count) → Source m (pairsFrom entry first) (pairsFrom entry second) s next i
+        source : (i : ℕ) → i < total → (count ≤ i) ⊎ (i < count) → Source m (level least (marksFrom entry first)) (level least (marksFrom entry second)) s next i
         source i l (inl n) = new i l n
         source i l (inr n) = source-grown g n (k .source i n)
 
         grown-takes : {a x y : ℕ} → Takes m a x y now count → Takes m a x y next total
         grown-takes t = record { holds = λ c l e. state-grown g (t .holds c l e) }
 
-        old : (p : ℕ) → p < at → Tried m (pairsFrom entry second) s next total p
+        old : (p : ℕ) → p < at → Tried m (level least (marksFrom entry second)) s next total p
         old p l =
             let d = g .same p (omega arith) in
             let t = k .tried p l in
@@ -157,20 +156,20 @@ module _ {m : Morphism} {first second s : ℕ} {entry : List ℕ} (place : RunNe
               takes = λ u a q. rw (d .front, d .back) (grown-takes (t .takes (rw (d .front, d .back) at u) a q));
             }
 
-        tried : (p : ℕ) → (p ≡ at) ⊎ (p < at) → Tried m (pairsFrom entry second) s next total p
+        tried : (p : ℕ) → (p ≡ at) ⊎ (p < at) → Tried m (level least (marksFrom entry second)) s next total p
         tried p (inr l) = old p l
-        tried p (inl e) = subst (Tried m (pairsFrom entry second) s next total) (sym e) (record {
+        tried p (inl e) = subst (Tried m (level least (marksFrom entry second)) s next total) (sym e) (record {
           has-front = rw (same .front) here;
           takes = λ u a q. rw (same .front, same .back) (v .takes (λ t. u (rw (same .front, same .back) (subst T (same-split (backAt now at) here) t))) a q);
         })
 
     -- the entry at hand has nothing in front
-    pub searched-ended : at < count → getD now (8192 + at) 0 ≡ m .size → Searched m first second s entry now (At at)
+    pub searched-ended : at < count → getD now (8192 + at) 0 ≡ m .size → Searched m least first second s entry now (At at)
     unfolding frontAt
     searched-ended h e = record {
-      ends = λ R R′ t t′. record {
+      ends = λ F S t t′. record {
         count = count;
-        entries = entries-as (place .lawful) (place .start-inside) t t′ (record { queue = queue; source = k .source });
+        entries = entries-as (place .lawful) least (place .start-inside) t t′ (record { queue = queue; source = k .source });
         below = h;
         no-front = e;
       };
@@ -179,9 +178,9 @@ module _ {m : Morphism} {first second s : ℕ} {entry : List ℕ} (place : RunNe
     }
 
     -- every entry was tried
-    pub searched-none : count ≤ at → Searched m first second s entry now Nothing
+    pub searched-none : count ≤ at → Searched m least first second s entry now Nothing
     searched-none h = record {
-      ends = λ R R′ t t′. no-escape (place .lawful) (place .start-inside) t t′ (k .starts) (λ p l. k .tried p (omega arith));
+      ends = λ F S t t′. no-escape (place .lawful) least (place .start-inside) t t′ (k .starts) (λ p l. k .tried p (omega arith));
       kept = k .grown .kept;
       seen = queue .older;
     }

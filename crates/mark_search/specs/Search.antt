@@ -4,9 +4,9 @@ use mathlib.Core.Path.{_≡_}
 use mathlib.Core.List.{List}
 use lib.ListN.{length, getD}
 use lib.Dec.{T}
-use Rattle.theory.specs.Rules.{Morphism, Lawful, Pairs}
+use Rattle.theory.specs.Rules.{Morphism, Lawful, Marking, Pairs, level}
 use Rattle.theory.proofs.Escapes.{Escapes}
-use Rattle.scratch.specs.Map.{pairsFrom, searchEnd, secondBase, tablesEnd}
+use Rattle.scratch.specs.Map.{MarkingAt, searchEnd, secondBase, tablesEnd}
 use Rattle.scratch.specs.Preimages.{afterLetter, Preimages}
 use Rattle.mark_search_list.specs.Queue.{frontAt, backAt, letterAt, parentAt, seenAt, Queue, HasState, Kept, Grown}
 use Rattle.mark_search_list.specs.Steps.{beforeLetter, Takes, splitMarked}
@@ -15,10 +15,6 @@ use Rattle.mark_search.specs.declared.Escape.the-variants.{At as Escape-
 use Rattle.mark_search.specs.declared.Ended.{Ended}
 use Rattle.mark_search.specs.declared.Ended.the-variants.{At, Nothing}
 use Rattle.formats.specs.RuleChecks.{scratchSize}
-
--- a set of pairs of n elements stands in a table of marks that begins at a byte
-pub record MarkingAt (n : ℕ) (P : Pairs) (scratch : List ℕ) (base : ℕ) : Type 0 where
-  pub same : (s e : ℕ) → s < n → e < n → P s e ≡ pairsFrom scratch base s e
 
 -- where an entry comes from: it is a cycle value that P pairs with s, or it is found from an earlier entry whose split P′ has not
 pub data Source (m : Morphism) (P P′ : Pairs) (s : ℕ) (scratch : List ℕ) (i : ℕ) : Type 0 where
@@ -78,8 +74,9 @@ abbrev pub Ends : Morphism → Pairs → Pairs → ℕ → List ℕ → Ended �
 Ends m P P′ s scratch (At i) = EndedAt m P P′ s scratch i
 Ends m P P′ s scratch Nothing = (v : List ℕ) → Escapes m P P′ s v → ⊥
 
-pub record Searched (m : Morphism) (first second s : ℕ) (entry exit : List ℕ) (answer : Ended) : Type 0 where
-  pub ends : (P P′ : Pairs) → MarkingAt (m .size) P entry first → MarkingAt (m .size) P′ entry second → Ends m P P′ s exit answer
+-- for any markings that stand in the tables, at the least grade
+pub record Searched (m : Morphism) (least first second s : ℕ) (entry exit : List ℕ) (answer : Ended) : Type 0 where
+  pub ends : (F S : Marking) → MarkingAt (m .size) F entry first → MarkingAt (m .size) S entry second → Ends m (level least F) (level least S) s exit answer
   pub kept : Kept entry exit
   pub seen : (c : ℕ) → c < 4225 → seenAt exit c ≤ s + 1
 
@@ -109,9 +106,10 @@ abbrev pub EscapeAnswer : Morphism → Pairs → Pairs → List ℕ → Escape �
 EscapeAnswer m P P′ scratch (Escape-at s i) = EscapedAt m P P′ s scratch i
 EscapeAnswer m P P′ scratch No-escape = (s : ℕ) → s < m .size → (v : List ℕ) → Escapes m P P′ s v → ⊥
 
--- the answer; the tables of marks and the bytes behind the lists of preimages are as they were
-pub record Escaped (m : Morphism) (first second : ℕ) (entry exit : List ℕ) (answer : Escape) : Type 0 where
+-- the answer for any markings that stand in the tables, at the least grade; the tables of marks and the bytes behind the lists of preimages
+-- are as they were
+pub record Escaped (m : Morphism) (least first second : ℕ) (entry exit : List ℕ) (answer : Escape) : Type 0 where
   pub same-length : length exit ≡ length entry
-  pub says : (P P′ : Pairs) → MarkingAt (m .size) P entry first → MarkingAt (m .size) P′ entry second → EscapeAnswer m P P′ exit answer
+  pub says : (F S : Marking) → MarkingAt (m .size) F entry first → MarkingAt (m .size) S entry second → EscapeAnswer m (level least F) (level least S) exit answer
   pub marks : (i : ℕ) → i < tablesEnd → getD exit i 0 ≡ getD entry i 0
   pub behind : (i : ℕ) → searchEnd ≤ i → getD exit i 0 ≡ getD entry i 0

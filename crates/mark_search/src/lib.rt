@@ -1,4 +1,5 @@
-// The search that compares two markings of one table at a start value s (theory/proofs/Escapes). A state is the value in front
+// The search that compares two markings of one table at a least grade and a start value s (theory/proofs/Escapes): a marking has
+// the pairs of that grade or more. A state is the value in front
 // of a split of a cycle and the value behind it. The search begins with each cycle value that the first marking pairs with s, and
 // hands letters over from the front to the back wherever the second marking does not have the split; it ends with an empty front.
 //
@@ -20,7 +21,8 @@ ghost use Rattle.rule_table.specs.Table.{Table};
 ghost use Rattle.formats.specs.Table.{morphismAt};
 ghost use Rattle.theory.proofs.Codes.{value-at};
 ghost use Rattle.theory.proofs.Turns.{turned};
-ghost use Rattle.scratch.specs.Map.{pairsFrom, secondBase};
+ghost use Rattle.theory.specs.Rules.{level};
+ghost use Rattle.scratch.specs.Map.{marksFrom, secondBase};
 ghost use Rattle.mark_search_list.specs.Steps.{ExpandNeeds, splitMarked, Visited};
 ghost use Rattle.mark_search.specs.Search.{SearchNeeds, RunNeeds, Searching, Searched, AllNeeds, EscapeNeeds, Escaped};
 ghost use Rattle.formats.specs.RuleChecks.{scratchSize};
@@ -44,6 +46,7 @@ fn split_marked(
     k: usize,
     scratch: &[u8],
     second: usize,
+    least: u8,
     s: usize,
     x: usize,
     y: usize,
@@ -51,12 +54,12 @@ fn split_marked(
     requires { ⌜ Table (now rule) n k ⌝ }
     requires { ⌜ (s < n) × (x < n) × (y ≤ n) ⌝ }
     requires { ⌜ (second ≤ secondBase) × (scratchSize ≤ length (now scratch)) ⌝ }
-    ensures { λ r. ⌜ r ≡ splitMarked (morphismAt (now (rule .entry)) n k) (pairsFrom (now (scratch .entry)) second) s x y ⌝ }
+    ensures { λ r. ⌜ r ≡ splitMarked (morphismAt (now (rule .entry)) n k) (level least (marksFrom (now (scratch .entry)) second)) s x y ⌝ }
 {
     let turned = turn(rule, n, k, x, y);
     let f = product(rule, n, turned, turned);
     let t = product(rule, n, s, x);
-    0 < scratch[second + (t * 64 + f)]
+    least <= scratch[second + (t * 64 + f)]
 }
 
 // Tries an entry that has an element in front.
@@ -66,6 +69,7 @@ fn visit(
     k: usize,
     scratch: &mut [u8],
     second: usize,
+    least: u8,
     s: usize,
     count: usize,
     from: usize,
@@ -73,11 +77,11 @@ fn visit(
     requires { ⌜ Table (now rule) n k ⌝ }
     requires { ⌜ ExpandNeeds (morphismAt (now rule) n k) s (now scratch) count from ⌝ }
     requires { ⌜ second ≤ secondBase ⌝ }
-    ensures { λ r. ⌜ Visited (morphismAt (now (rule .entry)) n k) (pairsFrom (now (scratch .entry)) second) s (now (scratch .entry)) count from (now (scratch .exit)) r ⌝ }
+    ensures { λ r. ⌜ Visited (morphismAt (now (rule .entry)) n k) (level least (marksFrom (now (scratch .entry)) second)) s (now (scratch .entry)) count from (now (scratch .exit)) r ⌝ }
 {
     let x = scratch[FRONTS_BASE + from] as usize;
     let y = scratch[BACKS_BASE + from] as usize;
-    if split_marked(rule, n, k, scratch, second, s, x, y) {
+    if split_marked(rule, n, k, scratch, second, least, s, x, y) {
         return count;
     }
     expand(rule, n, k, scratch, s, count, from)
@@ -97,13 +101,14 @@ fn run(
     scratch: &mut [u8],
     first: usize,
     second: usize,
+    least: u8,
     s: usize,
     begun: usize,
 ) -> Ended
     requires { ⌜ Table (now rule) n k ⌝ }
     requires { ⌜ RunNeeds (morphismAt (now rule) n k) first second s ⌝ }
-    requires { ⌜ Searching (morphismAt (now rule) n k) (pairsFrom (now scratch) first) (pairsFrom (now scratch) second) s (now scratch) (now scratch) begun 0 ⌝ }
-    ensures { λ r. ⌜ Searched (morphismAt (now (rule .entry)) n k) first second s (now (scratch .entry)) (now (scratch .exit)) r ⌝ }
+    requires { ⌜ Searching (morphismAt (now rule) n k) (level least (marksFrom (now scratch) first)) (level least (marksFrom (now scratch) second)) s (now scratch) (now scratch) begun 0 ⌝ }
+    ensures { λ r. ⌜ Searched (morphismAt (now (rule .entry)) n k) least first second s (now (scratch .entry)) (now (scratch .exit)) r ⌝ }
 {
     let mut count = begun;
     let mut at = 0;
@@ -112,7 +117,7 @@ fn run(
         if x == n {
             return Ended::At(at);
         }
-        count = visit(rule, n, k, scratch, second, s, count, at);
+        count = visit(rule, n, k, scratch, second, least, s, count, at);
         at += 1;
     }
     Ended::Nothing
@@ -126,14 +131,15 @@ fn search_from(
     scratch: &mut [u8],
     first: usize,
     second: usize,
+    least: u8,
     s: usize,
 ) -> Ended
     requires { ⌜ Table (now rule) n k ⌝ }
     requires { ⌜ SearchNeeds (morphismAt (now rule) n k) first second s (now scratch) ⌝ }
-    ensures { λ r. ⌜ Searched (morphismAt (now (rule .entry)) n k) first second s (now (scratch .entry)) (now (scratch .exit)) r ⌝ }
+    ensures { λ r. ⌜ Searched (morphismAt (now (rule .entry)) n k) least first second s (now (scratch .entry)) (now (scratch .exit)) r ⌝ }
 {
-    let begun = begin(scratch, n, s, first);
-    run(rule, n, k, scratch, first, second, s, begun)
+    let begun = begin(scratch, n, s, first, least);
+    run(rule, n, k, scratch, first, second, least, s, begun)
 }
 
 // A start value with a cycle that escapes, and the entry that ended its search.
@@ -150,13 +156,14 @@ fn search_all(
     scratch: &mut [u8],
     first: usize,
     second: usize,
+    least: u8,
 ) -> Escape
     requires { ⌜ Table (now rule) n k ⌝ }
     requires { ⌜ AllNeeds (morphismAt (now rule) n k) first second (now scratch) ⌝ }
-    ensures { λ r. ⌜ Escaped (morphismAt (now (rule .entry)) n k) first second (now (scratch .entry)) (now (scratch .exit)) r ⌝ }
+    ensures { λ r. ⌜ Escaped (morphismAt (now (rule .entry)) n k) least first second (now (scratch .entry)) (now (scratch .exit)) r ⌝ }
 {
     for s in 0..n {
-        match search_from(rule, n, k, scratch, first, second, s) {
+        match search_from(rule, n, k, scratch, first, second, least, s) {
             Ended::At(entry) => {
                 return Escape::At { start: s, entry };
             }
@@ -166,8 +173,8 @@ fn search_all(
     Escape::Nothing
 }
 
-// Compares the marking whose table begins at `first` with the one whose table begins at `second`: a start value with a
-// cycle that the first marking has and the second does not accept after it. It makes blank what it needs blank, and keeps the tables of
+// Compares the marking whose table begins at `first` with the one whose table begins at `second`, both at a least grade: a start value
+// with a cycle that the first marking has and the second does not accept after it. It makes blank what it needs blank, and keeps the tables of
 // marks and the bytes from 61440 on.
 pub fn first_escape(
     rule: &[u8],
@@ -176,12 +183,13 @@ pub fn first_escape(
     scratch: &mut [u8],
     first: usize,
     second: usize,
+    least: u8,
 ) -> Escape
     requires { ⌜ Table (now rule) n k ⌝ }
     requires { ⌜ EscapeNeeds (morphismAt (now rule) n k) first second (now scratch) ⌝ }
-    ensures { λ r. ⌜ Escaped (morphismAt (now (rule .entry)) n k) first second (now (scratch .entry)) (now (scratch .exit)) r ⌝ }
+    ensures { λ r. ⌜ Escaped (morphismAt (now (rule .entry)) n k) least first second (now (scratch .entry)) (now (scratch .exit)) r ⌝ }
 {
     zero_part(scratch, STATES_BASE, NEXT_PREIMAGES_BASE);
     list_preimages(rule, n, k, scratch);
-    search_all(rule, n, k, scratch, first, second)
+    search_all(rule, n, k, scratch, first, second, least)
 }

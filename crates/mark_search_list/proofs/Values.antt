@@ -6,16 +6,16 @@ use mathlib.Core.Logic.{_⊎_, inl, inr}
 use mathlib.Core.List.{List}
 use native.Mathlib.Omega.{arith}
 use lib.ListN.{getD}
-use lib.Dec.{ltb}
+use lib.Dec.{leb}
 use borrow.Author.Tests.{lt-ltb, le-ltb}
 use Rattle.finite.proofs.Numbers.{le-or-lt}
-use Rattle.theory.specs.Rules.{Morphism}
+use Rattle.theory.specs.Rules.{Morphism, level}
 use Rattle.theory.proofs.Codes.{value-at}
 use Rattle.theory.proofs.Turns.{turned}
 use Rattle.theory.proofs.Splits.{turn-square}
 use Rattle.rule_table.specs.Table.{Table, ProductNeeds}
 use Rattle.formats.specs.Table.{productAt, imageAt, morphismAt}
-use Rattle.scratch.specs.Map.{pairsFrom}
+use Rattle.scratch.specs.Map.{marksFrom}
 use Rattle.mark_search_list.specs.Steps.{beforeLetter, splitMarked}
 
 module _ (m : Morphism) where
@@ -69,8 +69,8 @@ module _ (bytes : List ℕ) (n k : ℕ) (table : Table bytes n k) where
       go (inr h) = rw (e ∙ turned-element m x y h) (table .products y x h hx)
       go (inl h) = rw (e ∙ turned-none m x y h) hx
 
-  -- the byte of the split's pair says whether it is marked
-  pub split-byte : (scratch : List ℕ) (second s x y : ℕ) {t f p : ℕ} → t ≡ turned m (value-at n y) x → f ≡ productAt bytes n t t → p ≡ productAt bytes n s x
-      → ltb 0 (getD scratch (second + (p * 64 + f)) 0) ≡ splitMarked m (pairsFrom scratch second) s x y
-  unfolding splitMarked pairsFrom turn-square
-  split-byte scratch second s x y {t} et ef ep = rw (ep, ef, et)
+  -- the byte of the split's pair says whether its mark is the least grade or more
+  pub split-byte : (least : ℕ) (scratch : List ℕ) (second s x y : ℕ) {t f p : ℕ} → t ≡ turned m (value-at n y) x → f ≡ productAt bytes n t t → p ≡ productAt bytes n s x
+      → leb least (getD scratch (second + (p * 64 + f)) 0) ≡ splitMarked m (level least (marksFrom scratch second)) s x y
+  unfolding splitMarked level marksFrom turn-square
+  split-byte least scratch second s x y {t} et ef ep = rw (ep, ef, et)

@@ -59,7 +59,7 @@ pub record BeginNeeds (n s : ℕ) (scratch : List ℕ) (first count : ℕ) : Typ
   pub queue : Queue n s scratch count
   pub base : first ≤ secondBase
 
--- the state (e, none) is an entry where the pair (s, e) is marked, and no other was added
+-- the state (e, none) is an entry where (s, e) is one of P, and no other was added
 pub record BegunWith (n s : ℕ) (P : Pairs) (e : ℕ) (entry : List ℕ) (count : ℕ) (exit : List ℕ) (total : ℕ) : Type 0 where
   pub grown : Grown n s entry count exit total
   pub holds : T (P s e) → HasState exit total e n
@@ -67,7 +67,7 @@ pub record BegunWith (n s : ℕ) (P : Pairs) (e : ℕ) (entry : List ℕ) (count
   pub back : (j : ℕ) → count ≤ j → j < total → backAt exit j ≡ n
   pub is-marked : (j : ℕ) → count ≤ j → j < total → T (P s e)
 
--- the entries are the states (e, none) for the marked pairs (s, e), of the elements e below a number
+-- the entries are the states (e, none) for the pairs (s, e) of P, of the elements e below a number
 pub record Begun (n s : ℕ) (P : Pairs) (below : ℕ) (entry exit : List ℕ) (count : ℕ) : Type 0 where
   pub within : below ≤ n
   pub grown : Grown n s entry 0 exit count

@@ -5,22 +5,21 @@ use mathlib.Core.Bool.{Bool, true, false}
 use mathlib.Core.List.{List}
 use native.Mathlib.Omega.{arith}
 use lib.ListN.{length, getD, replicate}
-use lib.Dec.{leb}
 use Rattle.answer.specs.declared.Refusal.{Refusal}
-use Rattle.theory.specs.Rules.{Morphism, Lawful, AllReached, marked, level}
+use Rattle.theory.specs.Rules.{Morphism, Lawful, AllReached, marked}
 use Rattle.theory.specs.Pairs.{LinkedOnly}
 use Rattle.rule_table.specs.Table.{Table}
 use Rattle.formats.specs.Table.{morphismAt}
-use Rattle.formats.specs.RuleFile.{morphismOf, pairsOf}
+use Rattle.formats.specs.RuleFile.{morphismOf, markingOf, pairsOf}
 use Rattle.rule_layout.specs.declared.Shape.{Shape}
 use Rattle.rule_check.specs.declared.Checked.the-variants.{Rule, Refused as Checked-refused}
 use Rattle.rule_check.specs.Answers.{CheckPromise}
 use Rattle.formats.specs.Calls.{afterCall}
 use Rattle.rule_check.specs.GoodRule.{GoodRule}
 use Rattle.rule_check.proofs.Calls.{scratch-long, called-good, zeros-left, checked-length, shape-morphism, shape-table}
-use Rattle.scratch.specs.Map.{pairsFrom}
+use Rattle.scratch.specs.Map.{marksFrom, MarkingAt}
+use Rattle.scratch.proofs.Markings.{marked-at}
 use Rattle.mark_closure.proofs.Agreement.{linked-agrees}
-use Rattle.mark_search.specs.Search.{MarkingAt}
 use Rattle.mark_strong.specs.Deciding.{DecideNeeds, StrongIf, Decided}
 use Rattle.promises.specs.Strong.{StrongPromise}
 use Rattle.promises.specs.declared.Strength.the-variants.{Strong as Is-strong, Weak, Refused}
@@ -43,11 +42,11 @@ module _ (input : ℕ) (bytes entry : List ℕ) {shape : Shape} {mid : List ℕ}
   checked-linked = subst (λ (m : Morphism). LinkedOnly m (pairsOf bytes)) (sym (shape-morphism (p .scratch .shape-is))) (good .linked)
 
   -- the marks of the file stand at the front of scratch
-  pub marks-stand : MarkingAt (shape .elements) (pairsOf bytes) mid 0
-  unfolding marked level pairsFrom
+  pub marks-stand : MarkingAt (shape .elements) (markingOf bytes) mid 0
+  unfolding marksFrom
   marks-stand = record {
-    same = λ s e hs he. ap (λ (x : ℕ). leb 1 x)
-        (sym (ap (λ (x : ℕ). getD mid x 0) (let z : 0 + (s * 64 + e) ≡ s * 64 + e = omega arith in z) ∙ p .scratch .mark s e (omega (arith, p .scratch .shape-is .elements)) (omega (arith, p .scratch .shape-is .elements))));
+    same = λ s e hs he.
+        sym (ap (λ (x : ℕ). getD mid x 0) (let z : 0 + (s * 64 + e) ≡ s * 64 + e = omega arith in z) ∙ p .scratch .mark s e (omega (arith, p .scratch .shape-is .elements)) (omega (arith, p .scratch .shape-is .elements)));
   }
 
   pub checked-room : scratchSize ≤ length mid
@@ -57,14 +56,14 @@ module _ (input : ℕ) (bytes entry : List ℕ) {shape : Shape} {mid : List ℕ}
   decide-place = record {
     lawful = checked-lawful;
     reached = checked-reached;
-    linked = linked-agrees (morphismAt bytes (shape .elements) (shape .letters)) (pairsOf bytes) (pairsFrom mid 0) (marks-stand .same) checked-linked;
+    linked = linked-agrees (morphismAt bytes (shape .elements) (shape .letters)) (pairsOf bytes) (marked (marksFrom mid 0)) (λ s e hs he. marked-at marks-stand hs he) checked-linked;
     room = checked-room;
   }
 
   module _ {exit : List ℕ} {answer : Bool} (d : Decided (morphismAt bytes (shape .elements) (shape .letters)) mid exit answer) where
     -- the verdict on the file
     pub decided-file : StrongIf (morphismOf bytes) (pairsOf bytes) answer
-    decided-file = subst (λ (m : Morphism). StrongIf m (pairsOf bytes) answer) (shape-morphism (p .scratch .shape-is)) (d .decision (pairsOf bytes) checked-linked marks-stand)
+    decided-file = subst (λ (m : Morphism). StrongIf m (pairsOf bytes) answer) (shape-morphism (p .scratch .shape-is)) (d .decision (markingOf bytes) checked-linked marks-stand)
 
     pub decided-left : (was end : List ℕ) → length was ≡ length exit → end ≡ replicate (length was) 0 → end ≡ afterCall entry
     decided-left was end e z = zeros-left input bytes entry (p .refusal) was end (e ∙ d .same-length ∙ checked-length (p .scratch)) z

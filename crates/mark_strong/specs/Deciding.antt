@@ -4,19 +4,18 @@ use mathlib.Core.Path.{_≡_}
 use mathlib.Core.Bool.{Bool, true, false}
 use mathlib.Core.List.{List}
 use lib.ListN.{length, getD}
-use Rattle.theory.specs.Rules.{Morphism, Lawful, Pairs, AllReached}
+use Rattle.theory.specs.Rules.{Morphism, Lawful, Marking, Pairs, AllReached, marked}
 use Rattle.theory.specs.Acceptance.{Strong}
 use Rattle.theory.specs.Pairs.{LinkedOnly}
 use Rattle.theory.proofs.Closure.{closure-test}
-use Rattle.scratch.specs.Map.{pairsFrom, searchEnd, secondBase}
-use Rattle.mark_search.specs.Search.{MarkingAt}
+use Rattle.scratch.specs.Map.{searchEnd, secondBase, marksFrom, MarkingAt}
 use Rattle.formats.specs.RuleChecks.{scratchSize}
 
 -- the marks of a good rule, whatever stands behind them
 pub record DecideNeeds (m : Morphism) (scratch : List ℕ) : Type 0 where
   pub lawful : Lawful m
   pub reached : AllReached m
-  pub linked : LinkedOnly m (pairsFrom scratch 0)
+  pub linked : LinkedOnly m (marked (marksFrom scratch 0))
   pub room : scratchSize ≤ length scratch
 
 -- yes exactly if strong
@@ -27,7 +26,8 @@ StrongIf m P false = Strong m P → ⊥
 -- the verdict; the marks and the bytes behind those that the search uses are as they were, and the second table holds the closure
 pub record Decided (m : Morphism) (entry exit : List ℕ) (answer : Bool) : Type 0 where
   pub same-length : length exit ≡ length entry
-  pub decision : (P : Pairs) → LinkedOnly m P → MarkingAt (m .size) P entry 0 → StrongIf m P answer
-  pub closure : (P : Pairs) → LinkedOnly m P → MarkingAt (m .size) P entry 0 → MarkingAt (m .size) (closure-test m P) exit secondBase
+  pub decision : (marks : Marking) → LinkedOnly m (marked marks) → MarkingAt (m .size) marks entry 0 → StrongIf m (marked marks) answer
+  pub closure : (marks : Marking) → LinkedOnly m (marked marks) → MarkingAt (m .size) marks entry 0 → (s e : ℕ) → s < m .size → e < m .size
+      → closure-test m (marked marks) s e ≡ marked (marksFrom exit secondBase) s e
   pub marks : (i : ℕ) → i < secondBase → getD exit i 0 ≡ getD entry i 0
   pub behind : (i : ℕ) → searchEnd ≤ i → getD exit i 0 ≡ getD entry i 0

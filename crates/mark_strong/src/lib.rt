@@ -26,7 +26,7 @@ pub fn decide(rule: &[u8], n: usize, k: usize, scratch: &mut [u8]) -> bool
     if closed {
         return true;
     }
-    match first_escape(rule, n, k, scratch, SECOND_BASE, 0) {
+    match first_escape(rule, n, k, scratch, SECOND_BASE, 0, 1) {
         Escape::At { start: _, entry: _ } => false,
         Escape::Nothing => true,
     }

@@ -8,13 +8,12 @@ use native.Mathlib.Omega.{arith}
 use lib.ListN.{length, replicate}
 use lib.Dec.{T}
 use Rattle.answer.specs.declared.Refusal.the-variants.{NotStrong}
-use Rattle.theory.specs.Rules.{Morphism, Lawful, Pairs, element, value, AllReached}
+use Rattle.theory.specs.Rules.{Morphism, Lawful, Marking, Pairs, element, value, AllReached, marked}
 use Rattle.theory.specs.Acceptance.{Accepts, Strong}
 use Rattle.theory.specs.Pairs.{LinkedOnly, LeastExponent}
 use Rattle.theory.proofs.Strength.{settled-start, settled-cycle, settled-linked}
 use Rattle.theory.proofs.Closure.{closure-test, acceptance-passes, strong-acceptance}
-use Rattle.scratch.specs.Map.{pairsFrom}
-use Rattle.mark_search.specs.Search.{MarkingAt}
+use Rattle.scratch.specs.Map.{marksFrom, MarkingAt}
 use Rattle.mark_strong.specs.Deciding.{DecideNeeds, StrongIf, Decided}
 use Rattle.promises.specs.declared.MonitorVerdict.the-variants.{Decided as Is-decided, Refused}
 use Rattle.theory.specs.Words.{Lasso}
@@ -60,29 +59,31 @@ module _ {m : Morphism} {entry : List ℕ} (place : DecideNeeds m entry) {before
   pub judged-weak : {exit : List ℕ} → exit ≡ replicate (length mid) 0 → strong ≡ false → Judges m before since entry exit (Refused NotStrong 1 0)
   judged-weak z e = record {
     zeros = zeros-left z;
-    says = λ P lp t. (subst (StrongIf m P) e (d .decision P lp t), refl);
+    says = λ marks lm t. (subst (StrongIf m (marked marks)) e (d .decision marks lm t), refl);
   }
 
-  module _ {accepted : Bool} {turns : ℕ} (look : accepted ≡ pairsFrom mid 4096 (settled-start m before since) (settled-cycle m since))
+  module _ {accepted : Bool} {turns : ℕ} (look : accepted ≡ marked (marksFrom mid 4096) (settled-start m before since) (settled-cycle m since))
       (settles : LeastExponent m since turns) {exit : List ℕ} (z : exit ≡ replicate (length mid) 0) (e : strong ≡ true) where
-    strong-marks : (P : Pairs) → LinkedOnly m P → MarkingAt (m .size) P entry 0 → Strong m P
-    strong-marks P lp t = subst (StrongIf m P) e (d .decision P lp t)
+    strong-marks : (marks : Marking) → LinkedOnly m (marked marks) → MarkingAt (m .size) marks entry 0 → Strong m (marked marks)
+    strong-marks marks lm t = subst (StrongIf m (marked marks)) e (d .decision marks lm t)
 
     -- the byte is the closure's
-    look-closure : (P : Pairs) → LinkedOnly m P → MarkingAt (m .size) P entry 0 → closure-test m P (settled-start m before since) (settled-cycle m since) ≡ accepted
-    look-closure P lp t =
+    look-closure : (marks : Marking) → LinkedOnly m (marked marks) → MarkingAt (m .size) marks entry 0
+        → closure-test m (marked marks) (settled-start m before since) (settled-cycle m since) ≡ accepted
+    look-closure marks lm t =
         let l = settled-linked (place .lawful) hb hs in
-        d .closure P lp t .same (settled-start m before since) (settled-cycle m since) (l .inside) (l .idempotent .inside) ∙ sym look
+        d .closure marks lm t (settled-start m before since) (settled-cycle m since) (l .inside) (l .idempotent .inside) ∙ sym look
 
     -- so it decides
-    closure-told : (P : Pairs) → LinkedOnly m P → MarkingAt (m .size) P entry 0 → (b : Bool) → accepted ≡ b → LassosDecided m P (element before) since b
-    closure-told P lp t true a =
-        closure-accepts (place .lawful) (place .reached) hb hs lp (strong-marks P lp t) (rw (look-closure P lp t, a) tt)
-    closure-told P lp t false a =
-        closure-rejects (place .lawful) (place .reached) hb hs lp (strong-marks P lp t) (λ h. rw (look-closure P lp t, a) at h)
+    closure-told : (marks : Marking) → LinkedOnly m (marked marks) → MarkingAt (m .size) marks entry 0 → (b : Bool) → accepted ≡ b
+        → LassosDecided m (marked marks) (element before) since b
+    closure-told marks lm t true a =
+        closure-accepts (place .lawful) (place .reached) hb hs lm (strong-marks marks lm t) (rw (look-closure marks lm t, a) tt)
+    closure-told marks lm t false a =
+        closure-rejects (place .lawful) (place .reached) hb hs lm (strong-marks marks lm t) (λ h. rw (look-closure marks lm t, a) at h)
 
     pub judged-decided : Judges m before since entry exit (Is-decided accepted turns)
     judged-decided = record {
       zeros = zeros-left z;
-      says = λ P lp t. (strong-marks P lp t, (closure-told P lp t accepted refl, settles));
+      says = λ marks lm t. (strong-marks marks lm t, (closure-told marks lm t accepted refl, settles));
     }

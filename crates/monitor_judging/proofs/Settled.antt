@@ -6,14 +6,14 @@ use mathlib.Core.List.{List}
 use native.Mathlib.Omega.{arith}
 use lib.Dec.{ltb}
 use lib.ListN.{getD}
-use Rattle.theory.specs.Rules.{Lawful}
+use Rattle.theory.specs.Rules.{Lawful, level, marked}
 use Rattle.theory.specs.Pairs.{LeastPower}
 use Rattle.theory.proofs.IdempotentPowers.{least-power-is, least-power-idempotent}
 use Rattle.theory.proofs.Strength.{settled-start, settled-cycle}
 use Rattle.rule_table.specs.Table.{Table}
 use Rattle.formats.specs.Table.{productAt, morphismAt}
 use Rattle.rule_table.proofs.Facts.{product-below}
-use Rattle.scratch.specs.Map.{pairsFrom}
+use Rattle.scratch.specs.Map.{marksFrom}
 
 -- with the idempotent power that was found
 module _ (bytes : List ℕ) (n k z : ℕ) {e exponent : ℕ} (law : Lawful (morphismAt bytes n k)) (hz : z < n) (found : LeastPower (morphismAt bytes n k) z e exponent) where
@@ -23,9 +23,9 @@ module _ (bytes : List ℕ) (n k z : ℕ) {e exponent : ℕ} (law : Lawful (morp
 
   -- the byte that is read is that of the settled pair
   pub settled-byte : {s : ℕ} (before : ℕ) (scratch : List ℕ) → s ≡ productAt bytes n before e
-      → ltb 0 (getD scratch (4096 + (s * 64 + e)) 0) ≡ pairsFrom scratch 4096 (settled-start (morphismAt bytes n k) before z) (settled-cycle (morphismAt bytes n k) z)
-  unfolding pairsFrom
+      → ltb 0 (getD scratch (4096 + (s * 64 + e)) 0) ≡ marked (marksFrom scratch 4096) (settled-start (morphismAt bytes n k) before z) (settled-cycle (morphismAt bytes n k) z)
+  unfolding marked level marksFrom
   settled-byte before scratch es =
       let settled = least-power-is law hz found .is-power in
-      ap (λ (x : ℕ). pairsFrom scratch 4096 x e) (es ∙ ap (productAt bytes n before) settled)
-      ∙ ap (pairsFrom scratch 4096 (settled-start (morphismAt bytes n k) before z)) settled
+      ap (λ (x : ℕ). marked (marksFrom scratch 4096) x e) (es ∙ ap (productAt bytes n before) settled)
+      ∙ ap (marked (marksFrom scratch 4096) (settled-start (morphismAt bytes n k) before z)) settled

@@ -5,10 +5,10 @@ use mathlib.Core.List.{List}
 use lib.ListN.{length, replicate}
 use Rattle.answer.specs.declared.Refusal.the-variants.{NotStrong}
 use Rattle.answer.specs.Checks.{refused}
-use Rattle.theory.specs.Rules.{Morphism, Pairs, element}
+use Rattle.theory.specs.Rules.{Morphism, Marking, Pairs, marked, element}
 use Rattle.theory.specs.Acceptance.{Strong}
 use Rattle.theory.specs.Pairs.{LinkedOnly, LeastExponent}
-use Rattle.mark_search.specs.Search.{MarkingAt}
+use Rattle.scratch.specs.Map.{MarkingAt}
 use Rattle.promises.specs.declared.MonitorVerdict.{MonitorVerdict}
 use Rattle.promises.specs.declared.MonitorVerdict.the-variants.{Decided, Refused}
 use Rattle.promises.specs.Verdict.{LassosDecided}
@@ -21,4 +21,4 @@ JudgedBy m P before since (Refused refusal input place) = (Strong m P → ⊥) �
 -- what the marks at the front of scratch say, and zeros are left
 pub record Judges (m : Morphism) (before since : ℕ) (entry exit : List ℕ) (answer : MonitorVerdict) : Type 0 where
   pub zeros : exit ≡ replicate (length entry) 0
-  pub says : (P : Pairs) → LinkedOnly m P → MarkingAt (m .size) P entry 0 → JudgedBy m P before since answer
+  pub says : (marks : Marking) → LinkedOnly m (marked marks) → MarkingAt (m .size) marks entry 0 → JudgedBy m (marked marks) before since answer

@@ -9,12 +9,12 @@ use sections::zero;
 ghost use mathlib.Core.Path.{_≡_};
 ghost use Prim.Native.Nat.{_≤_, _<_};
 ghost use lib.ListN.{length};
-ghost use Rattle.theory.specs.Rules.{Lawful};
+ghost use Rattle.theory.specs.Rules.{Lawful, marked};
 ghost use Rattle.theory.specs.Pairs.{LeastExponent};
 ghost use Rattle.theory.proofs.Strength.{settled-start, settled-cycle};
 ghost use Rattle.rule_table.specs.Table.{Table};
 ghost use Rattle.formats.specs.Table.{morphismAt};
-ghost use Rattle.scratch.specs.Map.{pairsFrom, secondBase};
+ghost use Rattle.scratch.specs.Map.{secondBase, marksFrom};
 ghost use Rattle.mark_strong.specs.Deciding.{DecideNeeds};
 ghost use Rattle.monitor_judging.specs.Judges.{Judges};
 ghost use Rattle.formats.specs.RuleChecks.{scratchSize};
@@ -39,7 +39,7 @@ pub fn accepted_values(
     requires { ⌜ Lawful (morphismAt (now rule) n k) ⌝ }
     requires { ⌜ (before < n) × (since < n) ⌝ }
     requires { ⌜ scratchSize ≤ length (now scratch) ⌝ }
-    ensures acceptance { λ r. ⌜ r .accepted ≡ pairsFrom (now (scratch .entry)) secondBase (settled-start (morphismAt (now (rule .entry)) n k) before since) (settled-cycle (morphismAt (now (rule .entry)) n k) since) ⌝ }
+    ensures acceptance { λ r. ⌜ r .accepted ≡ marked (marksFrom (now (scratch .entry)) secondBase) (settled-start (morphismAt (now (rule .entry)) n k) before since) (settled-cycle (morphismAt (now (rule .entry)) n k) since) ⌝ }
     ensures turns { λ r. ⌜ LeastExponent (morphismAt (now (rule .entry)) n k) since (r .turns) ⌝ }
 {
     let power = idempotent_power(rule, n, k, since);

@@ -10,7 +10,7 @@ use Rattle.answer.specs.Checks.{Verdict, refused, FirstFailure}
 use Rattle.answer.proofs.Order.{first-passes, first-fails, none-left, refused-before, passed-before}
 use Rattle.theory.specs.Rules.{Morphism}
 use Rattle.formats.specs.Table.{morphismAt}
-use Rattle.formats.specs.RuleFile.{elementsOf, morphismOf, pairsOf}
+use Rattle.formats.specs.RuleFile.{elementsOf, morphismOf, markingOf, pairsOf}
 use Rattle.rule_layout.specs.declared.Shape.{Shape}
 use Rattle.rule_check.specs.declared.Checked.the-variants.{Rule, Refused as Checked-refused}
 use Rattle.rule_check.specs.Answers.{CheckPromise}
@@ -67,7 +67,7 @@ module _ (bytes : List ℕ) (f : Monitor) (entry : List ℕ) where
           → JudgedBy (morphismOf bytes) (pairsOf bytes) (startElement f) (f .since) answer
       file-says {answer = answer} j =
           subst (λ (m : Morphism). JudgedBy m (pairsOf bytes) (startElement f) (f .since) answer) (shape-morphism (p .scratch .shape-is))
-          (j .says (pairsOf bytes) (checked-linked 1 bytes entry p) (marks-stand 1 bytes entry p))
+          (j .says (markingOf bytes) (checked-linked 1 bytes entry p) (marks-stand 1 bytes entry p))
 
       says : {exit : List ℕ} (answer : MonitorVerdict) → exit ≡ afterCall entry → JudgedBy (morphismOf bytes) (pairsOf bytes) (startElement f) (f .since) answer
           → VerdictPromise bytes f entry exit answer

@@ -6,15 +6,15 @@ use mathlib.Core.Bool.{Bool, true, false}
 use mathlib.Core.List.{List, [], _∷_}
 use native.Mathlib.Omega.{arith}
 use lib.ListN.{length, replicate}
-use Rattle.scratch.specs.Map.{secondBase}
+use Rattle.scratch.specs.Map.{secondBase, marksFrom}
 use Rattle.answer.specs.declared.Refusal.{Refusal}
 use Rattle.answer.specs.declared.Refusal.the-variants.{NotStrong, BufferTooShort}
 use Rattle.answer.proofs.Order.{first-passes, first-fails, none-left, passed-before, refused-before}
-use Rattle.theory.specs.Rules.{Morphism}
+use Rattle.theory.specs.Rules.{Morphism, marked}
 use Rattle.theory.specs.Acceptance.{Strong}
 use Rattle.theory.proofs.Closure.{closure-test}
 use Rattle.formats.specs.Table.{morphismAt}
-use Rattle.formats.specs.RuleFile.{elementsOf, morphismOf, pairsOf}
+use Rattle.formats.specs.RuleFile.{elementsOf, morphismOf, markingOf, pairsOf}
 use Rattle.formats.specs.RuleChecks.{ruleSize}
 use Rattle.formats.proofs.Buffers.{buffer-short, buffer-long}
 use Rattle.rule_layout.specs.declared.Shape.{Shape}
@@ -24,7 +24,6 @@ use Rattle.formats.specs.Calls.{checkedChecks}
 use Rattle.rule_check.specs.GoodRule.{GoodRule}
 use Rattle.rule_check.proofs.Left.{short-left, long-left}
 use Rattle.rule_check.proofs.Calls.{called-good, shape-morphism}
-use Rattle.mark_search.specs.Search.{MarkingAt}
 use Rattle.mark_strong.specs.Deciding.{StrongIf, Decided}
 use Rattle.mark_strong.proofs.Calling.{checked-lawful, checked-reached, checked-linked, checked-room, marks-stand, decided-file, decided-left}
 use Rattle.promises.specs.declared.Reduced.the-variants.{Rule as Is-rule, Refused}
@@ -84,10 +83,11 @@ module _ (bytes out entry : List ℕ) (long : ruleSize ≤ length out) where
       strong : Strong (morphismOf bytes) (pairsOf bytes)
       strong = subst (StrongIf (morphismOf bytes) (pairsOf bytes)) e (decided-file 1 bytes entry p d)
 
-      closure-stands : MarkingAt (elementsOf bytes) (closure-test (morphismOf bytes) (pairsOf bytes)) decided secondBase
+      closure-stands : (s e : ℕ) → s < elementsOf bytes → e < elementsOf bytes
+          → closure-test (morphismOf bytes) (pairsOf bytes) s e ≡ marked (marksFrom decided secondBase) s e
       closure-stands =
-          subst (λ (m : Morphism). MarkingAt (m .size) (closure-test m (pairsOf bytes)) decided secondBase) same
-          (d .closure (pairsOf bytes) (checked-linked 1 bytes entry p) (marks-stand 1 bytes entry p))
+          subst (λ (m : Morphism). (s e : ℕ) → s < m .size → e < m .size → closure-test m (pairsOf bytes) s e ≡ marked (marksFrom decided secondBase) s e) same
+          (d .closure (markingOf bytes) (checked-linked 1 bytes entry p) (marks-stand 1 bytes entry p))
 
       written : ReducedWritten (morphismOf bytes) decided exit out after length-of
       written = subst (λ (m : Morphism). ReducedWritten m decided exit out after length-of) same w

@@ -5,7 +5,7 @@ use mathlib.Core.Path.{_≡_, refl, sym, ap, _∙_}
 use mathlib.Core.List.{List}
 use native.Mathlib.Omega.{arith}
 use lib.Dec.{ltb}
-use Rattle.scratch.specs.Map.{secondBase}
+use Rattle.scratch.specs.Map.{secondBase, marksFrom}
 use Rattle.theory.specs.Rules.{Morphism, Lawful, Rule, AllReached, marked}
 use Rattle.theory.specs.Pairs.{LinkedOnly}
 use Rattle.theory.specs.Acceptance.{RuleStrong}
@@ -20,7 +20,6 @@ use Rattle.reduce_rounds.specs.Rounds.{RoundsSettled}
 use Rattle.scratch.proofs.Unchanged.{unchanged-room}
 use Rattle.reduce_first_round.proofs.OutcomeBytes.{outcome-below, outcome-acceptance}
 use Rattle.reduce_first_round.proofs.Comparing.{same-outcomes-carry}
-use Rattle.mark_search.specs.Search.{MarkingAt}
 use Rattle.reduce_numbering.specs.Steps.{leaderAt}
 use Rattle.formats.specs.FirstWords.{ByFirstWords}
 use Rattle.reduce_numbering.specs.Numbering.{NumberedAs, BlocksNumbered}
@@ -121,11 +120,13 @@ pub record Reduces (r : Rule) (before after : List ℕ) (end : ℕ) : Type 0 whe
 -- a strong rule whose closure stands in the second table of marks
 module _ (r : Rule) (small : r .morphism .size ≤ 64) (letters-some : 1 ≤ r .morphism .letters) (letters-small : r .morphism .letters ≤ 16)
     (reached : AllReached (r .morphism)) (linked : LinkedOnly (r .morphism) (marked (r .marks))) (strong : RuleStrong r)
-    {entry exit before after : List ℕ} {end : ℕ} (stands : MarkingAt (r .morphism .size) (closure-test (r .morphism) (marked (r .marks))) entry secondBase)
+    {entry exit before after : List ℕ} {end : ℕ}
+    (stands : (s e : ℕ) → s < r .morphism .size → e < r .morphism .size
+    → closure-test (r .morphism) (marked (r .marks)) s e ≡ marked (marksFrom entry secondBase) s e)
     (w : ReducedWritten (r .morphism) entry exit before after end) where
   outcomes-agree : (s z : ℕ) → s < r .morphism .size → z < r .morphism .size
       → outcomeOf (r .morphism) entry s z ≡ acceptance (r .morphism) (marked (r .marks)) s z
-  outcomes-agree = outcome-acceptance (r .lawful) small (marked (r .marks)) entry (λ s e hs he. sym (stands .same s e hs he))
+  outcomes-agree = outcome-acceptance (r .lawful) small (marked (r .marks)) entry (λ s e hs he. sym (stands s e hs he))
 
   -- the blocks numbered, with acceptance for the outcome
   abbrev by-acceptance : RuleNumbering r (w .count)

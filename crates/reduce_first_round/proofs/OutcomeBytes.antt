@@ -12,14 +12,14 @@ use lib.Dec.{ltb}
 use lib.ListN.{length, getD, set}
 use lib.Seq.{getD-set-same, getD-set-other}
 use Rattle.finite.proofs.Search.{bit}
-use Rattle.theory.specs.Rules.{Morphism, Lawful, Pairs}
+use Rattle.theory.specs.Rules.{Morphism, Lawful, Pairs, level, marked}
 use Rattle.theory.specs.Pairs.{LeastPower}
 use Rattle.theory.proofs.IdempotentPowers.{least-power-is}
 use Rattle.theory.proofs.Powers.{idempotent-inside}
 use Rattle.theory.proofs.Conjugacy.{semigroup}
 use Rattle.theory.proofs.Strength.{settled-start, settled-cycle}
 use Rattle.theory.proofs.Closure.{closure-test, acceptance}
-use Rattle.scratch.specs.Map.{blocksBase, outcomesBase, pairsFrom, secondBase}
+use Rattle.scratch.specs.Map.{blocksBase, outcomesBase, secondBase, marksFrom}
 use Rattle.reduce_first_round.specs.Map.{outcomeOf, outcomeAt}
 use Rattle.scratch.specs.Bytes.{UnchangedOutside}
 use Rattle.reduce_first_round.specs.Steps.{ColumnWritten, OutcomesWritten}
@@ -28,17 +28,17 @@ use Rattle.formats.specs.RuleChecks.{scratchSize}
 
 -- one look in a table of marks, as a number
 module _ (scratch : List ℕ) (f : ℕ) {s t : ℕ} (e : t ≡ s) where
-  pub look-marked : 0 < getD scratch (secondBase + (t * 64 + f)) 0 → 1 ≡ bit (pairsFrom scratch secondBase s f)
-  unfolding pairsFrom
+  pub look-marked : 0 < getD scratch (secondBase + (t * 64 + f)) 0 → 1 ≡ bit (marked (marksFrom scratch secondBase) s f)
+  unfolding marked level marksFrom
   look-marked h = rw (← e, lt-ltb _ _ h)
 
-  pub look-unmarked : getD scratch (secondBase + (t * 64 + f)) 0 ≤ 0 → 0 ≡ bit (pairsFrom scratch secondBase s f)
-  unfolding pairsFrom
+  pub look-unmarked : getD scratch (secondBase + (t * 64 + f)) 0 ≤ 0 → 0 ≡ bit (marked (marksFrom scratch secondBase) s f)
+  unfolding marked level marksFrom
   look-unmarked h = rw (← e, le-ltb _ _ h)
 
 -- the table of marks is as it was
-pub marks-kept : {to : ℕ} {entry now : List ℕ} (s e : ℕ) → UnchangedOutside outcomesBase to entry now → s < 64 → e < 64 → pairsFrom now secondBase s e ≡ pairsFrom entry secondBase s e
-unfolding pairsFrom
+pub marks-kept : {to : ℕ} {entry now : List ℕ} (s e : ℕ) → UnchangedOutside outcomesBase to entry now → s < 64 → e < 64 → marked (marksFrom now secondBase) s e ≡ marked (marksFrom entry secondBase) s e
+unfolding marked level marksFrom
 marks-kept s e k hs he = ap (ltb 0) (k .before (secondBase + (s * 64 + e)) (omega arith))
 
 -- outcomes stand below the blocks
@@ -63,7 +63,7 @@ module _ {m : Morphism} (law : Lawful m) (small : m .size ≤ 64) where
 
   -- one outcome more of a column
   pub column-more : {z s f exponent found : ℕ} {entry now : List ℕ} → z < m .size → s < m .size → scratchSize ≤ length entry → LeastPower m z f exponent
-      → found ≡ bit (pairsFrom now secondBase (m .product s f) f) → ColumnWritten m z s entry now
+      → found ≡ bit (marked (marksFrom now secondBase) (m .product s f) f) → ColumnWritten m z s entry now
       → ColumnWritten m z (s + 1) entry (set now (outcomesBase + (s * 64 + z)) found)
   unfolding outcomeAt outcomeOf
   column-more {z} {s} {f} {found = found} {entry} {now} hz hs room power is-found w = record {
@@ -75,7 +75,7 @@ module _ {m : Morphism} (law : Lawful m) (small : m .size ≤ 64) where
   }
     where
       right : found ≡ outcomeOf m entry s z
-      right = is-found ∙ ap (λ (e : ℕ). bit (pairsFrom now secondBase (m .product s e) e)) (least-power-is law hz power .is-power) ∙ outcome-kept s z (w .kept) hs hz
+      right = is-found ∙ ap (λ (e : ℕ). bit (marked (marksFrom now secondBase) (m .product s e) e)) (least-power-is law hz power .is-power) ∙ outcome-kept s z (w .kept) hs hz
 
       row : (r : ℕ) → r < s + 1 → Dec (r ≡ s) → outcomeAt (set now (outcomesBase + (s * 64 + z)) found) r z ≡ outcomeOf m entry r z
       row r h (yes e) =
@@ -109,7 +109,7 @@ module _ {m : Morphism} (law : Lawful m) (small : m .size ≤ 64) where
   outcomes-all h w = record { outcomes = λ s y hs l. w .outcomes s y hs (omega arith); kept = w .kept }
 
   -- where the table of marks holds the closure of a marking, the outcomes are its acceptance
-  pub outcome-acceptance : (P : Pairs) (scratch : List ℕ) → ((s e : ℕ) → s < m .size → e < m .size → pairsFrom scratch secondBase s e ≡ closure-test m P s e)
+  pub outcome-acceptance : (P : Pairs) (scratch : List ℕ) → ((s e : ℕ) → s < m .size → e < m .size → marked (marksFrom scratch secondBase) s e ≡ closure-test m P s e)
       → (s z : ℕ) → s < m .size → z < m .size → outcomeOf m scratch s z ≡ acceptance m P s z
   unfolding outcomeOf acceptance
   outcome-acceptance P scratch closed s z hs hz =

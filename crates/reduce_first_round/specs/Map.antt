@@ -9,14 +9,14 @@ use mathlib.Core.Path.{_≡_}
 use mathlib.Core.List.{List}
 use lib.ListN.{getD}
 use Rattle.finite.proofs.Search.{bit}
-use Rattle.theory.specs.Rules.{Morphism}
+use Rattle.theory.specs.Rules.{Morphism, marked}
 use Rattle.theory.proofs.Strength.{settled-start, settled-cycle}
-use Rattle.scratch.specs.Map.{pairsFrom, blocksBase, outcomesBase, secondBase}
+use Rattle.scratch.specs.Map.{blocksBase, outcomesBase, secondBase, marksFrom}
 
 -- what lassos with the values (s, z) come to, by a table of marks from 4096 on: 1 if it has the pair (s·f, f), f the
 -- idempotent power of z, else 0
 unfoldable pub outcomeOf : Morphism → List ℕ → ℕ → ℕ → ℕ
-outcomeOf m scratch s z = bit (pairsFrom scratch secondBase (settled-start m s z) (settled-cycle m z))
+outcomeOf m scratch s z = bit (marked (marksFrom scratch secondBase) (settled-start m s z) (settled-cycle m z))
 
 -- the byte of the outcome of (s, z)
 unfoldable pub outcomeAt : List ℕ → ℕ → ℕ → ℕ

@@ -2,11 +2,11 @@
 --
 -- The marks that the check of a rule leaves stand in front, a byte for each pair (s, e), at s·64 + e. What stands behind them depends on
 -- the call; the code has the same names as constants.
-use Prim.Native.Nat.{ℕ, _+_, _*_}
+use Prim.Native.Nat.{ℕ, _+_, _*_, _<_}
+use mathlib.Core.Path.{_≡_}
 use mathlib.Core.List.{List}
 use lib.ListN.{getD}
-use lib.Dec.{ltb}
-use Rattle.theory.specs.Rules.{Pairs}
+use Rattle.theory.specs.Rules.{Marking}
 
 -- the bytes that a table of marks takes: one for each pair of up to 64 elements
 abbrev pub markTableSize : ℕ
@@ -112,6 +112,10 @@ laidMarksBase = 24576
 abbrev pub laidEnd : ℕ
 laidEnd = 28672
 
--- the pairs that a table of marks has, which begins at a byte: those whose byte is not 0
-unfoldable pub pairsFrom : List ℕ → ℕ → Pairs
-pairsFrom bytes base s e = ltb 0 (getD bytes (base + (s * 64 + e)) 0)
+-- the marks of a table of marks, which begins at a byte
+unfoldable pub marksFrom : List ℕ → ℕ → Marking
+marksFrom bytes base s e = getD bytes (base + (s * 64 + e)) 0
+
+-- a marking of n elements stands in the table of marks that begins at a byte
+pub record MarkingAt (n : ℕ) (marks : Marking) (bytes : List ℕ) (base : ℕ) : Type 0 where
+  pub same : (s e : ℕ) → s < n → e < n → marks s e ≡ marksFrom bytes base s e

@@ -38,7 +38,7 @@ shared-slice-read-result : tie.Need-shared-slice-read-result
 shared-slice-read-result c = omega (arith, start-below (c .before), square-below (c .before), c .before .before .before .before .before .before .pre .0 .small, c .before .before .before .before .before .before .pre .1 .1 .0, c .before .before .before .before .before .before .pre .1 .1 .1)
 
 returns : tie.Need-returns
-returns c = split-byte _ _ _ (c .before .before .before .before .before .before .pre .0) _ _ _ _ _ (c .before .before .before .turn .ensures) (c .before .before .product .ensures) (c .before .product2 .ensures)
+returns c = split-byte _ _ _ (c .before .before .before .before .before .before .pre .0) _ _ _ _ _ _ (c .before .before .before .turn .ensures) (c .before .before .product .ensures) (c .before .product2 .ensures)
 
 pub split-marked-spec : {M : Type 1} → statement M
 split-marked-spec =

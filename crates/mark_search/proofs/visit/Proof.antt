@@ -2,7 +2,8 @@
 use native.Mathlib.Omega.{arith}
 use mir.Facts.{fits-8-64}
 use borrow.Author.Needs.{needs}
-use Rattle.scratch.specs.Map.{pairsFrom}
+use Rattle.theory.specs.Rules.{level}
+use Rattle.scratch.specs.Map.{marksFrom}
 use Rattle.mark_search_list.specs.Queue.{frontAt, backAt}
 use Rattle.mark_search_list.proofs.Growth.{queue-few}
 use Rattle.mark_search.proofs.Visiting.{visited-stop, visited-on}
@@ -35,7 +36,7 @@ same-length : tie.Need-same-length
 same-length c = search needs
 
 returns : tie.Need-returns
-returns c = visited-stop (pairsFrom _ _) (c .before .before .before .before .before .before .before .pre .1 .0) (c .before .split-marked .ensures) (c .if1 .taken)
+returns c = visited-stop (level _ (marksFrom _ _)) (c .before .before .before .before .before .before .before .pre .1 .0) (c .before .split-marked .ensures) (c .if1 .taken)
 
 expand-requires : tie.Need-expand-requires
 expand-requires c κs = (c .before .before .before .before .before .before .before .before .pre .0, c .before .before .before .before .before .before .before .before .pre .1 .0)
@@ -44,7 +45,7 @@ same-length-2 : tie.Need-same-length-2
 same-length-2 c = c .before .before .expand .ensures .found .grown .kept .same-length
 
 returns-2 : tie.Need-returns-2
-returns-2 c = visited-on (pairsFrom _ _) (c .before .before .before .before .before .before .before .before .before .before .before .pre .1 .0) (c .before .before .before .before .before .split-marked .ensures) (c .before .before .before .before .if1 .left) (c .before .before .expand .ensures)
+returns-2 c = visited-on (level _ (marksFrom _ _)) (c .before .before .before .before .before .before .before .before .before .before .before .pre .1 .0) (c .before .before .before .before .before .split-marked .ensures) (c .before .before .before .before .if1 .left) (c .before .before .expand .ensures)
 
 pub visit-spec : {M : Type 1} → statement M
 visit-spec =

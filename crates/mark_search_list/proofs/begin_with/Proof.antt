@@ -1,4 +1,4 @@
--- An unmarked pair adds nothing; a marked one adds its state. Assumes nothing.
+-- A pair below the least grade adds nothing; any other adds its state. Assumes nothing.
 use borrow.Author.Needs.{needs}
 use Rattle.mark_search_list.proofs.Beginning.{not-begun, begun-with}
 use Rattle.mark_search_list.proofs.begin_with.Statement.{statement}
@@ -23,10 +23,10 @@ same-length : tie.Need-same-length
 same-length c = search needs
 
 returns : tie.Need-returns
-returns c = begun-with (c .before .before .before .before .before .before .before .pre .0) (c .before .before .before .before .before .before .before .pre .1) (c .before .before .before .before .if1 .taken) (c .before .before .add .ensures)
+returns c = begun-with _ (c .before .before .before .before .before .before .before .pre .0) (c .before .before .before .before .before .before .before .pre .1) (c .before .before .before .before .if1 .taken) (c .before .before .add .ensures)
 
 returns-2 : tie.Need-returns-2
-returns-2 c = not-begun (c .before .before .before .pre .0) (c .before .before .before .pre .1) (c .if1 .left)
+returns-2 c = not-begun _ (c .before .before .before .pre .0) (c .before .before .before .pre .1) (c .if1 .left)
 
 pub begin-with-spec : {M : Type 1} → statement M
 begin-with-spec =
