@@ -1,19 +1,25 @@
 -- Only pairs of elements count: sets of pairs that agree on the elements accept the same lassos, are both linked and strong or
--- neither, and have the same closure. Assumes nothing.
-use Prim.Native.Nat.{ℕ, _<_}
+-- neither, and have the same closure, and markings that agree there have the same closure. Assumes nothing.
+use Prim.Native.Nat.{ℕ, _≤_, _<_}
 use mathlib.Core.Path.{_≡_, sym, _∙_, subst}
-use mathlib.Core.Logic.{_↔_}
+use mathlib.Core.Logic.{_↔_, _⊎_, inl, inr}
 use mathlib.Core.List.{List}
+use native.Mathlib.Omega.{arith}
+use native.Mathlib.Nat.{le-trans}
 use lib.Dec.{T}
+use Rattle.finite.proofs.Numbers.{le-or-lt}
 use Rattle.finite.proofs.Tests.{tests-equal}
-use Rattle.theory.specs.Rules.{Morphism, Lawful, Pairs, marked}
+use Rattle.theory.specs.Rules.{Morphism, Lawful, Marking, Pairs, level}
 use Rattle.theory.specs.Acceptance.{Accepts, Strong}
 use Rattle.theory.specs.Pairs.{LinkedOnly}
 use Rattle.theory.proofs.Values.{inside-of}
 use Rattle.theory.proofs.Strength.{Closed, all-strong}
 use Rattle.theory.proofs.Closure.{closure-test, closure-intro, closure-elim}
 use Rattle.theory.proofs.Included.{marked-accepted}
-use Rattle.scratch.specs.Map.{marksFrom}
+use Rattle.theory.proofs.Gradings.{GradedMarks, level-up, level-down, level-linked}
+use Rattle.theory.proofs.ClosureGrades.{closure-grade, closure-grade-small, closure-level, closure-grade-is}
+use Rattle.scratch.specs.Map.{marksFrom, MarkingAt}
+use Rattle.scratch.proofs.Markings.{level-same}
 use Rattle.mark_closure.specs.Closure.{ClosureLaid, ClosedMarks}
 
 -- the sets agree on the elements
@@ -69,15 +75,39 @@ module _ {m : Morphism} (law : Lawful m) (P Q : Pairs) (same : SameOn m P Q) whe
       (λ t. closure-intro (closed-agrees m P Q same (closure-elim law linked s e t)))
       (λ t. closure-intro (closed-agrees m Q P (same-back m P Q same) (closure-elim law (linked-agrees m P Q same linked) s e t)))
 
--- the closure that was laid out is that of the rule's marks
-pub laid-closure : {m : Morphism} {entry exit : List ℕ} → Lawful m → (P : Pairs) → LinkedOnly m P → SameOn m P (marked (marksFrom entry 0)) → ClosureLaid m entry exit
-    → SameOn m (marked (marksFrom exit 4096)) (closure-test m P)
-laid-closure {entry = entry} law P linked same l s e hs he =
-    l .closure s e hs he ∙ sym (closure-agrees law P (marked (marksFrom entry 0)) same linked s e)
+-- markings that agree on the elements
+module _ {m : Morphism} (law : Lawful m) (F G : Marking) (same : (s e : ℕ) → s < m .size → e < m .size → F s e ≡ G s e) where
+  level-agrees : (g : ℕ) → SameOn m (level g F) (level g G)
+  level-agrees g s e hs he = level-same g F G (same s e hs he)
 
--- closed marks are strong
-pub closed-strong : {m : Morphism} {P : Pairs} → Lawful m → LinkedOnly m P → ClosedMarks m P → Strong m P
-closed-strong law linked k = all-strong law linked (record {
-  accepted = λ {s} {e} c ou ov eu ev.
-      marked-accepted ou ov eu ev (k .closed s e (c .conjugate .left-linked .inside) (c .conjugate .left-linked .idempotent .inside) (closure-intro c));
+  pub graded-agrees : GradedMarks m F → GradedMarks m G
+  graded-agrees k = record {
+    small = λ s e hs he. subst (λ (x : ℕ). x ≤ 3) (same s e hs he) (k .small s e hs he);
+    linked = linked-agrees m (level 1 F) (level 1 G) (level-agrees 1) (k .linked);
+  }
+
+  pub closure-grade-agrees : GradedMarks m F → (s e : ℕ) → closure-grade m F s e ≡ closure-grade m G s e
+  closure-grade-agrees k s e = closure-grade-is law k s e (closure-grade-small m G s e) (λ g some h.
+      (let q = closure-agrees law (level g F) (level g G) (level-agrees g) (level-linked law k some) s e in
+      let c = closure-level law (graded-agrees k) g s e some h in
+      (λ t. c .0 (subst T q t), λ l. subst T (sym q) (c .1 l))))
+
+-- the closure that was laid out is that of the rule's marks
+pub laid-closure : {m : Morphism} {entry exit : List ℕ} → Lawful m → (marks : Marking) → GradedMarks m marks → MarkingAt (m .size) marks entry 0 → ClosureLaid m entry exit
+    → MarkingAt (m .size) (closure-grade m marks) exit 4096
+laid-closure {entry = entry} law marks k t l = record {
+  same = λ s e hs he. closure-grade-agrees law marks (marksFrom entry 0) (t .same) k s e ∙ l .closure .same s e hs he;
+}
+
+-- closed marks are strong at every level
+pub closed-strong : {m : Morphism} {marks : Marking} → Lawful m → GradedMarks m marks → ClosedMarks m marks → (g : ℕ) → 1 ≤ g → Strong m (level g marks)
+closed-strong {m} {marks} law k c g some = all-strong law (level-linked law k some) (record {
+  accepted = λ {s} {e} d ou ov eu ev. marked-accepted ou ov eu ev (level-up marks g s e (no-higher s e d (le-or-lt g 3)));
 })
+  where
+    no-higher : (s e : ℕ) → Closed m (level g marks) s e → (g ≤ 3) ⊎ (3 < g) → g ≤ marks s e
+    no-higher s e d (inl h) =
+        le-trans (closure-level law k g s e some h .0 (closure-intro d)) (c .closed s e (d .conjugate .left-linked .inside) (d .conjugate .left-linked .idempotent .inside))
+    no-higher s e d (inr h) =
+        let t = d .conjugate .right-linked in
+        absurd (omega (arith, level-down marks g (d .to-start) (d .to-cycle) (d .is-marked), k .small (d .to-start) (d .to-cycle) (t .inside) (t .idempotent .inside)))

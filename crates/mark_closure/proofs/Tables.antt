@@ -3,13 +3,12 @@ use Prim.Native.Nat.{ℕ, _+_, _*_, _≤_, _<_}
 use mathlib.Core.Path.{_≡_, refl, ap, _∙_}
 use mathlib.Core.List.{List}
 use native.Mathlib.Omega.{arith}
-use native.Mathlib.Nat.{zero-add}
 use lib.ListN.{getD}
 use lib.Dec.{T, ltb}
 use mir.Facts.{ltb-yes, yes-ltb}
 use Rattle.theory.specs.Rules.{level, marked}
 use Rattle.scratch.specs.Map.{marksFrom}
-use Rattle.mark_closure.specs.Closing.{place, Kept}
+use Rattle.mark_closure.specs.Closing.{place, firstTable, Kept}
 
 -- a place tells the pair
 pub place-same : (s e s′ e′ : ℕ) → e < 64 → e′ < 64 → place s e ≡ place s′ e′ → (s ≡ s′) × (e ≡ e′)
@@ -24,12 +23,10 @@ pub pair-byte : (bytes : List ℕ) (base s e : ℕ) → T (marked (marksFrom byt
 unfolding marked level marksFrom
 pair-byte bytes base s e t = ltb-yes t
 
--- the same of the first table, whose places are counted from 0
-pub first-in : (bytes : List ℕ) (s e : ℕ) → 0 < getD bytes (s * 64 + e) 0 → T (marked (marksFrom bytes 0) s e)
-first-in bytes s e h = pair-in bytes 0 s e (rw zero-add h)
-
-pub first-byte : (bytes : List ℕ) (s e : ℕ) → T (marked (marksFrom bytes 0) s e) → 0 < getD bytes (s * 64 + e) 0
-first-byte bytes s e t = rw zero-add at (pair-byte bytes 0 s e t)
+-- the places of the first table are counted from 0
+pub first-marks : (bytes : List ℕ) (s e : ℕ) → firstTable bytes s e ≡ marksFrom bytes 0 s e
+unfolding marksFrom
+first-marks bytes s e = ap (λ (i : ℕ). getD bytes i 0) (let z : s * 64 + e ≡ 0 + (s * 64 + e) = omega arith in z)
 
 -- a byte that is as it was says what it said
 pub pair-kept : (now next : List ℕ) (base s e : ℕ) → getD next (base + (s * 64 + e)) 0 ≡ getD now (base + (s * 64 + e)) 0
@@ -52,5 +49,5 @@ module _ {n : ℕ} {entry exit : List ℕ} (small : n ≤ 64) (k : Kept n entry 
   kept-after i h = k .kept i (λ s e hs he q. omega arith)
 
   -- the first table is as it was
-  pub kept-first : (s e : ℕ) → s < n → e < n → marked (marksFrom exit 0) s e ≡ marked (marksFrom entry 0) s e
-  kept-first s e hs he = pair-kept entry exit 0 s e (kept-before (0 + (s * 64 + e)) (omega arith))
+  pub kept-first : (s e : ℕ) → s < n → e < n → firstTable exit s e ≡ firstTable entry s e
+  kept-first s e hs he = kept-before (s * 64 + e) (omega arith)

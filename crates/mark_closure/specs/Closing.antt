@@ -4,11 +4,11 @@ use Prim.Native.Nat.{ℕ, _+_, _*_, _≤_, _<_}
 use mathlib.Core.Path.{_≡_}
 use mathlib.Core.Bool.{Bool, true, false}
 use mathlib.Core.List.{List}
+use native.Mathlib.Nat.{le-refl, le-trans}
 use lib.ListN.{length, getD}
-use Rattle.finite.proofs.Count.{bit}
-use Rattle.theory.specs.Rules.{Morphism, Marking, Pairs, marked}
+use Rattle.theory.specs.Rules.{Morphism, Marking}
 use Rattle.theory.proofs.BestConjugates.{Ranking, Better, BestSoFar, ColumnBettered}
-use Rattle.scratch.specs.Map.{secondBase, tablesEnd, marksFrom}
+use Rattle.scratch.specs.Map.{secondBase, tablesEnd}
 
 -- the byte of (s, e) in the second table
 abbrev pub place : ℕ → ℕ → ℕ
@@ -19,55 +19,52 @@ pub record Kept (n : ℕ) (entry exit : List ℕ) : Type 0 where
   pub same-length : length exit ≡ length entry
   pub kept : (i : ℕ) → ((s e : ℕ) → s < n → e < n → i ≡ place s e → ⊥) → getD exit i 0 ≡ getD entry i 0
 
--- the second table
+-- the first table, and the second
+abbrev pub firstTable : List ℕ → Marking
+firstTable bytes s e = getD bytes (s * 64 + e) 0
+
 abbrev pub secondTable : List ℕ → Marking
 secondTable bytes s e = getD bytes (place s e) 0
 
--- 1 for a pair of the set
-abbrev pub markBit : Pairs → Marking
-markBit P s e = bit (P s e)
-
--- any byte that is not 0 is best; a pair with no conjugate in the set has 0
-abbrev pub anyMark : Ranking
-anyMark = record {
-  no-worse = λ a b. 0 < b → 0 < a;
-  reflexive = λ a h. h;
-  transitive = λ a b c p q h. p (q h);
+-- the highest mark is best; a pair with no conjugate has 0
+abbrev pub highestMark : Ranking
+highestMark = record {
+  no-worse = λ a b. b ≤ a;
+  reflexive = λ a. le-refl a;
+  transitive = λ a b c p q. le-trans q p;
   without = λ s e byte. byte ≡ 0;
 }
 
--- the second table has the pairs that the factors tried so far take to a pair of the first
+-- the second table has the highest marks that the factors tried so far take its pairs to
 pub record ClosedSoFar (m : Morphism) (count : ℕ) (bytes : List ℕ) : Type 0 where
   pub room : tablesEnd ≤ length bytes
-  pub pairs : BestSoFar m anyMark (markBit (marked (marksFrom bytes 0))) count (secondTable bytes)
+  pub marks : BestSoFar m highestMark (firstTable bytes) count (secondTable bytes)
 
 -- the second table after factors were tried, and nothing else changed
 pub record Advanced (m : Morphism) (count : ℕ) (entry exit : List ℕ) : Type 0 where
   pub so-far : ClosedSoFar m count exit
   pub kept : Kept (m .size) entry exit
 
--- the byte of (s, e) after the factors x, y with e = x·y and f = y·x: not 0 where the old byte is not, or where s·e = s and P
--- has (s·x, f)
-abbrev pub ByteAfter : Morphism → Pairs → ℕ → ℕ → ℕ → ℕ → ℕ → ℕ → Type 0
-ByteAfter m P x e f s old byte = Better m anyMark (markBit P) x e f s old byte
+-- the byte of (s, e) after the factors x, y with e = x·y and f = y·x: the higher of the old byte and, where s·e = s, the mark of (s·x, f)
+abbrev pub ByteAfter : Morphism → Marking → ℕ → ℕ → ℕ → ℕ → ℕ → ℕ → Type 0
+ByteAfter m marks x e f s old byte = Better m highestMark marks x e f s old byte
 
 -- the bytes of (s, e) for the first elements s have changed so, and every other byte is as it was
 pub record ColumnClosed (m : Morphism) (x e f rows : ℕ) (entry exit : List ℕ) : Type 0 where
   pub kept : Kept (m .size) entry exit
-  pub column : ColumnBettered m anyMark (markBit (marked (marksFrom entry 0))) x e f rows (secondTable entry) (secondTable exit)
+  pub column : ColumnBettered m highestMark (firstTable entry) x e f rows (secondTable entry) (secondTable exit)
 
--- of the first bytes of the second table, each that is not 0 has its fellow in the first table not 0
+-- of the first bytes of the second table, none is higher than its fellow in the first table
 pub record SecondInFirst (bytes : List ℕ) (count : ℕ) : Type 0 where
-  pub both : (i : ℕ) → i < count → 0 < getD bytes (secondBase + i) 0 → 0 < getD bytes i 0
+  pub both : (i : ℕ) → i < count → getD bytes (secondBase + i) 0 ≤ getD bytes i 0
 
--- one that is not 0, whose fellow is 0
+-- one that is higher
 pub record SecondOnly (bytes : List ℕ) (count : ℕ) : Type 0 where
   pub at : ℕ
   pub below : at < count
-  pub second : 0 < getD bytes (secondBase + at) 0
-  pub not-first : getD bytes at 0 ≡ 0
+  pub higher : getD bytes at 0 < getD bytes (secondBase + at) 0
 
--- whether the first bytes of the second table are 0 wherever those of the first are
+-- whether no byte among the first of the second table is higher than its fellow
 abbrev pub WithinAnswer : List ℕ → ℕ → Bool → Type 0
 WithinAnswer bytes count true = SecondInFirst bytes count
 WithinAnswer bytes count false = SecondOnly bytes count

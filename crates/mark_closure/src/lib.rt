@@ -1,17 +1,17 @@
-// The closure of a rule's marks under conjugacy, laid out in scratch as a second table of marks behind the first. One pass over
-// the factors x, y finds it: x·y = e and y·x = f make (s, e) conjugate to (s·x, f) for each s with s·e = s.
+// The closure of a rule's marks under conjugacy, laid out in scratch as a second table of marks behind the first: the highest mark of each
+// pair's conjugates. One pass over the factors x, y finds it: x·y = e and y·x = f make (s, e) conjugate to (s·x, f) for each s with s·e = s.
 use rule_table::product;
 use scratch::SECOND_BASE;
 ghost use Prim.Native.Nat.{_+_, _*_, _≤_, _<_};
 ghost use lib.ListN.{length, getD};
-ghost use Rattle.theory.specs.Rules.{Lawful, marked};
+ghost use Rattle.theory.specs.Rules.{Lawful};
 ghost use Rattle.rule_table.specs.Table.{Table};
 ghost use Rattle.formats.specs.Table.{morphismAt};
-ghost use Rattle.scratch.specs.Map.{markTableSize, tablesEnd, marksFrom};
+ghost use Rattle.scratch.specs.Map.{markTableSize, tablesEnd};
 ghost use Rattle.mark_closure.specs.Closure.{ClosureRoom, ClosureAnswer};
-ghost use Rattle.mark_closure.specs.Closing.{place, ClosedSoFar, Advanced, ByteAfter, ColumnClosed, WithinAnswer};
+ghost use Rattle.mark_closure.specs.Closing.{place, firstTable, ClosedSoFar, Advanced, ByteAfter, ColumnClosed, WithinAnswer};
 
-// The byte of (s, e) in the second table: 1 where s·e = s and (s·x, f) is marked, else the byte that is there.
+// The byte of (s, e) in the second table: the mark of (s·x, f) where s·e = s and it is higher, else the byte that is there.
 fn byte_after(
     rule: &[u8],
     n: usize,
@@ -25,7 +25,7 @@ fn byte_after(
     requires { ⌜ Table (now rule) n k ⌝ }
     requires { ⌜ tablesEnd ≤ length (now scratch) ⌝ }
     requires { ⌜ (x < n) × (e < n) × (f < n) × (s < n) ⌝ }
-    ensures { λ r. ⌜ ByteAfter (morphismAt (now (rule .entry)) n k) (marked (marksFrom (now (scratch .entry)) 0)) x e f s (getD (now (scratch .entry)) (place s e) 0) r ⌝ }
+    ensures { λ r. ⌜ ByteAfter (morphismAt (now (rule .entry)) n k) (firstTable (now (scratch .entry))) x e f s (getD (now (scratch .entry)) (place s e) 0) r ⌝ }
 {
     let old = scratch[SECOND_BASE + (s * 64 + e)];
     let kept = product(rule, n, s, e);
@@ -33,13 +33,14 @@ fn byte_after(
         return old;
     }
     let t = product(rule, n, s, x);
-    if scratch[t * 64 + f] == 0 {
+    let mark = scratch[t * 64 + f];
+    if mark <= old {
         return old;
     }
-    1
+    mark
 }
 
-// The pairs (s, e) that x takes to a marked pair (s·x, f).
+// The bytes of the pairs (s, e) that x takes to (s·x, f).
 fn close_column(rule: &[u8], n: usize, k: usize, scratch: &mut [u8], x: usize, e: usize, f: usize)
     requires { ⌜ Table (now rule) n k ⌝ }
     requires { ⌜ tablesEnd ≤ length (now scratch) ⌝ }
@@ -52,7 +53,7 @@ fn close_column(rule: &[u8], n: usize, k: usize, scratch: &mut [u8], x: usize, e
     }
 }
 
-// The pairs that x and y take to a marked pair. Where y·x is not idempotent there are none, as marked pairs are linked.
+// The bytes of the pairs that x and y take to another. Where y·x is not idempotent that pair has no mark, as marked pairs are linked.
 fn close_by(rule: &[u8], n: usize, k: usize, scratch: &mut [u8], x: usize, y: usize)
     requires { ⌜ Table (now rule) n k ⌝ }
     requires { ⌜ Lawful (morphismAt (now rule) n k) ⌝ }
@@ -73,7 +74,7 @@ fn close_by(rule: &[u8], n: usize, k: usize, scratch: &mut [u8], x: usize, y: us
     close_column(rule, n, k, scratch, x, e, f);
 }
 
-// All pairs that x takes to a marked pair.
+// The bytes of all pairs that x takes to another.
 fn close_row(rule: &[u8], n: usize, k: usize, scratch: &mut [u8], x: usize)
     requires { ⌜ Table (now rule) n k ⌝ }
     requires { ⌜ Lawful (morphismAt (now rule) n k) ⌝ }
@@ -86,7 +87,7 @@ fn close_row(rule: &[u8], n: usize, k: usize, scratch: &mut [u8], x: usize)
     }
 }
 
-// All pairs that are conjugate to a marked pair.
+// The highest mark of the conjugates of every pair.
 fn close_pairs(rule: &[u8], n: usize, k: usize, scratch: &mut [u8])
     requires { ⌜ Table (now rule) n k ⌝ }
     requires { ⌜ Lawful (morphismAt (now rule) n k) ⌝ }
@@ -98,23 +99,20 @@ fn close_pairs(rule: &[u8], n: usize, k: usize, scratch: &mut [u8])
     }
 }
 
-// Whether the first table is not 0 wherever the second is not, among the first bytes of both.
+// Whether no byte of the second table is higher than that of the first, among the first bytes of both.
 fn within(scratch: &[u8], count: usize) -> bool
     requires { ⌜ (count ≤ markTableSize) × (tablesEnd ≤ length (now scratch)) ⌝ }
     ensures { λ r. ⌜ WithinAnswer (now (scratch .entry)) count r ⌝ }
 {
     for i in 0..count {
-        if scratch[SECOND_BASE + i] != 0 {
-            if scratch[i] == 0 {
-                return false;
-            }
+        if scratch[i] < scratch[SECOND_BASE + i] {
+            return false;
         }
     }
     true
 }
 
-// Lays the closure of the marks out in the second table, and says whether the marks are closed: each pair of the closure is
-// marked.
+// Lays the closure of the marks out in the second table, and says whether the marks are closed: no pair has a higher mark there.
 pub fn close(rule: &[u8], n: usize, k: usize, scratch: &mut [u8]) -> bool
     requires { ⌜ Table (now rule) n k ⌝ }
     requires { ⌜ Lawful (morphismAt (now rule) n k) ⌝ }

@@ -26,7 +26,8 @@ use Rattle.formats.specs.Front.{AtFront}
 use Rattle.scratch.specs.Map.{marksFrom}
 use Rattle.mark_strong.specs.Deciding.{StrongIf, Decided}
 use Rattle.promises.specs.Weak.{weakCheck}
-use Rattle.mark_strong.proofs.Calling.{checked-table, checked-lawful, checked-reached, checked-linked, marks-stand, checked-room, decided-file}
+use Rattle.mark_strong.proofs.Deciding.{closure-marked}
+use Rattle.mark_strong.proofs.Calling.{checked-table, checked-lawful, checked-reached, checked-linked, checked-graded, marks-stand, checked-room, decided-file}
 use Rattle.promises.specs.Complement.{ComplementMarks, ComplementPromise}
 use Rattle.mark_complement_marks.specs.Complement.{ComplementLaid}
 use Rattle.mark_complement.specs.Promise.{WriteNeeds, secondMarking, secondFile}
@@ -87,14 +88,14 @@ module _ (bytes out entry : List ℕ) where
           e = sym (not-not answer) ∙ ap not n
 
           strong : Strong m (pairsOf bytes)
-          strong = subst (StrongIf m (pairsOf bytes)) e (d .decision (markingOf bytes) (checked-linked 1 bytes entry p) (marks-stand 1 bytes entry p))
+          strong = subst (StrongIf m (pairsOf bytes)) e (d .decision (markingOf bytes) (checked-graded 1 bytes entry p) (marks-stand 1 bytes entry p))
 
           -- the second table marks the complement
           second-marks : ComplementMarks m (pairsOf bytes) (marked (secondMarking laid))
           unfolding marked level marksFrom
           second-marks =
               laid-complement (checked-lawful 1 bytes entry p) (checked-reached 1 bytes entry p) (checked-linked 1 bytes entry p) strong
-              (λ s c hs hc. sym (d .closure (markingOf bytes) (checked-linked 1 bytes entry p) (marks-stand 1 bytes entry p) s c hs hc)) l
+              (λ s c hs hc. sym (closure-marked (checked-lawful 1 bytes entry p) d (markingOf bytes) (checked-graded 1 bytes entry p) (marks-stand 1 bytes entry p) s c hs hc)) l
 
           written : {exit : List ℕ} {r : ℕ} → AtFront (secondFile m laid) out exit r → WrittenRule m (secondMarking laid) out exit r
           written w =

@@ -8,6 +8,7 @@ use lib.ListN.{length, getD, replicate}
 use Rattle.answer.specs.declared.Refusal.{Refusal}
 use Rattle.theory.specs.Rules.{Morphism, Lawful, AllReached, marked}
 use Rattle.theory.specs.Pairs.{LinkedOnly}
+use Rattle.theory.proofs.Gradings.{GradedMarks}
 use Rattle.rule_table.specs.Table.{Table}
 use Rattle.formats.specs.Table.{morphismAt}
 use Rattle.formats.specs.RuleFile.{morphismOf, markingOf, pairsOf}
@@ -18,8 +19,7 @@ use Rattle.formats.specs.Calls.{afterCall}
 use Rattle.rule_check.specs.GoodRule.{GoodRule}
 use Rattle.rule_check.proofs.Calls.{scratch-long, called-good, zeros-left, checked-length, shape-morphism, shape-table}
 use Rattle.scratch.specs.Map.{marksFrom, MarkingAt}
-use Rattle.scratch.proofs.Markings.{marked-at}
-use Rattle.mark_closure.proofs.Agreement.{linked-agrees}
+use Rattle.mark_closure.proofs.Agreement.{graded-agrees}
 use Rattle.mark_strong.specs.Deciding.{DecideNeeds, StrongIf, Decided}
 use Rattle.promises.specs.Strong.{StrongPromise}
 use Rattle.promises.specs.declared.Strength.the-variants.{Strong as Is-strong, Weak, Refused}
@@ -41,6 +41,13 @@ module _ (input : ℕ) (bytes entry : List ℕ) {shape : Shape} {mid : List ℕ}
   pub checked-linked : LinkedOnly (morphismAt bytes (shape .elements) (shape .letters)) (pairsOf bytes)
   checked-linked = subst (λ (m : Morphism). LinkedOnly m (pairsOf bytes)) (sym (shape-morphism (p .scratch .shape-is))) (good .linked)
 
+  pub checked-graded : GradedMarks (morphismAt bytes (shape .elements) (shape .letters)) (markingOf bytes)
+  unfolding marked
+  checked-graded = record {
+    small = λ s e hs he. good .grades-small s e (omega (arith, p .scratch .shape-is .elements)) (omega (arith, p .scratch .shape-is .elements));
+    linked = checked-linked;
+  }
+
   -- the marks of the file stand at the front of scratch
   pub marks-stand : MarkingAt (shape .elements) (markingOf bytes) mid 0
   unfolding marksFrom
@@ -56,14 +63,14 @@ module _ (input : ℕ) (bytes entry : List ℕ) {shape : Shape} {mid : List ℕ}
   decide-place = record {
     lawful = checked-lawful;
     reached = checked-reached;
-    linked = linked-agrees (morphismAt bytes (shape .elements) (shape .letters)) (pairsOf bytes) (marked (marksFrom mid 0)) (λ s e hs he. marked-at marks-stand hs he) checked-linked;
+    graded = graded-agrees checked-lawful (markingOf bytes) (marksFrom mid 0) (marks-stand .same) checked-graded;
     room = checked-room;
   }
 
   module _ {exit : List ℕ} {answer : Bool} (d : Decided (morphismAt bytes (shape .elements) (shape .letters)) mid exit answer) where
     -- the verdict on the file
     pub decided-file : StrongIf (morphismOf bytes) (pairsOf bytes) answer
-    decided-file = subst (λ (m : Morphism). StrongIf m (pairsOf bytes) answer) (shape-morphism (p .scratch .shape-is)) (d .decision (markingOf bytes) checked-linked marks-stand)
+    decided-file = subst (λ (m : Morphism). StrongIf m (pairsOf bytes) answer) (shape-morphism (p .scratch .shape-is)) (d .decision (markingOf bytes) checked-graded marks-stand)
 
     pub decided-left : (was end : List ℕ) → length was ≡ length exit → end ≡ replicate (length was) 0 → end ≡ afterCall entry
     decided-left was end e z = zeros-left input bytes entry (p .refusal) was end (e ∙ d .same-length ∙ checked-length (p .scratch)) z

@@ -6,8 +6,8 @@ use mathlib.Core.List.{List}
 use lib.ListN.{length, getD}
 use Rattle.theory.specs.Rules.{Morphism, Lawful, Marking, Pairs, AllReached, marked}
 use Rattle.theory.specs.Acceptance.{Strong}
-use Rattle.theory.specs.Pairs.{LinkedOnly}
-use Rattle.theory.proofs.Closure.{closure-test}
+use Rattle.theory.proofs.Gradings.{GradedMarks}
+use Rattle.theory.proofs.ClosureGrades.{closure-grade}
 use Rattle.scratch.specs.Map.{searchEnd, secondBase, marksFrom, MarkingAt}
 use Rattle.formats.specs.RuleChecks.{scratchSize}
 
@@ -15,7 +15,7 @@ use Rattle.formats.specs.RuleChecks.{scratchSize}
 pub record DecideNeeds (m : Morphism) (scratch : List ℕ) : Type 0 where
   pub lawful : Lawful m
   pub reached : AllReached m
-  pub linked : LinkedOnly m (marked (marksFrom scratch 0))
+  pub graded : GradedMarks m (marksFrom scratch 0)
   pub room : scratchSize ≤ length scratch
 
 -- yes exactly if strong
@@ -26,8 +26,7 @@ StrongIf m P false = Strong m P → ⊥
 -- the verdict; the marks and the bytes behind those that the search uses are as they were, and the second table holds the closure
 pub record Decided (m : Morphism) (entry exit : List ℕ) (answer : Bool) : Type 0 where
   pub same-length : length exit ≡ length entry
-  pub decision : (marks : Marking) → LinkedOnly m (marked marks) → MarkingAt (m .size) marks entry 0 → StrongIf m (marked marks) answer
-  pub closure : (marks : Marking) → LinkedOnly m (marked marks) → MarkingAt (m .size) marks entry 0 → (s e : ℕ) → s < m .size → e < m .size
-      → closure-test m (marked marks) s e ≡ marked (marksFrom exit secondBase) s e
+  pub decision : (marks : Marking) → GradedMarks m marks → MarkingAt (m .size) marks entry 0 → StrongIf m (marked marks) answer
+  pub closure : (marks : Marking) → GradedMarks m marks → MarkingAt (m .size) marks entry 0 → MarkingAt (m .size) (closure-grade m marks) exit secondBase
   pub marks : (i : ℕ) → i < secondBase → getD exit i 0 ≡ getD entry i 0
   pub behind : (i : ℕ) → searchEnd ≤ i → getD exit i 0 ≡ getD entry i 0

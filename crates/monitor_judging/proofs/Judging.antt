@@ -11,10 +11,12 @@ use Rattle.answer.specs.declared.Refusal.the-variants.{NotStrong}
 use Rattle.theory.specs.Rules.{Morphism, Lawful, Marking, Pairs, element, value, AllReached, marked}
 use Rattle.theory.specs.Acceptance.{Accepts, Strong}
 use Rattle.theory.specs.Pairs.{LinkedOnly, LeastExponent}
+use Rattle.theory.proofs.Gradings.{GradedMarks}
 use Rattle.theory.proofs.Strength.{settled-start, settled-cycle, settled-linked}
 use Rattle.theory.proofs.Closure.{closure-test, acceptance-passes, strong-acceptance}
 use Rattle.scratch.specs.Map.{marksFrom, MarkingAt}
 use Rattle.mark_strong.specs.Deciding.{DecideNeeds, StrongIf, Decided}
+use Rattle.mark_strong.proofs.Deciding.{closure-marked}
 use Rattle.promises.specs.declared.MonitorVerdict.the-variants.{Decided as Is-decided, Refused}
 use Rattle.theory.specs.Words.{Lasso}
 use Rattle.theory.specs.Smallest.{LassosAccepted, LassosNotAccepted}
@@ -59,31 +61,35 @@ module _ {m : Morphism} {entry : List ℕ} (place : DecideNeeds m entry) {before
   pub judged-weak : {exit : List ℕ} → exit ≡ replicate (length mid) 0 → strong ≡ false → Judges m before since entry exit (Refused NotStrong 1 0)
   judged-weak z e = record {
     zeros = zeros-left z;
-    says = λ marks lm t. (subst (StrongIf m (marked marks)) e (d .decision marks lm t), refl);
+    says = λ marks k t. (subst (StrongIf m (marked marks)) e (d .decision marks k t), refl);
   }
 
   module _ {accepted : Bool} {turns : ℕ} (look : accepted ≡ marked (marksFrom mid 4096) (settled-start m before since) (settled-cycle m since))
       (settles : LeastExponent m since turns) {exit : List ℕ} (z : exit ≡ replicate (length mid) 0) (e : strong ≡ true) where
-    strong-marks : (marks : Marking) → LinkedOnly m (marked marks) → MarkingAt (m .size) marks entry 0 → Strong m (marked marks)
-    strong-marks marks lm t = subst (StrongIf m (marked marks)) e (d .decision marks lm t)
+    strong-marks : (marks : Marking) → GradedMarks m marks → MarkingAt (m .size) marks entry 0 → Strong m (marked marks)
+    strong-marks marks k t = subst (StrongIf m (marked marks)) e (d .decision marks k t)
+
+    linked-marks : (marks : Marking) → GradedMarks m marks → LinkedOnly m (marked marks)
+    unfolding marked
+    linked-marks marks k = k .linked
 
     -- the byte is the closure's
-    look-closure : (marks : Marking) → LinkedOnly m (marked marks) → MarkingAt (m .size) marks entry 0
+    look-closure : (marks : Marking) → GradedMarks m marks → MarkingAt (m .size) marks entry 0
         → closure-test m (marked marks) (settled-start m before since) (settled-cycle m since) ≡ accepted
-    look-closure marks lm t =
+    look-closure marks k t =
         let l = settled-linked (place .lawful) hb hs in
-        d .closure marks lm t (settled-start m before since) (settled-cycle m since) (l .inside) (l .idempotent .inside) ∙ sym look
+        closure-marked (place .lawful) d marks k t (settled-start m before since) (settled-cycle m since) (l .inside) (l .idempotent .inside) ∙ sym look
 
     -- so it decides
-    closure-told : (marks : Marking) → LinkedOnly m (marked marks) → MarkingAt (m .size) marks entry 0 → (b : Bool) → accepted ≡ b
+    closure-told : (marks : Marking) → GradedMarks m marks → MarkingAt (m .size) marks entry 0 → (b : Bool) → accepted ≡ b
         → LassosDecided m (marked marks) (element before) since b
-    closure-told marks lm t true a =
-        closure-accepts (place .lawful) (place .reached) hb hs lm (strong-marks marks lm t) (rw (look-closure marks lm t, a) tt)
-    closure-told marks lm t false a =
-        closure-rejects (place .lawful) (place .reached) hb hs lm (strong-marks marks lm t) (λ h. rw (look-closure marks lm t, a) at h)
+    closure-told marks k t true a =
+        closure-accepts (place .lawful) (place .reached) hb hs (linked-marks marks k) (strong-marks marks k t) (rw (look-closure marks k t, a) tt)
+    closure-told marks k t false a =
+        closure-rejects (place .lawful) (place .reached) hb hs (linked-marks marks k) (strong-marks marks k t) (λ h. rw (look-closure marks k t, a) at h)
 
     pub judged-decided : Judges m before since entry exit (Is-decided accepted turns)
     judged-decided = record {
       zeros = zeros-left z;
-      says = λ marks lm t. (strong-marks marks lm t, (closure-told marks lm t accepted refl, settles));
+      says = λ marks k t. (strong-marks marks k t, (closure-told marks k t accepted refl, settles));
     }

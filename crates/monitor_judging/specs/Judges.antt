@@ -7,7 +7,8 @@ use Rattle.answer.specs.declared.Refusal.the-variants.{NotStrong}
 use Rattle.answer.specs.Checks.{refused}
 use Rattle.theory.specs.Rules.{Morphism, Marking, Pairs, marked, element}
 use Rattle.theory.specs.Acceptance.{Strong}
-use Rattle.theory.specs.Pairs.{LinkedOnly, LeastExponent}
+use Rattle.theory.specs.Pairs.{LeastExponent}
+use Rattle.theory.proofs.Gradings.{GradedMarks}
 use Rattle.scratch.specs.Map.{MarkingAt}
 use Rattle.promises.specs.declared.MonitorVerdict.{MonitorVerdict}
 use Rattle.promises.specs.declared.MonitorVerdict.the-variants.{Decided, Refused}
@@ -21,4 +22,4 @@ JudgedBy m P before since (Refused refusal input place) = (Strong m P → ⊥) �
 -- what the marks at the front of scratch say, and zeros are left
 pub record Judges (m : Morphism) (before since : ℕ) (entry exit : List ℕ) (answer : MonitorVerdict) : Type 0 where
   pub zeros : exit ≡ replicate (length entry) 0
-  pub says : (marks : Marking) → LinkedOnly m (marked marks) → MarkingAt (m .size) marks entry 0 → JudgedBy m (marked marks) before since answer
+  pub says : (marks : Marking) → GradedMarks m marks → MarkingAt (m .size) marks entry 0 → JudgedBy m (marked marks) before since answer

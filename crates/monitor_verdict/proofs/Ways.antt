@@ -17,7 +17,7 @@ use Rattle.rule_check.specs.Answers.{CheckPromise}
 use Rattle.formats.specs.Calls.{checkedChecks, afterCall}
 use Rattle.rule_check.proofs.Calls.{zeros-left, checked-length, shape-morphism}
 use Rattle.promises.specs.Weak.{weakCheck}
-use Rattle.mark_strong.proofs.Calling.{checked-linked, marks-stand}
+use Rattle.mark_strong.proofs.Calling.{checked-graded, marks-stand}
 use Rattle.promises.specs.declared.Monitor.{Monitor}
 use Rattle.promises.specs.Monitor.{ValueOutOfRange}
 use Rattle.promises.specs.declared.MonitorVerdict.{MonitorVerdict}
@@ -67,7 +67,7 @@ module _ (bytes : List ℕ) (f : Monitor) (entry : List ℕ) where
           → JudgedBy (morphismOf bytes) (pairsOf bytes) (startElement f) (f .since) answer
       file-says {answer = answer} j =
           subst (λ (m : Morphism). JudgedBy m (pairsOf bytes) (startElement f) (f .since) answer) (shape-morphism (p .scratch .shape-is))
-          (j .says (markingOf bytes) (checked-linked 1 bytes entry p) (marks-stand 1 bytes entry p))
+          (j .says (markingOf bytes) (checked-graded 1 bytes entry p) (marks-stand 1 bytes entry p))
 
       says : {exit : List ℕ} (answer : MonitorVerdict) → exit ≡ afterCall entry → JudgedBy (morphismOf bytes) (pairsOf bytes) (startElement f) (f .since) answer
           → VerdictPromise bytes f entry exit answer

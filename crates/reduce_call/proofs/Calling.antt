@@ -25,7 +25,8 @@ use Rattle.rule_check.specs.GoodRule.{GoodRule}
 use Rattle.rule_check.proofs.Left.{short-left, long-left}
 use Rattle.rule_check.proofs.Calls.{called-good, shape-morphism}
 use Rattle.mark_strong.specs.Deciding.{StrongIf, Decided}
-use Rattle.mark_strong.proofs.Calling.{checked-lawful, checked-reached, checked-linked, checked-room, marks-stand, decided-file, decided-left}
+use Rattle.mark_strong.proofs.Deciding.{closure-marked}
+use Rattle.mark_strong.proofs.Calling.{checked-lawful, checked-reached, checked-graded, checked-room, marks-stand, decided-file, decided-left}
 use Rattle.promises.specs.declared.Reduced.the-variants.{Rule as Is-rule, Refused}
 use Rattle.reduce_rule.specs.Steps.{ReduceNeeds, ReducedWritten}
 use Rattle.promises.specs.Weak.{weakCheck}
@@ -87,7 +88,7 @@ module _ (bytes out entry : List ℕ) (long : ruleSize ≤ length out) where
           → closure-test (morphismOf bytes) (pairsOf bytes) s e ≡ marked (marksFrom decided secondBase) s e
       closure-stands =
           subst (λ (m : Morphism). (s e : ℕ) → s < m .size → e < m .size → closure-test m (pairsOf bytes) s e ≡ marked (marksFrom decided secondBase) s e) same
-          (d .closure (markingOf bytes) (checked-linked 1 bytes entry p) (marks-stand 1 bytes entry p))
+          (closure-marked (checked-lawful 1 bytes entry p) d (markingOf bytes) (checked-graded 1 bytes entry p) (marks-stand 1 bytes entry p))
 
       written : ReducedWritten (morphismOf bytes) decided exit out after length-of
       written = subst (λ (m : Morphism). ReducedWritten m decided exit out after length-of) same w

@@ -14,7 +14,7 @@ use Rattle.rule_check.specs.GoodRule.{GoodRule}
 use Rattle.formats.proofs.RuleSections.{rule-in-any}
 use Rattle.rule_check.proofs.Passed.{letters-some, marks-small, end-inside, table-of}
 use Rattle.rule_check.proofs.TablePassed.{table-associates, table-reached}
-use Rattle.rule_check.proofs.MarksPassed.{passed-marks, marking-linked}
+use Rattle.rule_check.proofs.MarksPassed.{passed-marks, marking-linked, marking-small}
 use Rattle.rule_marks.proofs.MarkOrder.{GoodMarks}
 
 module _ (input : ℕ) (bytes : List ℕ) (all : FirstFailure (ruleChecks input bytes) passed) where
@@ -51,4 +51,5 @@ module _ (input : ℕ) (bytes : List ℕ) (all : FirstFailure (ruleChecks input 
         each-linked = λ i l. marks-passed .good i l .linked;
         distinct = λ i j l b p q. marks-passed .good j b .fresh i l p q;
         linked = marking-linked bytes (marksAt bytes) marks-passed;
+        grades-small = λ s e hs he. marking-small bytes (marksAt bytes) s e;
       }

@@ -64,3 +64,12 @@ marking-linked {m} bytes at g = record {
       let p = is-mark-elim bytes at s e (f .at) (f .holds) in
       subst₂ (Linked m) (p .0) (p .1) (g .good (f .at) (f .below) .linked);
 }
+
+-- and no mark is above 3
+pub marking-small : (bytes : List ℕ) (at s e : ℕ) → marksIn bytes at s e ≤ 3
+unfolding marksIn
+marking-small bytes at s e = go (anyBelow (twoBytes bytes at) (isMark bytes at s e))
+  where
+    go : (b : Bool) → oneIf b ≤ 3
+    go true = omega arith
+    go false = omega arith

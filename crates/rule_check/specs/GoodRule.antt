@@ -6,7 +6,7 @@ use lib.ListN.{length}
 use Rattle.theory.specs.Rules.{Lawful, AllReached}
 use Rattle.theory.specs.Pairs.{Linked, LinkedOnly}
 use Rattle.rule_table.specs.Table.{Table}
-use Rattle.formats.specs.RuleFile.{elementsOf, lettersOf, marksAt, marksOf, ruleEnd, morphismOf, markStart, markCycle, pairsOf}
+use Rattle.formats.specs.RuleFile.{elementsOf, lettersOf, marksAt, marksOf, ruleEnd, morphismOf, markStart, markCycle, markingOf, pairsOf}
 
 -- a rule file that passes every check
 pub record GoodRule (bytes : List ℕ) : Type 0 where
@@ -25,3 +25,5 @@ pub record GoodRule (bytes : List ℕ) : Type 0 where
       → markCycle bytes (marksAt bytes) i ≡ markCycle bytes (marksAt bytes) j → ⊥
   -- 7, by the marked pairs
   pub linked : LinkedOnly (morphismOf bytes) (pairsOf bytes)
+  -- no grade is above 3
+  pub grades-small : (s e : ℕ) → s < elementsOf bytes → e < elementsOf bytes → markingOf bytes s e ≤ 3

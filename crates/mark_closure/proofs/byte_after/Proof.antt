@@ -4,7 +4,7 @@ use native.Mathlib.Omega.{arith}
 use borrow.Author.Needs.{needs}
 use Rattle.rule_table.proofs.Facts.{product-below}
 use Rattle.theory.proofs.BestConjugates.{better-moved}
-use Rattle.mark_closure.proofs.Columns.{after-unmarked, after-marked}
+use Rattle.mark_closure.proofs.Columns.{after-lower, after-higher}
 use Rattle.mark_closure.proofs.byte_after.Statement.{statement}
 use Rattle.mark_closure.proofs.byte_after.Tie as tie
 
@@ -35,24 +35,24 @@ start-below c =
     let b = c .before .before .before .before .before .before in
     product-below (b .pre .0) (b .pre .1 .1 .3) (b .pre .1 .1 .0) (c .product2 .ensures)
 
-mul-if2 : tie.Need-mul-if2
-mul-if2 c = omega (arith, start-below c)
+mul-mark : tie.Need-mul-mark
+mul-mark c = omega (arith, start-below c)
 
-add-if2 : tie.Need-add-if2
-add-if2 c = omega (arith, start-below c)
+add-mark : tie.Need-add-mark
+add-mark c = omega (arith, start-below c)
 
-shared-slice-read-if2 : tie.Need-shared-slice-read-if2
-shared-slice-read-if2 c = omega (arith, start-below (c .before))
+shared-slice-read-mark : tie.Need-shared-slice-read-mark
+shared-slice-read-mark c = omega (arith, start-below (c .before))
 
 returns-2 : tie.Need-returns-2
 returns-2 c =
     let d = c .before .before in
-    after-unmarked _ _ _ _ _ _ _ (d .before .before .product .ensures) (d .product2 .ensures) (c .if2 .taken)
+    after-lower _ (d .before .before .before .before .before .before .args .scratch .now) _ _ _ _ _ (d .before .before .product .ensures) (d .product2 .ensures) (c .if2 .taken)
 
 returns-3 : tie.Need-returns-3
 returns-3 c =
     let d = c .before .before in
-    after-marked _ _ _ _ _ _ _ (d .before .before .product .ensures) (d .product2 .ensures) (d .before .if1 .left) (c .if2 .left)
+    after-higher _ (d .before .before .before .before .before .before .args .scratch .now) _ _ _ _ _ (d .before .before .product .ensures) (d .product2 .ensures) (d .before .if1 .left) (c .if2 .left)
 
 pub byte-after-spec : {M : Type 1} → statement M
 byte-after-spec =
@@ -65,8 +65,8 @@ byte-after-spec =
     product-requires
     returns
     product-requires-2
-    mul-if2
-    add-if2
-    shared-slice-read-if2
+    mul-mark
+    add-mark
+    shared-slice-read-mark
     returns-2
     returns-3)

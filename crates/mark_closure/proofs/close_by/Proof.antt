@@ -1,5 +1,5 @@
 -- `mark_closure::close_by` meets its contract: factors whose products are not both idempotent take no pair to a marked pair, and others
--- add the pairs of a column. Assumes nothing.
+-- add a column. Assumes nothing.
 use borrow.Author.Needs.{needs}
 use Rattle.rule_table.proofs.Facts.{table-place, product-below}
 use Rattle.theory.proofs.BestConjugates.{so-far-left, so-far-right, so-far-column}
@@ -24,8 +24,8 @@ returns : tie.Need-returns
 returns c =
     let d = c .before .before .before in
     let pre = d .before .before .before .pre .1 .1 in
-    let pairs = so-far-left (pre .0 .0) (pre .0 .1) (pre .1 .pairs) (d .product .ensures) (c .before .before .product2 .ensures) (c .before .product3 .ensures) (c .if1 .taken) in
-    record { so-far = record { room = pre .1 .room; pairs = pairs }; kept = kept-none _ _ }
+    let tried = so-far-left (pre .0 .0) (pre .0 .1) (pre .1 .marks) (d .product .ensures) (c .before .before .product2 .ensures) (c .before .product3 .ensures) (c .if1 .taken) in
+    record { so-far = record { room = pre .1 .room; marks = tried }; kept = kept-none _ _ }
 
 product-requires-4 : tie.Need-product-requires-4
 product-requires-4 c κs =
@@ -39,8 +39,8 @@ returns-2 : tie.Need-returns-2
 returns-2 c =
     let d = c .before .before .before .before in
     let pre = d .before .before .before .before .pre .1 .1 in
-    let pairs = so-far-right (pre .0 .0) (pre .0 .1) (pre .1 .pairs) (d .before .product .ensures) (d .product2 .ensures) (c .before .product4 .ensures) (c .if2 .taken) in
-    record { so-far = record { room = pre .1 .room; pairs = pairs }; kept = kept-none _ _ }
+    let tried = so-far-right (pre .0 .0) (pre .0 .1) (pre .1 .marks) (d .before .product .ensures) (d .product2 .ensures) (c .before .product4 .ensures) (c .if2 .taken) in
+    record { so-far = record { room = pre .1 .room; marks = tried }; kept = kept-none _ _ }
 
 close-column-requires : tie.Need-close-column-requires
 close-column-requires c κs =
@@ -68,7 +68,7 @@ returns-3 c =
     let pre = b .pre .1 .1 in
     let l = c .before .before .close-column .ensures in
     advanced-by (b .pre .0 .small) (b .pre .1 .0) (pre .1 .room) (l .kept)
-    (so-far-column (pre .0 .0) (pre .0 .1) (pre .1 .pairs) (d .before .product .ensures) (d .product2 .ensures) (b .pre .1 .0)
+    (so-far-column (pre .0 .0) (pre .0 .1) (pre .1 .marks) (d .before .product .ensures) (d .product2 .ensures) (b .pre .1 .0)
     (u .before .before .before .product3 .ensures) (u .before .before .if1 .left) (u .before .product4 .ensures) (u .if2 .left) (l .column))
 
 pub close-by-spec : {M : Type 1} → statement M

@@ -1,10 +1,9 @@
--- `mark_closure::within` meets its contract: at the places that were passed the first table is not 0 where the second is not. The
+-- `mark_closure::within` meets its contract: at the places that were passed the second table is no higher than the first. The
 -- measure is the number of places left. Assumes nothing.
 use Prim.Native.Nat.{_-_}
-use mathlib.Core.Logic.{⊎-elim}
 use native.Mathlib.Omega.{arith}
 use Rattle.mark_closure.specs.Closing.{SecondInFirst}
-use Rattle.mark_closure.proofs.Answers.{within-start, within-empty, within-both, within-not, within-all}
+use Rattle.mark_closure.proofs.Answers.{within-start, within-next, within-not, within-all}
 use Rattle.mark_closure.proofs.within.Statement.{statement}
 use Rattle.mark_closure.proofs.within.Tie as tie
 
@@ -17,17 +16,17 @@ abbrev μ-loop : tie.MeasureT-loop
 loop-holds : tie.Need-loop-holds Inv-loop μ-loop
 loop-holds c = within-start
 
-add-if1 : tie.Need-add-if1 Inv-loop μ-loop
-add-if1 c = omega arith
-
 shared-slice-read-if1 : tie.Need-shared-slice-read-if1 Inv-loop μ-loop
 shared-slice-read-if1 c = omega arith
 
-shared-slice-read-if2 : tie.Need-shared-slice-read-if2 Inv-loop μ-loop
-shared-slice-read-if2 c = omega arith
+add-if1 : tie.Need-add-if1 Inv-loop μ-loop
+add-if1 c = omega arith
+
+shared-slice-read-if1-2 : tie.Need-shared-slice-read-if1-2 Inv-loop μ-loop
+shared-slice-read-if1-2 c = omega arith
 
 returns : tie.Need-returns Inv-loop μ-loop
-returns c = within-not (c .before .before .before .before .loop-test .taken) (c .before .before .if1 .taken) (c .if2 .taken)
+returns c = within-not (c .before .before .before .loop-test .taken) (c .if1 .taken)
 
 add-i : tie.Need-add-i Inv-loop μ-loop
 add-i c = omega arith
@@ -36,9 +35,7 @@ loop-less : tie.Need-loop-less Inv-loop μ-loop
 loop-less c = omega arith
 
 loop-again : tie.Need-loop-again Inv-loop μ-loop
-loop-again c =
-    let w = c .before .before .before .loop .inv in
-    ⊎-elim (λ v. within-both w (v .2 .left)) (λ v. within-empty w (v .left)) (c .if1 .came)
+loop-again c = within-next (c .before .before .before .before .loop .inv) (c .if1 .left)
 
 returns-2 : tie.Need-returns-2 Inv-loop μ-loop
 returns-2 c = within-all (c .before .loop .inv) (c .loop-test .left)
@@ -50,9 +47,9 @@ within-spec =
     Inv-loop
     μ-loop
     loop-holds
-    add-if1
     shared-slice-read-if1
-    shared-slice-read-if2
+    add-if1
+    shared-slice-read-if1-2
     returns
     add-i
     loop-less
