@@ -23,12 +23,13 @@
  *
  * Words
  *   A rule file has n elements (n, 1 to 64, then n * n products, a * b at a * n + b), k letters (k, 1 to 16, then an element each)
- *   and marks (a two-byte count, 0 to 4096, low byte first, then pairs (s, e) of two bytes). The value of a word is the product
- *   of its letters' elements. A lasso is u, then v for ever; u may be empty. A rule accepts it if the same endless word is p, then
- *   w for ever, with (value of p, value of w) marked. A pair (s, e) is linked if e * e = e and s * e = s. Linked pairs (s, e) and
- *   (t, f) are conjugate if some x and y have s * x = t, x * y = e and y * x = f. A rule is strong if the values of u and v
- *   decide whether the lasso is accepted, and else weak. The turns of a cycle whose value is x are the least c, 1 to n, with
- *   x^c * x^c = x^c: so many turns of it together have a value that repeating no longer changes.
+ *   and marks (a two-byte count, 0 to 4096, low byte first, then three bytes each: a pair (s, e) and its grade, 1 to 3, 3 the
+ *   best; a pair that is not listed has grade 0). The value of a word is the product of its letters' elements. A lasso is u, then v
+ *   for ever; u may be empty. A marked pair accepts it if the same endless word is p, then w for ever, and the pair is (value of p,
+ *   value of w). The grade of a lasso is the highest of the marked pairs that accept it, 0 if none does. A pair (s, e) is linked if
+ *   e * e = e and s * e = s. Linked pairs (s, e) and (t, f) are conjugate if some x and y have s * x = t, x * y = e and y * x = f.
+ *   A rule is strong if the values of u and v decide the lasso's grade, and else weak. The turns of a cycle whose value is x are
+ *   the least c, 1 to n, with x^c * x^c = x^c: so many turns of it together have a value that repeating no longer changes.
  *   docs/FORMATS.md of the repository has the files byte by byte with examples, and every check in its order.
  */
 #ifndef DUKNAVET_H
@@ -43,7 +44,7 @@ extern "C" {
 
 /* The sizes that lent buffers must have, in bytes; longer ones pass. */
 #define DUKNAVET_SCRATCH 65536 /* scratch of every call */
-#define DUKNAVET_RULE 12308    /* out of complement, reduce and automaton_rule: the longest rule file */
+#define DUKNAVET_RULE 16404    /* out of complement, reduce and automaton_rule: the longest rule file */
 #define DUKNAVET_CLASSES 8192  /* out of classes: two bytes for each pair of 64 elements */
 #define DUKNAVET_U 64          /* u of included */
 #define DUKNAVET_V 4224        /* v of included */
@@ -66,7 +67,7 @@ enum duknavet_refusal {
     DUKNAVET_RESULT = 0,               /* no refusal */
     DUKNAVET_TRUNCATED = 1,            /* bytes end inside a count or section: the length of the input */
     DUKNAVET_COUNT_OUT_OF_RANGE = 2,   /* a count lies outside its range: its first byte */
-    DUKNAVET_ENTRY_OUT_OF_RANGE = 3,   /* an entry or a monitor's value names nothing: its byte; 0 for a monitor */
+    DUKNAVET_ENTRY_OUT_OF_RANGE = 3,   /* an entry, grade or monitor's value that there is none of: its byte; 0 for a monitor */
     DUKNAVET_TRAILING_BYTES = 4,       /* bytes follow the last section: the first such byte */
     DUKNAVET_NOT_ASSOCIATIVE = 5,      /* (a*b)*c differs from a*(b*c): a * 4096 + b * 64 + c */
     DUKNAVET_UNREACHABLE = 6,          /* an element is no word's value: the least */
@@ -116,22 +117,22 @@ uint64_t duknavet_classes(const uint8_t *rule, size_t rule_length,
 uint64_t duknavet_strong(const uint8_t *rule, size_t rule_length,
                          uint8_t *scratch, size_t scratch_length);
 
-/* Field 0: 1 if the rule accepts u, then v for ever, 0 if not; where u_length is 0, v for ever. Field 1, either way: the turns of v,
- * 1 to n. A byte a letter. The rule may be weak. */
+/* Field 0: the grade of u, then v for ever, 0 to 3; where u_length is 0, of v for ever. Field 1, whatever the grade: the turns
+ * of v, 1 to n. A byte a letter. The rule may be weak. */
 uint64_t duknavet_member(const uint8_t *rule, size_t rule_length,
                          const uint8_t *u, size_t u_length,
                          const uint8_t *v, size_t v_length,
                          uint8_t *scratch, size_t scratch_length);
 
-/* The complement of a strong rule: the same elements, marking every linked pair whose lassos are not accepted. Field 0: how
- * many bytes of out (DUKNAVET_RULE) it has. */
+/* The complement of a strong rule: the same elements, and the grade 3 - g for each lasso of grade g. It marks every linked pair
+ * whose lassos it grades 1 or more, with that grade. Field 0: how many bytes of out (DUKNAVET_RULE) it has. */
 uint64_t duknavet_complement(const uint8_t *rule, size_t rule_length,
                              uint8_t *out, size_t out_length,
                              uint8_t *scratch, size_t scratch_length);
 
-/* Whether each lasso that the rule accepts is accepted under the marks section second (a two-byte count, then pairs) in place
- * of the rule's own. Field 0: 1 if so, and nothing is written. Otherwise field 0 is 0, and a lasso that only the rule's own
- * marks accept is written: field 1 is how many letters of u (DUKNAVET_U), 1 to n; field 2 how many of v (DUKNAVET_V), 1 to
+/* Whether no lasso is graded higher by the rule's marks than by the marks section second (a two-byte count, then marks of three
+ * bytes) in their place. Field 0: 1 if so, and nothing is written. Otherwise field 0 is 0, and a lasso that the rule's own
+ * marks grade higher is written: field 1 is how many letters of u (DUKNAVET_U), 1 to n; field 2 how many of v (DUKNAVET_V), 1 to
  * (n + 1) * (n + 1) - 1. The rule may be weak. */
 uint64_t duknavet_included(const uint8_t *rule, size_t rule_length,
                            const uint8_t *second, size_t second_length,
@@ -139,15 +140,16 @@ uint64_t duknavet_included(const uint8_t *rule, size_t rule_length,
                            uint8_t *v, size_t v_length,
                            uint8_t *scratch, size_t scratch_length);
 
-/* The smallest strong rule with the same lassos as a strong rule. Field 0: how many bytes of out (DUKNAVET_RULE) it has. */
+/* The smallest strong rule that gives every lasso the grade that a strong rule gives it. It marks every linked pair whose lassos
+ * it grades 1 or more, with that grade. Field 0: how many bytes of out (DUKNAVET_RULE) it has. */
 uint64_t duknavet_reduce(const uint8_t *rule, size_t rule_length,
                          uint8_t *out, size_t out_length,
                          uint8_t *scratch, size_t scratch_length);
 
-/* The rule of the lassos on which some run of a Buchi automaton from an initial state meets a final state again and again.
- * The automaton file: a count of states, 1 to 6, a byte each (0 plain, 1 initial, 2 final, 3 both); a count of letters, 1 to
- * 16; a two-byte count of transitions, 0 to 576, then triples (from, letter, to). Field 0: how many bytes of out
- * (DUKNAVET_RULE) the rule has. */
+/* The rule that gives grade 3 to the lassos on which some run of a Buchi automaton from an initial state meets a final state
+ * again and again, and grade 0 to all others. The automaton file: a count of states, 1 to 6, a byte each (0 plain, 1 initial,
+ * 2 final, 3 both); a count of letters, 1 to 16; a two-byte count of transitions, 0 to 576, then triples (from, letter, to).
+ * Field 0: how many bytes of out (DUKNAVET_RULE) the rule has. */
 uint64_t duknavet_automaton_rule(const uint8_t *automaton, size_t automaton_length,
                                  uint8_t *out, size_t out_length,
                                  uint8_t *scratch, size_t scratch_length);
@@ -183,8 +185,9 @@ uint64_t duknavet_return(const uint8_t *rule, size_t rule_length,
                          const uint8_t *points, size_t points_length,
                          uint8_t *scratch, size_t scratch_length);
 
-/* Field 0: 1 if a strong rule accepts the lassos whose start has the value before and whose cycle has the value since, 0 if
- * not; where before is DUKNAVET_NONE, those without a start. Field 1, either way: the turns of these cycles, 1 to n. */
+/* Field 0: the grade, 0 to 3, that a strong rule gives to the lassos whose start has the value before and whose cycle has the
+ * value since; where before is DUKNAVET_NONE, to those without a start. Field 1, whatever the grade: the turns of these cycles,
+ * 1 to n. */
 uint64_t duknavet_verdict(const uint8_t *rule, size_t rule_length,
                           size_t before, size_t since,
                           uint8_t *scratch, size_t scratch_length);

@@ -11,8 +11,8 @@ pub enum Refusal {
     Truncated = 1,
     /// A count lies outside its range. Place: its first byte.
     CountOutOfRange = 2,
-    /// An entry names no element, state, letter or state kind (place: its byte), or a value of a monitor or under a kept name is
-    /// neither an element nor [`NONE`](crate::NONE) (place 0).
+    /// An entry names no element, state, letter or state kind, or is a mark's grade and not 1 to 3 (place: its byte); or a value of
+    /// a monitor or under a kept name is neither an element nor [`NONE`](crate::NONE) (place 0).
     EntryOutOfRange = 3,
     /// Bytes follow the last section. Place: the first such byte.
     TrailingBytes = 4,
@@ -22,7 +22,7 @@ pub enum Refusal {
     Unreachable = 6,
     /// A marked pair is not linked. Place: its first byte.
     NotLinked = 7,
-    /// A pair or a transition stands twice. Place: the first byte of the later.
+    /// A marked pair, with whatever grade, or a transition stands twice. Place: the first byte of the later.
     Duplicate = 8,
     /// A word or an event has a letter that the rule does not have. Place: its position, 0 for an event.
     UnknownLetter = 10,
@@ -130,11 +130,11 @@ pub(crate) fn unpack_bool(packed: u64) -> Result<bool, Refused> {
     }
 }
 
-/// A result that is yes or no of a lasso, and the turns of its cycle.
-pub(crate) fn unpack_decided(packed: u64) -> Result<(bool, usize), Refused> {
+/// A result that is a lasso's grade, and the turns of its cycle.
+pub(crate) fn unpack_graded(packed: u64) -> Result<(u8, usize), Refused> {
     match unpack(packed)? {
-        [accepted @ 0..=1, turns @ 1..=64, 0] => Ok((accepted == 1, turns)),
-        _ => foreign(packed, "the result is no lasso's, with 1 to 64 turns"),
+        [grade @ 0..=3, turns @ 1..=64, 0] => Ok((grade as u8, turns)),
+        _ => foreign(packed, "the result is no grade, 0 to 3, with 1 to 64 turns"),
     }
 }
 
@@ -153,7 +153,7 @@ pub(crate) fn foreign(packed: u64, why: &str) -> ! {
 
 #[cfg(test)]
 mod tests {
-    use super::{unpack, unpack_bool, unpack_decided, unpack_length, Refusal, Refused};
+    use super::{unpack, unpack_bool, unpack_graded, unpack_length, Refusal, Refused};
     use std::panic::catch_unwind;
 
     #[test]
@@ -176,9 +176,10 @@ mod tests {
         };
         assert_eq!(unpack(0x0000_0000_107f_020a), Err(refused));
         assert_eq!(unpack_bool(0x1_0000), Ok(true));
-        assert_eq!(unpack_decided(0x2_0001_0000), Ok((true, 2)));
-        assert_eq!(unpack_decided(0x40_0000_0000), Ok((false, 64)));
-        assert_eq!(unpack_length(0x3014_0000, 12_308), Ok(12_308));
+        assert_eq!(unpack_graded(0x2_0001_0000), Ok((1, 2)));
+        assert_eq!(unpack_graded(0x1_0003_0000), Ok((3, 1)));
+        assert_eq!(unpack_graded(0x40_0000_0000), Ok((0, 64)));
+        assert_eq!(unpack_length(0x4014_0000, 16_404), Ok(16_404));
     }
 
     #[test]
@@ -191,12 +192,12 @@ mod tests {
         for packed in [
             0,
             0x1_0000,
-            0x1_0002_0000,
+            0x1_0004_0000,
             0x41_0001_0000,
             0x1_0001_0001_0000,
         ] {
-            assert!(catch_unwind(|| unpack_decided(packed)).is_err());
+            assert!(catch_unwind(|| unpack_graded(packed)).is_err());
         }
-        assert!(catch_unwind(|| unpack_length(0x3015_0000, 12_308)).is_err());
+        assert!(catch_unwind(|| unpack_length(0x4015_0000, 16_404)).is_err());
     }
 }

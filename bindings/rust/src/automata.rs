@@ -10,8 +10,9 @@ pub struct Translated {
     pub length: usize,
 }
 
-/// The strong rule that accepts the lassos on which some run of the automaton from an initial state meets a final state
-/// again and again. Its elements are the matrices of the non-empty words; an automaton with more than 64 is refused.
+/// The strong rule that gives grade 3 to the lassos on which some run of the automaton from an initial state meets a final state
+/// again and again, and grade 0 to all others. Its elements are the matrices of the non-empty words; an automaton with more than 64
+/// is refused.
 ///
 /// `out` has [`RULE_OUT`](crate::RULE_OUT) bytes or more.
 pub fn automaton_rule(

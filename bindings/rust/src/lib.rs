@@ -1,13 +1,15 @@
 //! Safe calls to Duknavet, an engine for rules over endless event sequences that is proved in Rattle.
 //!
 //! A rule is a finite associative product table (a morphism into a finite semigroup), an element for each letter, and marked
-//! pairs. It accepts a lasso, u then v for ever, if some writing of the same endless word as p then w for ever has
-//! (value of p, value of w) marked; the value of a word is the product of its letters' elements. A rule is strong if the values of
-//! u and v decide whether the lasso is accepted, and else weak. A pair (s, e) is linked if e·e = e and s·e = s; linked pairs (s, e)
-//! and (t, f) are conjugate if some x and y have s·x = t, x·y = e and y·x = f.
+//! pairs, each with a grade from 1 to 3, 3 the best. A marked pair accepts a lasso, u then v for ever, if the same endless word can
+//! be written as p then w for ever so that the pair is (value of p, value of w); the value of a word is the product of its letters'
+//! elements. The grade of a lasso is the highest of the marked pairs that accept it, 0 if none does. A rule is strong if the values
+//! of u and v decide the lasso's grade, and else weak. A pair (s, e) is linked if e·e = e and s·e = s; linked pairs (s, e) and (t, f)
+//! are conjugate if some x and y have s·x = t, x·y = e and y·x = f.
 //!
 //! The bytes of a rule file are n, 1 to 64, and n·n products, a·b at a·n + b; k, 1 to 16, and an element for each letter; a two-byte
-//! count of marks, low byte first, and a pair (s, e) for each. `docs/FORMATS.md` of the repository has the files and every refusal.
+//! count of marks, low byte first, and three bytes for each: s, e and the grade. `docs/FORMATS.md` of the repository has the files and
+//! every refusal.
 //!
 //! Every call takes any bytes, of any length: what is wrong with them is answered as a [`Refused`]. Calls that get a rule are
 //! lent a scratch of [`SCRATCH`] bytes or more, and leave it as zeros. After a refusal the result buffers keep every byte; where
@@ -16,11 +18,11 @@
 //! ```
 //! use duknavet::{member, SCRATCH};
 //!
-//! // Letters 0 and 1; accepts the lassos in which letter 0 occurs without end.
-//! let rule = [2, 0, 0, 0, 1, 2, 0, 1, 1, 0, 0, 0];
+//! // Letters 0 and 1; grade 3 for the lassos in which letter 0 occurs without end, grade 0 for the others.
+//! let rule = [2, 0, 0, 0, 1, 2, 0, 1, 1, 0, 0, 0, 3];
 //! let mut scratch = vec![0; SCRATCH];
 //! let answer = member(&rule, &[1], &[0], &mut scratch).expect("a rule and two words");
-//! assert!(answer.accepted);
+//! assert_eq!(answer.grade, 3);
 //! assert_eq!(answer.turns, 1);
 //! ```
 
@@ -49,7 +51,7 @@ pub use reductions::{reduce, Reduced};
 pub const SCRATCH: usize = 65_536;
 
 /// The bytes that a buffer for a rule file must have: the longest rule file.
-pub const RULE_OUT: usize = 12_308;
+pub const RULE_OUT: usize = 16_404;
 
 /// The bytes that a buffer for the classes must have: two for each pair of 64 elements.
 pub const CLASSES_OUT: usize = 8_192;

@@ -14,12 +14,12 @@ pub struct Classes {
     pub joins: usize,
 }
 
-/// Whether the values of u and v decide if a lasso is accepted.
+/// Whether the values of u and v decide a lasso's grade.
 #[derive(Clone, Copy, Debug, PartialEq, Eq, Hash)]
 pub enum Strength {
-    /// Any two lassos with equal values are both accepted or both not.
+    /// Any two lassos with equal values have equal grades.
     Strong,
-    /// Some two are not.
+    /// Some two have not.
     Weak,
 }
 
@@ -30,12 +30,12 @@ pub struct Complemented {
     pub length: usize,
 }
 
-/// Whether a first marking's lassos are among those of a second.
+/// Whether a first marking grades no lasso higher than a second.
 #[derive(Clone, Copy, Debug, PartialEq, Eq, Hash)]
 pub enum Inclusion {
-    /// Each lasso accepted under the first marking is accepted under the second.
+    /// No lasso is graded higher by the first marking than by the second.
     Included,
-    /// The lasso that was written is accepted under the first and not under the second.
+    /// The lasso that was written is graded higher by the first.
     NotIncluded {
         /// How many letters of u were written.
         u: usize,
@@ -65,7 +65,8 @@ pub fn strong(rule: &[u8], scratch: &mut [u8]) -> Result<Strength, Refused> {
     })
 }
 
-/// The complement of a strong rule: the same elements, marking every linked pair whose lassos are not accepted.
+/// The complement of a strong rule: the same elements, and the grade 3 − g for each lasso of grade g. It marks every linked pair
+/// whose lassos it grades 1 or more, with that grade.
 ///
 /// `out` has [`RULE_OUT`](crate::RULE_OUT) bytes or more. A weak rule is refused.
 pub fn complement(
@@ -77,9 +78,9 @@ pub fn complement(
     Ok(Complemented { length })
 }
 
-/// Whether each lasso that the rule accepts is accepted under the marks section `second` in place of the rule's own.
+/// Whether no lasso is graded higher by the rule's own marks than by the marks section `second` in their place.
 ///
-/// Where not, a lasso that tells the two apart is written to `u` ([`U_OUT`](crate::U_OUT) bytes or more, 1 to n letters
+/// Otherwise one that is graded higher is written to `u` ([`U_OUT`](crate::U_OUT) bytes or more, 1 to n letters
 /// written) and `v` ([`V_OUT`](crate::V_OUT) bytes or more, 1 to (n+1)² − 1 letters written). The rule may be weak.
 pub fn included(
     rule: &[u8],

@@ -1,7 +1,7 @@
 //! Monitors: events are read one by one, and marks divide them into what came before and what came since. A moment can be kept under
 //! a name and returned to.
 
-use crate::answer::{foreign, unpack, unpack_decided};
+use crate::answer::{foreign, unpack, unpack_graded};
 use crate::{raw, Refused};
 
 /// What a monitor keeps of the events: two values, each an element or [`NONE`](crate::NONE).
@@ -30,12 +30,12 @@ impl std::fmt::Display for NotMoved {
 
 impl std::error::Error for NotMoved {}
 
-/// Whether the lassos that have a monitor's values are accepted, and how many turns settle their cycle.
+/// The grade of the lassos that have a monitor's values, and how many turns settle their cycle.
 #[derive(Clone, Copy, Debug, PartialEq, Eq, Hash)]
 pub struct Verdict {
-    /// Whether they are all accepted; else none is.
-    pub accepted: bool,
-    /// How many turns of the cycle together have a value that repeating no longer changes, accepted or not: the least c, 1 to the
+    /// Their grade, 0 to 3: that of each of them.
+    pub grade: u8,
+    /// How many turns of the cycle together have a value that repeating no longer changes, whatever the grade: the least c, 1 to the
     /// number of elements, with x^c·x^c = x^c, where x is the value of since.
     pub turns: usize,
 }
@@ -93,14 +93,14 @@ pub fn return_to(
     moved(monitor, packed)
 }
 
-/// Whether a strong rule accepts the lassos whose start has the value `before` and whose cycle has the value `since`.
+/// The grade that a strong rule gives to the lassos whose start has the value `before` and whose cycle has the value `since`.
 ///
 /// Where `before` is [`NONE`](crate::NONE) the lassos are those without a start: their cycle alone. A monitor whose `since` is
 /// [`NONE`](crate::NONE), and a weak rule, are refused.
 pub fn verdict(rule: &[u8], monitor: Monitor, scratch: &mut [u8]) -> Result<Verdict, Refused> {
     let packed = raw::verdict(rule, monitor.before, monitor.since, scratch);
-    let (accepted, turns) = unpack_decided(packed)?;
-    Ok(Verdict { accepted, turns })
+    let (grade, turns) = unpack_graded(packed)?;
+    Ok(Verdict { grade, turns })
 }
 
 fn moved(monitor: Monitor, packed: u64) -> Result<Monitor, NotMoved> {

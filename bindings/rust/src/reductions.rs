@@ -1,4 +1,4 @@
-//! The smallest strong rule with the same lassos.
+//! The smallest strong rule with the same grades.
 
 use crate::answer::unpack_length;
 use crate::{raw, Refused};
@@ -10,7 +10,8 @@ pub struct Reduced {
     pub length: usize,
 }
 
-/// The smallest strong rule with the same lassos as a strong rule; it marks every linked pair whose lassos are accepted.
+/// The smallest strong rule that gives every lasso the grade that a strong rule gives it; it marks every linked pair whose lassos it
+/// grades 1 or more, with that grade.
 ///
 /// `out` has [`RULE_OUT`](crate::RULE_OUT) bytes or more. A weak rule is refused.
 pub fn reduce(rule: &[u8], out: &mut [u8], scratch: &mut [u8]) -> Result<Reduced, Refused> {

@@ -1,4 +1,5 @@
-//! The small rules of document 01, each with the answer that the document gives; and the turns of cycles.
+//! The small rules of document 01, with grade 3 on each mark, each with the answer that the document gives; further grades, and the turns
+//! of cycles.
 
 use duknavet::{automaton_rule, classes, complement, event, fresh, included, keep, mark, member};
 use duknavet::{reduce, return_to, strong, verdict, Classes, Inclusion, Membership, Monitor};
@@ -6,13 +7,15 @@ use duknavet::{Refusal, Refused, Strength, Verdict};
 use duknavet::{CLASSES_OUT, NONE, POINTS, RULE_OUT, SCRATCH, U_OUT, V_OUT, WORD};
 
 /// Letter 0 without end, over letters 0 and 1.
-const W: [u8; 12] = [2, 0, 0, 0, 1, 2, 0, 1, 1, 0, 0, 0];
+const W: [u8; 13] = [2, 0, 0, 0, 1, 2, 0, 1, 1, 0, 0, 0, 3];
 /// W with all 3 linked pairs marked.
-const W_ALL: [u8; 16] = [2, 0, 0, 0, 1, 2, 0, 1, 3, 0, 0, 0, 0, 1, 1, 1];
+const W_ALL: [u8; 19] = [2, 0, 0, 0, 1, 2, 0, 1, 3, 0, 0, 0, 3, 0, 1, 3, 1, 1, 3];
+/// Grade 3 where letter 0 comes without end, 2 where it comes and ends, 1 where it never comes.
+const W_GRADED: [u8; 19] = [2, 0, 0, 0, 1, 2, 0, 1, 3, 0, 0, 0, 3, 0, 1, 2, 1, 1, 1];
 /// The group of two elements, with one of two conjugate pairs marked.
-const Z: [u8; 12] = [2, 0, 1, 1, 0, 2, 1, 0, 1, 0, 0, 0];
+const Z: [u8; 13] = [2, 0, 1, 1, 0, 2, 1, 0, 1, 0, 0, 0, 3];
 /// Z with letter 0 only.
-const Z_ONE_LETTER: [u8; 11] = [2, 0, 1, 1, 0, 1, 1, 1, 0, 0, 0];
+const Z_ONE_LETTER: [u8; 12] = [2, 0, 1, 1, 0, 1, 1, 1, 0, 0, 0, 3];
 /// State 0 initial, state 1 final; letter 0 leads to state 1, letter 1 to state 0.
 const M10: [u8; 18] = [2, 1, 2, 2, 4, 0, 0, 0, 1, 0, 1, 0, 1, 0, 1, 1, 1, 0];
 
@@ -41,18 +44,8 @@ fn lasso(rule: &[u8], u: &[u8], v: &[u8]) -> Result<Membership, Refused> {
     member(rule, u, v, &mut scratch())
 }
 
-fn accepted(turns: usize) -> Result<Membership, Refused> {
-    Ok(Membership {
-        accepted: true,
-        turns,
-    })
-}
-
-fn not_accepted(turns: usize) -> Result<Membership, Refused> {
-    Ok(Membership {
-        accepted: false,
-        turns,
-    })
+fn graded(grade: u8, turns: usize) -> Result<Membership, Refused> {
+    Ok(Membership { grade, turns })
 }
 
 /// The remainders by 64 under addition, with one letter, of image 1.
@@ -67,6 +60,12 @@ fn cyclic(marks: &[u8]) -> Vec<u8> {
 fn reduced(rule: &[u8]) -> Result<Vec<u8>, Refused> {
     let mut out = vec![0; RULE_OUT];
     let length = reduce(rule, &mut out, &mut scratch())?.length;
+    Ok(out[..length].to_vec())
+}
+
+fn complemented(rule: &[u8]) -> Result<Vec<u8>, Refused> {
+    let mut out = vec![0; RULE_OUT];
+    let length = complement(rule, &mut out, &mut scratch())?.length;
     Ok(out[..length].to_vec())
 }
 
@@ -93,17 +92,17 @@ fn m1_w_is_strong_and_its_own_reduction() {
 
 #[test]
 fn m2_w_accepts() {
-    assert_eq!(lasso(&W, &[1], &[0]), accepted(1));
+    assert_eq!(lasso(&W, &[1], &[0]), graded(3, 1));
 }
 
 #[test]
 fn m3_w_does_not_accept() {
-    assert_eq!(lasso(&W, &[0], &[1]), not_accepted(1));
+    assert_eq!(lasso(&W, &[0], &[1]), graded(0, 1));
 }
 
 #[test]
 fn m4_w_with_every_mark_reduces_to_one_element() {
-    assert_eq!(reduced(&W_ALL), Ok(vec![1, 0, 2, 0, 0, 1, 0, 0, 0]));
+    assert_eq!(reduced(&W_ALL), Ok(vec![1, 0, 2, 0, 0, 1, 0, 0, 0, 3]));
 }
 
 #[test]
@@ -114,11 +113,10 @@ fn m5_z_has_one_class() {
 #[test]
 fn m6_z_is_weak() {
     assert_eq!(strength(&Z), Ok(Strength::Weak));
-    assert_eq!(lasso(&Z, &[0], &[1]), not_accepted(1));
-    assert_eq!(lasso(&Z, &[0], &[0, 0]), accepted(1));
+    assert_eq!(lasso(&Z, &[0], &[1]), graded(0, 1));
+    assert_eq!(lasso(&Z, &[0], &[0, 0]), graded(3, 1));
     assert_eq!(reduced(&Z), refused(12, 1, 0));
-    let written = complement(&Z, &mut vec![0; RULE_OUT], &mut scratch());
-    assert_eq!(written, refused(12, 1, 0));
+    assert_eq!(complemented(&Z), refused(12, 1, 0));
     let monitor = Monitor {
         before: 0,
         since: 0,
@@ -165,7 +163,7 @@ fn counts_of_elements_and_letters() {
 
 #[test]
 fn an_unlinked_mark() {
-    let rule = [2, 0, 0, 0, 1, 2, 0, 1, 1, 0, 1, 0];
+    let rule = [2, 0, 0, 0, 1, 2, 0, 1, 1, 0, 1, 0, 3];
     // 1·0 = 0 in W's table, so (1, 0) is not linked; it stands from byte 10 on.
     assert_eq!(strength(&rule), refused(7, 1, 10));
 }
@@ -174,46 +172,46 @@ fn an_unlinked_mark() {
 fn lengths_of_words() {
     assert_eq!(lasso(&W, &[1], &[]), refused(11, 2, 0));
     assert_eq!(lasso(&W, &[1], &[0; WORD + 1]), refused(11, 2, 0));
-    assert_eq!(lasso(&W, &[1], &[0]), accepted(1));
-    assert_eq!(lasso(&W, &[1], &[0; WORD]), accepted(1));
+    assert_eq!(lasso(&W, &[1], &[0]), graded(3, 1));
+    assert_eq!(lasso(&W, &[1], &[0; WORD]), graded(3, 1));
     assert_eq!(lasso(&W, &[], &[]), refused(11, 2, 0));
     assert_eq!(lasso(&W, &[1; WORD + 1], &[0]), refused(11, 1, 0));
-    assert_eq!(lasso(&W, &[1; WORD], &[0]), accepted(1));
+    assert_eq!(lasso(&W, &[1; WORD], &[0]), graded(3, 1));
 }
 
 #[test]
 fn turns_of_a_cycle() {
     // In Z letter 0 stands for 1, and 1 + 1 = 0: two turns settle it. Letter 1 stands for 0, and one does.
-    assert_eq!(lasso(&Z, &[0], &[0]), accepted(2));
-    assert_eq!(lasso(&Z, &[1], &[0, 1]), accepted(2));
-    assert_eq!(lasso(&Z, &[0], &[1]), not_accepted(1));
+    assert_eq!(lasso(&Z, &[0], &[0]), graded(3, 2));
+    assert_eq!(lasso(&Z, &[1], &[0, 1]), graded(3, 2));
+    assert_eq!(lasso(&Z, &[0], &[1]), graded(0, 1));
     let no_marks = [2, 0, 1, 1, 0, 2, 1, 0, 0, 0];
-    assert_eq!(lasso(&no_marks, &[0], &[0]), not_accepted(2));
+    assert_eq!(lasso(&no_marks, &[0], &[0]), graded(0, 2));
     // The remainders by 4, weak: both cycles have the value 2.
     let four = [
-        4, 0, 1, 2, 3, 1, 2, 3, 0, 2, 3, 0, 1, 3, 0, 1, 2, 2, 1, 2, 1, 0, 0, 0,
+        4, 0, 1, 2, 3, 1, 2, 3, 0, 2, 3, 0, 1, 3, 0, 1, 2, 2, 1, 2, 1, 0, 0, 0, 3,
     ];
     assert_eq!(strength(&four), Ok(Strength::Weak));
-    assert_eq!(lasso(&four, &[0], &[1]), not_accepted(2));
-    assert_eq!(lasso(&four, &[0], &[0, 0]), accepted(2));
-    assert_eq!(lasso(&four, &[1], &[0]), accepted(4));
+    assert_eq!(lasso(&four, &[0], &[1]), graded(0, 2));
+    assert_eq!(lasso(&four, &[0], &[0, 0]), graded(3, 2));
+    assert_eq!(lasso(&four, &[1], &[0]), graded(3, 4));
 }
 
 #[test]
 fn turns_in_the_cyclic_group_of_64() {
-    let (marked, no_marks) = (cyclic(&[1, 0, 0, 0]), cyclic(&[0, 0]));
+    let (marked, no_marks) = (cyclic(&[1, 0, 0, 0, 2]), cyclic(&[0, 0]));
     for length in 1..=64 {
         // The least number of turns whose letters together are a multiple of 64.
         let turns = (1..=64).find(|c| c * length % 64 == 0).expect("64 is one");
         let v = vec![0; length];
-        assert_eq!(lasso(&marked, &[0], &v), accepted(turns));
-        assert_eq!(lasso(&no_marks, &[0], &v), not_accepted(turns));
+        assert_eq!(lasso(&marked, &[0], &v), graded(2, turns));
+        assert_eq!(lasso(&no_marks, &[0], &v), graded(0, turns));
         for before in [0, 1, 63] {
             let since = length % 64;
             let monitor = Monitor { before, since };
-            for (rule, accepted) in [(&marked, true), (&no_marks, false)] {
+            for (rule, grade) in [(&marked, 2), (&no_marks, 0)] {
                 let answer = verdict(rule, monitor, &mut scratch());
-                assert_eq!(answer, Ok(Verdict { accepted, turns }));
+                assert_eq!(answer, Ok(Verdict { grade, turns }));
             }
         }
     }
@@ -221,20 +219,20 @@ fn turns_in_the_cyclic_group_of_64() {
 
 #[test]
 fn lassos_with_an_empty_start() {
-    assert_eq!(lasso(&W, &[], &[0]), accepted(1));
-    assert_eq!(lasso(&W, &[], &[1]), not_accepted(1));
-    // Z is weak: 1 for ever is accepted, though 0, then 1 for ever is not.
-    assert_eq!(lasso(&Z, &[], &[1]), accepted(1));
+    assert_eq!(lasso(&W, &[], &[0]), graded(3, 1));
+    assert_eq!(lasso(&W, &[], &[1]), graded(0, 1));
+    // Z is weak: 1 for ever has grade 3, and 0, then 1 for ever grade 0.
+    assert_eq!(lasso(&Z, &[], &[1]), graded(3, 1));
     let rule = translated(&M10).expect("few matrices");
-    assert_eq!(lasso(&rule, &[], &[0]), accepted(1));
-    assert_eq!(lasso(&rule, &[], &[1]), not_accepted(1));
+    assert_eq!(lasso(&rule, &[], &[0]), graded(3, 1));
+    assert_eq!(lasso(&rule, &[], &[1]), graded(0, 1));
 }
 
 #[test]
 fn an_automaton_that_accepts_nothing() {
     // An idle initial state, and a final one that loops where no run comes.
     let rule = translated(&[2, 1, 2, 1, 1, 0, 1, 0, 1]).expect("few matrices");
-    assert_eq!(lasso(&rule, &[0], &[0]), not_accepted(1));
+    assert_eq!(lasso(&rule, &[0], &[0]), graded(0, 1));
 }
 
 #[test]
@@ -246,19 +244,13 @@ fn a_monitor_of_w() {
     assert_eq!(verdict(&W, start, scratch), refused(11, 1, 0));
     let first = event(&W, start, 1, scratch).expect("a letter of W");
     // No mark yet: 1 for ever.
-    let of_the_cycle = Verdict {
-        accepted: false,
-        turns: 1,
-    };
+    let of_the_cycle = Verdict { grade: 0, turns: 1 };
     assert_eq!(verdict(&W, first, scratch), Ok(of_the_cycle));
     let marked = mark(&W, first, scratch).expect("a monitor of W");
     assert_eq!((marked.before, marked.since), (1, NONE));
     let second = event(&W, marked, 0, scratch).expect("a letter of W");
     assert_eq!((second.before, second.since), (1, 0));
-    let judged = Verdict {
-        accepted: true,
-        turns: 1,
-    };
+    let judged = Verdict { grade: 3, turns: 1 };
     assert_eq!(verdict(&W, second, scratch), Ok(judged));
     let refusal = event(&W, second, 2, scratch).expect_err("W has two letters");
     assert_eq!(refusal.monitor, second);
@@ -295,16 +287,125 @@ fn named_points_of_w() {
 #[test]
 fn complement_and_inclusion_of_w() {
     let scratch = &mut scratch();
-    let mut out = vec![0; RULE_OUT];
-    let length = complement(&W, &mut out, scratch).expect("strong").length;
-    let other = &out[..length];
-    assert_eq!(lasso(other, &[1], &[0]), not_accepted(1));
-    assert_eq!(lasso(other, &[0], &[1]), accepted(1));
+    let other = complemented(&W).expect("strong");
+    assert_eq!(lasso(&other, &[1], &[0]), graded(0, 1));
+    assert_eq!(lasso(&other, &[0], &[1]), graded(3, 1));
     let (u, v) = (&mut vec![0; U_OUT], &mut vec![0; V_OUT]);
     let every = &W_ALL[8..];
     assert_eq!(included(&W, every, u, v, scratch), Ok(Inclusion::Included));
     let Ok(Inclusion::NotIncluded { u: i, v: j }) = included(&W_ALL, &W[8..], u, v, scratch) else {
         panic!("W does not accept letter 1 for ever");
     };
-    assert_eq!(lasso(&W, &u[..i], &v[..j]), not_accepted(1));
+    assert_eq!(lasso(&W, &u[..i], &v[..j]), graded(0, 1));
+}
+
+#[test]
+fn three_grades() {
+    assert_eq!(strength(&W_GRADED), Ok(Strength::Strong));
+    for (grade, u, v) in [
+        (3, &[1][..], &[0][..]),
+        (3, &[], &[1, 0]),
+        (2, &[0], &[1]),
+        (1, &[1], &[1]),
+        (1, &[], &[1]),
+    ] {
+        assert_eq!(lasso(&W_GRADED, u, v), graded(grade, 1));
+    }
+    for (grade, before, since) in [(3, 1, 0), (3, NONE, 0), (2, 0, 1), (1, 1, 1), (1, NONE, 1)] {
+        let answer = verdict(&W_GRADED, Monitor { before, since }, &mut scratch());
+        assert_eq!(answer, Ok(Verdict { grade, turns: 1 }));
+    }
+    // One element would give all lassos one grade; and every linked pair is marked already, with the grade of its lassos.
+    assert_eq!(reduced(&W_GRADED), Ok(W_GRADED.to_vec()));
+    let other = [2, 0, 0, 0, 1, 2, 0, 1, 2, 0, 0, 1, 1, 1, 1, 2];
+    assert_eq!(complemented(&W_GRADED), Ok(other.to_vec()));
+    assert_eq!(complemented(&other), Ok(W_GRADED.to_vec()));
+}
+
+#[test]
+fn samples_are_these_rules() {
+    let w = include_bytes!("../../../samples/letter-0-without-end.rule");
+    let three_grades = include_bytes!("../../../samples/three-grades.rule");
+    let not_associative = include_bytes!("../../../samples/not-associative.rule");
+    assert_eq!((w, three_grades), (&W, &W_GRADED));
+    assert_eq!(strength(not_associative), refused(5, 1, 1));
+}
+
+#[test]
+fn a_reduction_keeps_the_grade() {
+    let rule = [2, 0, 1, 1, 0, 1, 1, 1, 0, 0, 0, 2];
+    assert_eq!(reduced(&rule), Ok(vec![1, 0, 1, 0, 1, 0, 0, 0, 2]));
+    assert_eq!(lasso(&rule, &[0], &[0]), graded(2, 2));
+    // W with every mark, of two grades: one element would not do.
+    let mut two_grades = W_ALL;
+    two_grades[12] = 2;
+    assert_eq!(reduced(&two_grades), Ok(two_grades.to_vec()));
+}
+
+#[test]
+fn strong_for_grade_1_and_weak_for_grade_2() {
+    // Z with both of its linked pairs marked: every lasso has grade 1 or more, and the lassos of grade 2 are those of Z.
+    let rule = [2, 0, 1, 1, 0, 2, 1, 0, 2, 0, 0, 0, 2, 1, 0, 1];
+    assert_eq!(strength(&rule), Ok(Strength::Weak));
+    assert_eq!(lasso(&rule, &[0], &[1]), graded(1, 1));
+    assert_eq!(lasso(&rule, &[0], &[0, 0]), graded(2, 1));
+    assert_eq!(reduced(&rule), refused(12, 1, 0));
+    let mut equal_grades = rule;
+    equal_grades[15] = 2;
+    assert_eq!(strength(&equal_grades), Ok(Strength::Strong));
+}
+
+#[test]
+fn inclusion_compares_grades() {
+    let scratch = &mut scratch();
+    let (u, v) = (&mut vec![0; U_OUT], &mut vec![0; V_OUT]);
+    let own = &W_GRADED[8..];
+    // The same pairs, and (0, 1) with 3 in place of 2.
+    let mut higher = W_GRADED;
+    higher[15] = 3;
+    assert_eq!(
+        included(&W_GRADED, own, u, v, scratch),
+        Ok(Inclusion::Included)
+    );
+    assert_eq!(
+        included(&W_GRADED, &higher[8..], u, v, scratch),
+        Ok(Inclusion::Included)
+    );
+    let Ok(Inclusion::NotIncluded { u: i, v: j }) = included(&higher, own, u, v, scratch) else {
+        panic!("the pair (0, 1) has a lower grade");
+    };
+    assert_eq!(lasso(&higher, &u[..i], &v[..j]), graded(3, 1));
+    assert_eq!(lasso(&W_GRADED, &u[..i], &v[..j]), graded(2, 1));
+}
+
+#[test]
+fn an_automaton_marks_with_grade_3() {
+    let rule = translated(&M10).expect("few matrices");
+    let marks = [2, 0, 0, 0, 3, 2, 2, 3];
+    assert_eq!(rule[13..], marks);
+    assert_eq!(reduced(&rule), Ok(W.to_vec()));
+}
+
+#[test]
+fn grades_that_there_are_none_of() {
+    let second =
+        |bytes: &[u8]| included(&W, bytes, &mut [0; U_OUT], &mut [0; V_OUT], &mut scratch());
+    for grade in [0, 4, 255] {
+        let mut rule = W;
+        rule[12] = grade;
+        assert_eq!(strength(&rule), refused(3, 1, 12));
+        assert_eq!(second(&[1, 0, 0, 0, grade]), refused(3, 2, 4));
+        // In the order of the file: behind the mark's own s and e, before the next mark.
+        assert_eq!(second(&[2, 0, 0, 2, grade, 2, 0, 3]), refused(3, 2, 3));
+        assert_eq!(second(&[2, 0, 0, 0, grade, 2, 0, 3]), refused(3, 2, 4));
+    }
+    // The same pair with another grade stands twice all the same.
+    assert_eq!(second(&[2, 0, 0, 0, 3, 0, 0, 1]), refused(8, 2, 5));
+    assert_eq!(second(&[2, 0, 0, 0, 3, 0, 1]), refused(1, 2, 7));
+}
+
+#[test]
+fn files_with_two_bytes_a_mark_are_cut_short() {
+    let before = [2, 0, 0, 0, 1, 2, 0, 1, 1, 0, 0, 0];
+    assert_eq!(strength(&before), refused(1, 1, 12));
 }

@@ -1,4 +1,5 @@
-/* Each exported function called through the header, on rule W of document 01; for more turns than one, on sums modulo 2. */
+/* Each exported function called through the header, on rule W of document 01, its mark with grade 3; for the other grades on W with
+ * three marks, for more turns than one on sums modulo 2. */
 #include <stdio.h>
 #include <string.h>
 
@@ -24,29 +25,32 @@ static int is_result(uint64_t answer, size_t a, size_t b, size_t c)
 
 int main(void)
 {
-    static const uint8_t rule[] = {2, 0, 0, 0, 1, 2, 0, 1, 1, 0, 0, 0};
+    static const uint8_t rule[] = {2, 0, 0, 0, 1, 2, 0, 1, 1, 0, 0, 0, 3};
     static const uint8_t no_marks[] = {0, 0};
-    static const uint8_t one_element[] = {1, 0, 2, 0, 0, 1, 0, 0, 0};
-    static const uint8_t every_mark[] = {2, 0, 0, 0, 1, 2, 0, 1, 3, 0, 0, 0, 0, 1, 1, 1};
+    static const uint8_t one_element[] = {1, 0, 2, 0, 0, 1, 0, 0, 0, 3};
+    static const uint8_t every_mark[] = {2, 0, 0, 0, 1, 2, 0, 1, 3, 0, 0, 0, 3, 0, 1, 3, 1, 1, 3};
+    static const uint8_t three_grades[] = {2, 0, 0, 0, 1, 2, 0, 1, 3, 0, 0, 0, 3, 0, 1, 2, 1, 1, 1};
     static const uint8_t automaton[] = {2, 1, 2, 2, 4, 0, 0, 0, 1, 0, 1, 0, 1, 0, 1, 1, 1, 0};
-    static const uint8_t sums[] = {2, 0, 1, 1, 0, 2, 1, 0, 1, 0, 0, 0};
+    static const uint8_t sums[] = {2, 0, 1, 1, 0, 2, 1, 0, 1, 0, 0, 0, 2};
     static const uint8_t one_letter[] = {2, 0, 1, 1, 0, 1, 1, 0, 0};
     static const uint8_t letter[] = {0, 1, 2};
     uint64_t answer;
 
     expect("classes", is_result(duknavet_classes(rule, sizeof rule, classes, sizeof classes, scratch, sizeof scratch), 3, 3, 0));
     expect("strong", is_result(duknavet_strong(rule, sizeof rule, scratch, sizeof scratch), 1, 0, 0));
-    expect("accepted", is_result(duknavet_member(rule, sizeof rule, letter + 1, 1, letter, 1, scratch, sizeof scratch), 1, 1, 0));
-    expect("not accepted", is_result(duknavet_member(rule, sizeof rule, letter, 1, letter + 1, 1, scratch, sizeof scratch), 0, 1, 0));
-    expect("two turns", is_result(duknavet_member(sums, sizeof sums, letter, 1, letter, 1, scratch, sizeof scratch), 1, 2, 0));
-    expect("empty start", is_result(duknavet_member(rule, sizeof rule, letter, 0, letter, 1, scratch, sizeof scratch), 1, 1, 0));
-    expect("complement", is_result(duknavet_complement(rule, sizeof rule, out, sizeof out, scratch, sizeof scratch), 14, 0, 0));
-    expect("reduce", is_result(duknavet_reduce(every_mark, sizeof every_mark, out, sizeof out, scratch, sizeof scratch), 9, 0, 0));
+    expect("grade 3", is_result(duknavet_member(rule, sizeof rule, letter + 1, 1, letter, 1, scratch, sizeof scratch), 3, 1, 0));
+    expect("grade 0", is_result(duknavet_member(rule, sizeof rule, letter, 1, letter + 1, 1, scratch, sizeof scratch), 0, 1, 0));
+    answer = duknavet_member(three_grades, sizeof three_grades, letter, 1, letter + 1, 1, scratch, sizeof scratch);
+    expect("grade 2", is_result(answer, 2, 1, 0));
+    expect("two turns", is_result(duknavet_member(sums, sizeof sums, letter, 1, letter, 1, scratch, sizeof scratch), 2, 2, 0));
+    expect("empty start", is_result(duknavet_member(rule, sizeof rule, letter, 0, letter, 1, scratch, sizeof scratch), 3, 1, 0));
+    expect("complement", is_result(duknavet_complement(rule, sizeof rule, out, sizeof out, scratch, sizeof scratch), 16, 0, 0));
+    expect("reduce", is_result(duknavet_reduce(every_mark, sizeof every_mark, out, sizeof out, scratch, sizeof scratch), 10, 0, 0));
     expect("reduced", memcmp(out, one_element, sizeof one_element) == 0);
     answer = duknavet_included(rule, sizeof rule, no_marks, sizeof no_marks, u, sizeof u, v, sizeof v, scratch, sizeof scratch);
     expect("included", duknavet_refusal_of(answer) == DUKNAVET_RESULT && duknavet_field(answer, 0) == 0);
     expect("witness", is_result(duknavet_member(rule, sizeof rule, u, duknavet_field(answer, 1), v, duknavet_field(answer, 2),
-                                                scratch, sizeof scratch), 1, 1, 0));
+                                                scratch, sizeof scratch), 3, 1, 0));
     expect("fresh", is_result(duknavet_fresh(), DUKNAVET_NONE, DUKNAVET_NONE, 0));
     expect("event", is_result(duknavet_event(rule, sizeof rule, 0, 1, 1, scratch, sizeof scratch), 0, 1, 0));
     expect("mark", is_result(duknavet_mark(rule, sizeof rule, DUKNAVET_NONE, 1, scratch, sizeof scratch), 1, DUKNAVET_NONE, 0));
@@ -56,7 +60,9 @@ int main(void)
     expect("return", is_result(answer, 0, 1, 0));
     answer = duknavet_return(rule, sizeof rule, 1, DUKNAVET_NONE, 6, points, sizeof points, scratch, sizeof scratch);
     expect("never kept", duknavet_refusal_of(answer) == DUKNAVET_NAME_NEVER_KEPT && duknavet_input_of(answer) == 1);
-    expect("verdict", is_result(duknavet_verdict(rule, sizeof rule, 1, 0, scratch, sizeof scratch), 1, 1, 0));
+    expect("verdict", is_result(duknavet_verdict(rule, sizeof rule, 1, 0, scratch, sizeof scratch), 3, 1, 0));
+    answer = duknavet_verdict(three_grades, sizeof three_grades, 1, 1, scratch, sizeof scratch);
+    expect("verdict, grade 1", is_result(answer, 1, 1, 0));
     expect("verdict, two turns", is_result(duknavet_verdict(one_letter, sizeof one_letter, 0, 1, scratch, sizeof scratch), 0, 2, 0));
     expect("no mark", is_result(duknavet_verdict(rule, sizeof rule, DUKNAVET_NONE, 1, scratch, sizeof scratch), 0, 1, 0));
     answer = duknavet_automaton_rule(automaton, sizeof automaton, out, sizeof out, scratch, sizeof scratch);

@@ -8,12 +8,14 @@ mod definitions;
 use definitions::checks;
 use definitions::cycles::all_words;
 use definitions::order::{backwards, by_first_words, first_words, marks_rise, renumbered};
-use definitions::rule::Rule;
+use definitions::rule::{Mark, Pair, Rule};
 
 /// The rule of document 01's automaton M10: elements with the first words 0, 1 and 0 1, two marks.
-const M10_RULE: [u8; 19] = [3, 0, 2, 2, 0, 1, 2, 0, 2, 2, 2, 0, 1, 2, 0, 0, 0, 2, 2];
-/// The complement of W, "letter 0 without end": three marks would be linked, two are written.
-const W_COMPLEMENT: [u8; 14] = [2, 0, 0, 0, 1, 2, 0, 1, 2, 0, 0, 1, 1, 1];
+const M10_RULE: [u8; 21] = [
+    3, 0, 2, 2, 0, 1, 2, 0, 2, 2, 2, 0, 1, 2, 0, 0, 0, 3, 2, 2, 3,
+];
+/// The complement of W, "letter 0 without end", with grades that fall: three marks would be linked, two are written.
+const W_COMPLEMENT: [u8; 16] = [2, 0, 0, 0, 1, 2, 0, 1, 2, 0, 0, 1, 3, 1, 1, 1];
 /// The sets of three letters, each letter its own set: first words 0, 1, 2, 0 1, 0 2, 1 2, 0 1 2.
 const SETS: [u8; 7] = [1, 2, 4, 3, 5, 6, 7];
 
@@ -30,8 +32,16 @@ fn sets() -> Rule {
     }
     bytes.extend([3, 0, 1, 2, 0, 0]);
     let rule = read(&bytes);
-    let pairs = rule.morphism.linked_pairs();
-    rule.morphism.with(pairs)
+    let marks = marked(&rule.morphism.linked_pairs());
+    rule.morphism.with(marks)
+}
+
+/// Marks of these pairs, with the grades 3, 2, 1 in turn: the order of grades is another than that of pairs.
+fn marked(pairs: &[Pair]) -> Vec<Mark> {
+    let grades = [3, 2, 1].into_iter().cycle();
+    let each = pairs.iter().zip(grades);
+    each.map(|(pair, grade)| Mark { pair: *pair, grade })
+        .collect()
 }
 
 /// Every order of the numbers below n.
@@ -86,10 +96,12 @@ fn every_other_order_of_the_marks_is_found() {
             assert!(marks_rise(&marks).is_err(), "{marks:?}");
         }
     }
-    assert!(marks_rise(&[(0, 1), (1, 0), (1, 0)]).is_err());
-    assert!(marks_rise(&[(0, 1), (1, 1), (1, 0)]).is_err());
+    let rise = |pairs: &[Pair]| marks_rise(&marked(pairs));
+    assert!(rise(&[(0, 1), (1, 0), (1, 1)]).is_ok());
+    assert!(rise(&[(0, 1), (1, 0), (1, 0)]).is_err());
+    assert!(rise(&[(0, 1), (1, 1), (1, 0)]).is_err());
     // by e, then by s
-    assert!(marks_rise(&[(0, 0), (1, 0), (0, 1)]).is_err());
+    assert!(rise(&[(0, 0), (1, 0), (0, 1)]).is_err());
 }
 
 #[test]

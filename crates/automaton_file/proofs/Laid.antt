@@ -13,10 +13,9 @@ use mir.Facts.{eqb-yes, yes-eqb}
 use Rattle.finite.proofs.Tests.{T-and, T-and-left, T-and-right, T-dec, T-true, T-false}
 use Rattle.finite.specs.Search.{anyBelow}
 use Rattle.finite.proofs.Search.{any-zero, any-add-one, any-intro, any-elim}
-use Rattle.formats.specs.RuleFile.{oneIf}
 use Rattle.formats.specs.AutomatonFile.{statesOf, lettersOf, transitionsOf, fromOf, letterOf, toOf, isTransition, hasTransition}
 use Rattle.formats.proofs.GoodAutomaton.{GoodSections}
-use Rattle.automaton_file.specs.Answers.{tripleIndex, indexOf, BlankRoom, TransitionsLaid}
+use Rattle.automaton_file.specs.Answers.{tripleIndex, indexOf, BlankRoom, TransitionsLaid, oneIf}
 use Rattle.automaton_file.proofs.RepeatedOrder.{Stood, Fresh}
 
 -- a triple's index is below 576

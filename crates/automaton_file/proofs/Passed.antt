@@ -23,14 +23,14 @@ module _ (input : ℕ) (bytes : List ℕ) (all : FirstFailure (layoutChecks inpu
   triple-below : {at bound : ℕ} (i : ℕ) → i < transitionWidth * transitionsOf bytes → transitionsAt bytes + (2 + i) ≡ at → tripleBound m k i ≡ bound → getD bytes at 0 < bound
   unfolding transitionsOf
   triple-below {at} i h e b =
-      subst (λ (x : ℕ). getD bytes at 0 < x) b (subst (λ (x : ℕ). getD bytes x 0 < tripleBound m k i) e (transitions-good input bytes all .entries-below i h))
+      subst (λ (x : ℕ). getD bytes at 0 < x) b (subst (λ (x : ℕ). getD bytes x 0 < tripleBound m k i) e (transitions-good input bytes all .entries-good i h .below))
 
   pub good-sections : GoodSections bytes
   unfolding kindAt lettersOf transitionsOf transitionAt fromOf letterOf toOf automatonEnd
   good-sections = record {
     states-some = states-good input bytes all .above;
     states-small = states-good input bytes all .within;
-    kinds = λ p h. subst (λ (x : ℕ). getD bytes x 0 < 4) (zero-add _) (states-good input bytes all .entries-below p h);
+    kinds = λ p h. subst (λ (x : ℕ). getD bytes x 0 < 4) (zero-add _) (states-good input bytes all .entries-good p h .below);
     letters-some = letters-good input bytes all .above;
     letters-small = letters-good input bytes all .within;
     transitions-small = transitions-good input bytes all .within;

@@ -1,11 +1,10 @@
 -- What the answers of this crate's functions say. Assumes nothing.
 use Prim.Native.Nat.{ℕ, _+_, _*_, _≤_, _<_}
 use mathlib.Core.Path.{_≡_}
-use mathlib.Core.Bool.{Bool}
+use mathlib.Core.Bool.{Bool, true, false}
 use mathlib.Core.List.{List}
 use lib.ListN.{length, getD}
 use Rattle.answer.specs.Checks.{Verdict, passed, refused, FirstFailure}
-use Rattle.formats.specs.RuleFile.{oneIf}
 use Rattle.rule_marks.specs.declared.Fault.{Fault}
 use Rattle.rule_marks.specs.declared.Fault.the-variants.{Nothing, Refused as Fault-refused}
 use Rattle.formats.specs.Calls.{afterCall}
@@ -16,6 +15,11 @@ use Rattle.formats.proofs.GoodAutomaton.{GoodSections}
 use Rattle.automaton_file.specs.declared.AutomatonRead.{AutomatonRead}
 use Rattle.automaton_file.specs.declared.AutomatonRead.the-variants.{Automaton, Refused as Read-refused}
 use Rattle.automaton_sections.specs.Sections.{CountsAre}
+
+-- a byte for a transition: 1 where there is one
+abbrev pub oneIf : Bool → ℕ
+oneIf true = 1
+oneIf false = 0
 
 -- where the byte of scratch for the transition from p by a to q stands
 abbrev pub tripleIndex : ℕ → ℕ → ℕ → ℕ

@@ -1,5 +1,6 @@
 // The marks of the pairs of an automaton's matrices, as document 01 has them: a linked pair (R, E) for which some initial p and some
-// q have entry (p, q) of R not 0 and entry (q, q) of E equal to 2. They are laid out behind the table, as automaton_table/specs/Laying says.
+// q have entry (p, q) of R not 0 and entry (q, q) of E equal to 2, with the grade 3. They are laid out behind the table, as
+// automaton_table/specs/Laying says.
 use scratch::LAID_MARKS_BASE;
 use scratch::LAID_PRODUCTS_BASE;
 use scratch::MATRICES_BASE;
@@ -89,7 +90,10 @@ pub fn recurs(kinds: &[u8], n: usize, scratch: &[u8], s: usize, e: usize) -> boo
     false
 }
 
-// The byte of (s, e): 1 where the pair is to be marked, else 0.
+// The grade of every mark of an automaton.
+const AUTOMATON_GRADE: u8 = 3;
+
+// The byte of (s, e): that grade where the pair is to be marked, else 0.
 pub fn mark_byte(kinds: &[u8], n: usize, scratch: &[u8], count: usize, s: usize, e: usize) -> u8
     requires { ⌜ MarkNeeds (now kinds) n (now scratch) count ⌝ }
     requires { ⌜ (s < count) × (e < count) ⌝ }
@@ -101,7 +105,7 @@ pub fn mark_byte(kinds: &[u8], n: usize, scratch: &[u8], count: usize, s: usize,
     if !recurs(kinds, n, scratch, s, e) {
         return 0;
     }
-    1
+    AUTOMATON_GRADE
 }
 
 // The marks of the pairs that begin with s.

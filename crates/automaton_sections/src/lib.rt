@@ -1,14 +1,14 @@
 // The sections of an automaton file, one after the other: each hands the rest of the file on as a part that begins in its middle.
 use answer::Refusal;
+use section_triples::triples;
 use sections::Counted;
-use sections::Found;
 use sections::byte_count;
 use sections::entries;
 use sections::wide_count;
-ghost use Prim.Native.Nat.{_+_, _*_, _≤_, _<_, _^_};
+ghost use Prim.Native.Nat.{_+_, _<_, _^_};
 ghost use lib.ListN.{length};
-ghost use Rattle.sections.specs.Answers.{FoundOut, EntriesAnswer, SectionAnswer};
-ghost use Rattle.formats.specs.AutomatonFile.{statesSection, lettersSection, transitionsSection, transitionWidth, tripleBound};
+ghost use Rattle.sections.specs.Answers.{SectionAnswer};
+ghost use Rattle.formats.specs.AutomatonFile.{statesSection, lettersSection, transitionsSection};
 ghost use Rattle.automaton_sections.specs.Sections.{LayoutAnswer};
 
 // The states' section, at the front of the file: a kind is 0, 1, 2 or 3.
@@ -29,55 +29,13 @@ pub fn letters_section(rest: &[u8], at: usize) -> Counted
     byte_count(rest, at, 16)
 }
 
-// The first byte of the triples that names no state, at its ends, or no letter, in its middle.
-pub fn first_beyond(rest: &[u8], count: usize, m: usize, k: usize) -> Found
-    requires { ⌜ 2 + 3 * count ≤ length (now rest) ⌝ }
-    ensures { λ r. ⌜ FoundOut (now (rest .entry)) 2 (transitionWidth * count) (tripleBound m k) r ⌝ }
-{
-    for i in 0..count {
-        let first = 3 * i;
-        if m <= rest[2 + first] as usize {
-            return Found::At(first);
-        }
-        if k <= rest[2 + (first + 1)] as usize {
-            return Found::At(first + 1);
-        }
-        if m <= rest[2 + (first + 2)] as usize {
-            return Found::At(first + 2);
-        }
-    }
-    Found::Nothing
-}
-
-// The triples after their count: all there, and each byte within its range. Answers the count where they are.
-pub fn triples(rest: &[u8], at: usize, count: usize, m: usize, k: usize) -> Counted
-    requires { ⌜ at + length (now rest) < 2 ^ 64 ⌝ }
-    requires { ⌜ count ≤ 576 ⌝ }
-    ensures { λ r. ⌜ EntriesAnswer 2 (transitionWidth * count) (tripleBound m k) at (now (rest .entry)) count r ⌝ }
-{
-    if rest.len() < 2 + 3 * count {
-        let end = at + rest.len();
-        return Counted::Refused {
-            refusal: Refusal::Truncated,
-            place: end,
-        };
-    }
-    match first_beyond(rest, count, m, k) {
-        Found::At(i) => Counted::Refused {
-            refusal: Refusal::EntryOutOfRange,
-            place: at + (2 + i),
-        },
-        Found::Nothing => Counted::Read(count),
-    }
-}
-
 // The transitions' section of an automaton of m states and k letters.
 pub fn transitions_section(rest: &[u8], at: usize, m: usize, k: usize) -> Counted
     requires { ⌜ at + length (now rest) < 2 ^ 64 ⌝ }
     ensures { λ r. ⌜ SectionAnswer (transitionsSection m k) at (now (rest .entry)) r ⌝ }
 {
     match wide_count(rest, at, 576) {
-        Counted::Read(c) => triples(rest, at, c, m, k),
+        Counted::Read(c) => triples(rest, at, c, m, k, m, 0),
         Counted::Refused { refusal, place } => Counted::Refused { refusal, place },
     }
 }

@@ -1,6 +1,6 @@
 -- The byte of a pair: the ways through its tests, and what it says while bytes behind the products change. Assumes nothing.
 use Prim.Native.Nat.{ℕ, _+_, _*_, _≤_, _<_}
-use mathlib.Core.Path.{_≡_, sym, ap, _∙_, subst}
+use mathlib.Core.Path.{_≡_, refl, sym, ap, _∙_, subst}
 use mathlib.Core.Bool.{Bool, true, false, not}
 use mathlib.Core.List.{List}
 use native.Mathlib.Omega.{arith}
@@ -34,6 +34,7 @@ module _ (kinds : List ℕ) (n count : ℕ) (scratch : List ℕ) (s e : ℕ) (li
     linked = λ h. absurd (omega arith);
     recurs = λ h. absurd (omega arith);
     marked = λ k r. absurd (said-unlinked _ s e linked l g k);
+    three = λ h. absurd (omega arith);
   }
 
   module _ {recurs : Bool} (t : recurs ≡ recurs-test (initialStates kinds n) (matrixAt scratch s) (matrixAt scratch e)) (g : not linked ≡ false) where
@@ -45,13 +46,15 @@ module _ (kinds : List ℕ) (n count : ℕ) (scratch : List ℕ) (s e : ℕ) (li
       linked = λ z. absurd (omega arith);
       recurs = λ z. absurd (omega arith);
       marked = λ k r. absurd (subst T (test-is h) (recurs-intro (initialStates kinds n) _ _ r));
+      three = λ z. absurd (omega arith);
     }
 
-    pub mark-new : not recurs ≡ false → MarkByte kinds n count scratch s e 1
+    pub mark-new : not recurs ≡ false → MarkByte kinds n count scratch s e 3
     mark-new h = record {
       linked = λ z. said-linked _ s e linked l g;
       recurs = λ z. recurs-elim (initialStates kinds n) _ _ (true-T (test-is h));
       marked = λ k r. omega arith;
+      three = λ z. refl;
     }
 
 -- ---- bytes behind the products change
@@ -90,4 +93,5 @@ mark-stays {kinds} kept small few hs he m = record {
   linked = λ h. linked-stays kept few (m .linked h);
   recurs = λ h. recurs-stays kept few kinds small hs he (m .recurs h);
   marked = λ l r. m .marked (linked-stays (unchanged-sym kept) few l) (recurs-stays (unchanged-sym kept) few kinds small hs he r);
+  three = m .three;
 }

@@ -1,6 +1,7 @@
 -- The rule while it is laid out in scratch behind the list of matrices: what each byte is to be, and which bytes stay.
 -- Assumes nothing.
 use Prim.Native.Nat.{ℕ, _+_, _*_, _≤_, _<_}
+use mathlib.Core.Path.{_≡_}
 use mathlib.Core.Bool.{false}
 use mathlib.Core.List.{List}
 use lib.ListN.{length, getD}
@@ -66,11 +67,12 @@ abbrev pub initialStates : List ℕ → ℕ → Automaton
 initialStates kinds n = record { states = n; letters = 0; initial = initialAt kinds; final = finalAt kinds; step = λ p x q. false }
 
 -- the byte of the pair (s, e) is not 0 exactly if the pair is linked and "for some initial p and some q entry (p, q) of R is not
--- 0 and entry (q, q) of E is 2"
+-- 0 and entry (q, q) of E is 2"; then it is 3
 pub record MarkByte (kinds : List ℕ) (n count : ℕ) (scratch : List ℕ) (s e byte : ℕ) : Type 0 where
   pub linked : 0 < byte → Linked (laidRule scratch count 0) s e
   pub recurs : 0 < byte → Recurs (initialStates kinds n) (matrixAt scratch s) (matrixAt scratch e)
   pub marked : Linked (laidRule scratch count 0) s e → Recurs (initialStates kinds n) (matrixAt scratch s) (matrixAt scratch e) → 0 < byte
+  pub three : 0 < byte → byte ≡ 3
 
 -- the bytes of two matrices and of the states' kinds are there
 pub record PairNeeds (kinds : List ℕ) (n : ℕ) (scratch : List ℕ) (s e : ℕ) : Type 0 where

@@ -1,11 +1,11 @@
 -- The rule that is laid out behind the list of an automaton's matrices is the automaton's: its elements are the matrices, its
 -- products and images theirs, and its marks those of document 01. Assumes nothing.
-use Prim.Native.Nat.{ℕ, _<_}
-use mathlib.Core.Path.{sym, subst}
+use Prim.Native.Nat.{ℕ, _≤_, _<_}
+use mathlib.Core.Path.{_≡_, sym, subst}
 use mathlib.Core.List.{List}
 use native.Mathlib.Omega.{arith}
 use lib.Dec.{T, leb→le, le→leb}
-use Rattle.theory.specs.Rules.{Morphism, Lawful, level, marked}
+use Rattle.theory.specs.Rules.{Morphism, Lawful, level}
 use Rattle.theory.specs.Pairs.{Linked}
 use Rattle.buchi.specs.Automata.{Automaton}
 use Rattle.buchi.specs.Matrices.{Matrix, SameEntries, product}
@@ -127,8 +127,8 @@ module _ {t : Automaton} {kinds : List ℕ} {n k count : ℕ} {entry listed : Li
     matrix-same : {i : ℕ} → i < count → SameEntries (t .states) (matrixAt listed i) (matrixAt laid i)
     matrix-same h = let few = all .list .few in over-states (matrix-stays (unchanged-wider (omega arith) (omega arith) (r .kept)) (all .list .few-states) (omega arith))
 
-    pub laid-marking : MarkedBy t (laidRule laid count k) (matrixAt listed) (marked (laidMarks laid))
-    unfolding marked level
+    pub laid-marking : MarkedBy t (laidRule laid count k) (matrixAt listed) (level 1 (laidMarks laid))
+    unfolding level
     laid-marking = record {
       marks = λ s e hs he.
           let b = r .marks s e hs he in (
@@ -139,6 +139,9 @@ module _ {t : Automaton} {kinds : List ℕ} {n k count : ℕ} {entry listed : Li
             λ k. le→leb 1 _ (b .marked (linked-less (k .0)) (recurs-bytes (recurs-same (matrix-same hs) (matrix-same he) (k .1)))),
           );
     }
+
+    pub laid-threes : (s e : ℕ) → s < count → e < count → 1 ≤ laidMarks laid s e → laidMarks laid s e ≡ 3
+    laid-threes s e hs he h = r .marks s e hs he .three h
 
     -- there are no more than 64 matrices
     pub not-rich : MoreMatrices t 64 → ⊥

@@ -6,7 +6,7 @@ use native.Mathlib.Omega.{arith}
 use lib.ListN.{length, getD, take, drop, replicate}
 use Rattle.answer.specs.declared.Refusal.the-variants.{TooManyMatrices}
 use Rattle.answer.proofs.Order.{first-passes, first-fails, none-left}
-use Rattle.buchi.proofs.AutomatonRule.{elements-reached, marked-linked, rule-accepts-runs, rule-strong, rule-marks-accepted}
+use Rattle.buchi.proofs.AutomatonRule.{elements-reached, graded-good, graded-accepts-runs, graded-strong, graded-marks}
 use Rattle.automaton_matrix_search.specs.Lists.{matrixAt, stepPlace, AllListed, TooRich, ListAnswer, MatricesAnswer}
 use Rattle.automaton_matrix_search.specs.declared.MatrixCount.{MatrixCount}
 use Rattle.automaton_matrix_search.specs.declared.MatrixCount.the-variants.{Listed, TooMany}
@@ -18,7 +18,7 @@ use Rattle.scratch.specs.Map.{stepsBase}
 use Rattle.automaton_translation.specs.Promise.{ReadHere, MadePromise}
 use Rattle.promises.specs.declared.Translated.the-variants.{Rule, Refused}
 use Rattle.automaton_translation.proofs.Reading.{read-stands, read-place, read-letters}
-use Rattle.automaton_translation.proofs.Made.{step-list, mark-place, laid-lawful, laid-matrices, laid-order, laid-marking, not-rich}
+use Rattle.automaton_translation.proofs.Made.{step-list, mark-place, laid-lawful, laid-matrices, laid-order, laid-marking, laid-threes, not-rich}
 
 -- the bytes of the states
 abbrev kinds : List ℕ → List ℕ
@@ -67,7 +67,7 @@ module _ {bytes : List ℕ} {n k : ℕ} {out scratch listed : List ℕ} (r : Rea
         letters-are = refl;
         products = λ i j hi hj. refl;
         elements = λ x h. ap (λ (i : ℕ). getD laid i 0) (let e : stepsBase + x ≡ stepPlace 0 x = omega arith in e);
-        marked = λ i j hi hj. refl;
+        grades = λ i j hi hj. refl;
       }
 
       -- and written
@@ -78,6 +78,7 @@ module _ {bytes : List ℕ} {n k : ℕ} {out scratch listed : List ℕ} (r : Rea
           let law = laid-lawful (read-stands r) (read-place r) (a .kept) all l in
           let elements = laid-matrices (read-stands r) (read-place r) (a .kept) all l in
           let marking = laid-marking (read-stands r) (read-place r) (a .kept) all l in
+          let threes = laid-threes (read-stands r) (read-place r) (a .kept) all l in
           record {
             refusal = first-passes (record { nowhere = λ place f. not-rich (read-stands r) (read-place r) (a .kept) all l (f .more) }) none-left;
             answered = record {
@@ -88,13 +89,15 @@ module _ {bytes : List ℕ} {n k : ℕ} {out scratch listed : List ℕ} (r : Rea
               elements = elements;
               numbered = laid-order (read-stands r) (read-place r) (a .kept) all l;
               marking = marking;
-              accepts = rule-accepts-runs law elements marking;
-              strong = rule-strong law elements marking;
-              all-marked = rule-marks-accepted law elements marking;
+              threes = threes;
+              accepts = graded-accepts-runs (laidMarks laid) law elements marking threes;
+              strong = graded-strong (laidMarks laid) law elements marking threes;
+              all-marked = graded-marks (laidMarks laid) law elements marking threes;
               written =
                   written-rule (laidRule laid count k) (laidMarks laid)
                   (record { some = all .some; small = all .list .few; letters-some = read-letters r; letters-small = read-place r .few-letters })
-                  law (marked-linked law elements marking) (elements-reached law elements) file;
+                  (record { grades = graded-good (laidMarks laid) law elements marking threes .small })
+                  law (graded-good (laidMarks laid) law elements marking threes .linked) (elements-reached law elements) file;
             };
             scratch = z ∙ ap (λ (c : ℕ). replicate c 0) same-length;
           }

@@ -6,7 +6,7 @@ use mathlib.Core.List.{List}
 use native.Mathlib.Omega.{arith}
 use lib.ListN.{length, getD, take, drop}
 use lib.Dec.{eqb, ltb}
-use Rattle.formats.specs.RuleFile.{oneIf}
+use Rattle.automaton_file.specs.Answers.{oneIf}
 use Rattle.formats.specs.AutomatonFile.{statesOf, kindAt, isInitial, isFinal, hasTransition, lettersAt, transitionsAt, automatonEnd}
 use Rattle.automaton_matrices.specs.Bytes.{initialAt, finalAt, stepAt, MarkingAt}
 use Rattle.automaton_matrix_search.specs.Lists.{ListNeeds, StandsHere}

@@ -1,24 +1,29 @@
 -- The rule of an automaton. Its elements are the matrices of words: every element is some word's value, and the product of
 -- elements is that of their matrices. Acceptance by the automaton depends on the values only. Marked as document 01 says, the
--- rule is strong, accepts exactly the lassos with an accepting run, and marks every linked pair whose lassos are accepted.
--- Assumes nothing.
-use Prim.Native.Nat.{ℕ, _<_}
-use mathlib.Core.Path.{_≡_, sym, ap, subst, _∙_}
-use mathlib.Core.Bool.{_&&_}
+-- rule is strong, accepts exactly the lassos with an accepting run, and marks every linked pair whose lassos are accepted; so with the
+-- grade 3 on each mark it is strong, grades those lassos 3, and marks each linked pair with its lassos' grade. Assumes nothing.
+use Prim.Native.Nat.{ℕ, _≤_, _<_}
+use mathlib.Core.Path.{_≡_, refl, sym, ap, subst, _∙_}
+use mathlib.Core.Bool.{Bool, true, false, cond, _&&_}
 use mathlib.Core.List.{List}
-use mathlib.Core.Logic.{_↔_}
+use mathlib.Core.Logic.{_↔_, ⊎-elim}
+use native.Mathlib.Omega.{arith}
 use lib.ListN.{length}
-use lib.Dec.{T}
+use lib.Dec.{T, leb}
+use Rattle.finite.proofs.Numbers.{le-or-lt}
 use Rattle.finite.proofs.Tests.{T-and, T-and-left, T-and-right}
 use Rattle.theory.specs.Words.{Over, Lasso}
-use Rattle.theory.specs.Rules.{Morphism, Lawful, Pairs, element, value, WordOf, AllReached}
+use Rattle.theory.specs.Rules.{Morphism, Lawful, Pairs, Marking, level, element, value, WordOf, AllReached}
 use Rattle.theory.specs.Acceptance.{Accepts, Strong}
 use Rattle.theory.specs.Pairs.{Linked, LinkedOnly}
-use Rattle.theory.specs.Smallest.{LinkedAccepted, MarksAccepted}
+use Rattle.theory.specs.Grades.{AtLeast, StrongMarking}
+use Rattle.theory.specs.Smallest.{MarksGrades}
 use Rattle.theory.proofs.Words.{over-append}
 use Rattle.theory.proofs.Values.{value-element, value-some, inside-of}
 use Rattle.theory.proofs.Starts.{start-or-turn, lasso-started, same-started, equal-started, started-values}
-use Rattle.theory.proofs.Strength.{lasso-of, value-two, settled-cycle, settled-start, settled-linked, Settled, settle}
+use Rattle.theory.proofs.Strength.{value-two, settled-cycle, settled-start, settled-linked, Settled, settle}
+use Rattle.theory.proofs.GradedStrength.{levels-strong}
+use Rattle.theory.proofs.Gradings.{GradedMarks, level-up, level-down, level-falls, at-least-small, graded-by}
 use Rattle.theory.proofs.Closure.{linked-test, linked-intro, linked-elim}
 use Rattle.buchi.specs.Automata.{Automaton, AcceptedBy}
 use Rattle.buchi.specs.Matrices.{Matrix, IsMatrix, SameEntries, product}
@@ -142,44 +147,100 @@ module _ {a : Automaton} {m : Morphism} {matrix : ℕ → Matrix} (law : Lawful 
           (λ k. run-accepts l′ (same-values l l′ eu ev (accepts-run k)), λ k. run-accepts l (same-values l′ l (sym eu) (sym ev) (accepts-run k)));
     }
 
-    marked-accepted : (s e : ℕ) → s < m .size → e < m .size → T (P s e) → LinkedAccepted m P s e
-    marked-accepted s e hs he t =
-        let k = marking .marks s e hs he .0 t in
-        record {
-          linked = k .0;
-          lassos = record {
-            start = elements-reached .word-of s hs;
-            cycle = elements-reached .word-of e he;
-            accepted = λ u v l eu ev. run-accepts l (linked-recurrence (k .0) (l .start-over) (l .cycle-over) eu ev .1 (k .1));
-          };
-        }
+    -- a lasso whose values are linked is accepted exactly if they are marked
+    pub linked-mark : {u v : List ℕ} {s e : ℕ} → Linked m s e → Lasso (m .letters) u v → value m u ≡ element s → value m v ≡ element e
+        → Accepts m P u v ↔ T (P s e)
+    linked-mark {s = s} {e} k l eu ev =
+        let both = linked-recurrence k (l .start-over) (l .cycle-over) eu ev in
+        let mark = marking .marks s e (k .inside) (k .idempotent .inside) in
+        (λ x. mark .1 (k, both .0 (accepts-run x)), λ t. run-accepts l (both .1 (mark .0 t .1)))
 
-    accepted-marked : (s e : ℕ) → s < m .size → e < m .size → LinkedAccepted m P s e → T (P s e)
-    accepted-marked s e hs he k =
-        let x = k .lassos .start in
-        let y = k .lassos .cycle in
-        let l : Lasso (m .letters) (x .word) (y .word) = lasso-of m (x .over) (y .over) (x .its-value) (y .its-value) in
-        marking .marks s e hs he .1
-        (k .linked, linked-recurrence (k .linked) (x .over) (y .over) (x .its-value) (y .its-value) .0 (accepts-run (k .lassos .accepted (x .word) (y .word) l (x .its-value) (y .its-value))))
+-- ---- the marking with the grade 3
 
-    -- it marks every linked pair whose lassos are accepted
-    pub rule-marks-accepted : MarksAccepted m P
-    rule-marks-accepted = record { marks = λ s e hs he. (marked-accepted s e hs he, accepted-marked s e hs he) }
+module _ {a : Automaton} {m : Morphism} {matrix : ℕ → Matrix} (marks : Marking) (law : Lawful m) (mats : MatricesOf a m matrix)
+    (marking : MarkedBy a m matrix (level 1 marks)) (threes : (s e : ℕ) → s < m .size → e < m .size → 1 ≤ marks s e → marks s e ≡ 3) where
+  -- the pairs of each least grade from 1 to 3 are the marked ones
+  marked-at : (g : ℕ) → 1 ≤ g → g ≤ 3 → MarkedBy a m matrix (level g marks)
+  marked-at g some small = record {
+    marks = λ s e hs he.
+        (let k = marking .marks s e hs he in (
+          λ t. k .0 (level-falls marks 1 g s e some t),
+          λ x. (let one = level-down marks 1 s e (k .1 x) in level-up marks g s e (omega (arith, threes s e hs he one))),
+        ));
+  }
+
+  pub graded-accepts-runs : (g : ℕ) → 1 ≤ g → g ≤ 3 → AcceptsRuns a m (level g marks)
+  graded-accepts-runs g some small = rule-accepts-runs law mats (marked-at g some small)
+
+  pub graded-good : GradedMarks m marks
+  graded-good = record {
+    small = λ s e hs he. ⊎-elim (λ (h : 1 ≤ marks s e). omega (arith, threes s e hs he h)) (λ h. omega arith) (le-or-lt 1 (marks s e));
+    linked = marked-linked law mats marking;
+  }
+
+  pub graded-strong : StrongMarking m marks
+  graded-strong = levels-strong law graded-good (λ g some h. rule-strong law mats (marked-at g some h))
+
+  levels : {u v : List ℕ} {s e : ℕ} → Linked m s e → Lasso (m .letters) u v → value m u ≡ element s → value m v ≡ element e
+      → (g : ℕ) → 1 ≤ g → AtLeast m marks g u v ↔ (g ≤ marks s e)
+  levels {s = s} {e} k l eu ev g some = (
+    λ x. level-down marks g s e (linked-mark law mats (marked-at g some (at-least-small law graded-good x)) k l eu ev .0 x),
+    λ h.
+        (let three = graded-good .small s e (k .inside) (k .idempotent .inside) in
+        linked-mark law mats (marked-at g some (omega (arith, h, three))) k l eu ev .1 (level-up marks g s e h)),
+  )
+
+  pub graded-marks : MarksGrades m marks
+  graded-marks = record {
+    of-linked = λ s e k. record {
+      linked = k;
+      lassos = record {
+        start = elements-reached law mats .word-of s (k .inside);
+        cycle = elements-reached law mats .word-of e (k .idempotent .inside);
+        graded = λ u v l eu ev. graded-by (levels k l eu ev);
+      };
+    };
+    of-others = λ s e hs he f.
+        ⊎-elim (λ (h : 1 ≤ marks s e). absurd (f (graded-good .linked .linked s e hs he (level-up marks 1 s e h)))) (λ h. omega arith) (le-or-lt 1 (marks s e));
+  }
 
 -- ---- the marking computed
 
 -- the pair is linked, and for some initial p and some q entry (p, q) of its first matrix is not 0 and entry (q, q) of its
 -- second is 2
-unfoldable pub run-marks : Automaton → Morphism → (ℕ → Matrix) → Pairs
-run-marks a m matrix s e =
+unfoldable pub run-pairs : Automaton → Morphism → (ℕ → Matrix) → Pairs
+run-pairs a m matrix s e =
     let found = recurs-test a (matrix s) (matrix e) in
     linked-test m s e && found
 
-pub run-marked : (a : Automaton) (m : Morphism) (matrix : ℕ → Matrix) → MarkedBy a m matrix (run-marks a m matrix)
-unfolding run-marks
+-- "Automata mark with 3"
+unfoldable pub run-marks : Automaton → Morphism → (ℕ → Matrix) → Marking
+run-marks a m matrix s e =
+    let found = run-pairs a m matrix s e in
+    cond found 3 0
+
+-- a choice between 3 and 0 is 1 or more exactly if it is 3
+chosen : (b : Bool) → T (leb 1 (cond b 3 0)) ↔ T b
+chosen true = (λ t. tt, λ t. tt)
+chosen false = (λ t. t, λ t. t)
+
+chosen-three : (b : Bool) → 1 ≤ cond b 3 0 → _≡_ {A = ℕ} (cond b 3 0) 3
+chosen-three true h = refl
+chosen-three false h = absurd (omega arith)
+
+pub run-marked : (a : Automaton) (m : Morphism) (matrix : ℕ → Matrix) → MarkedBy a m matrix (level 1 (run-marks a m matrix))
+unfolding run-marks run-pairs level
 run-marked a m matrix = record {
-  marks = λ s e hs he. (
-    λ t. (linked-elim m s e (T-and-left (linked-test m s e) _ t), recurs-elim a (matrix s) (matrix e) (T-and-right (linked-test m s e) _ t)),
-    λ k. T-and (linked-test m s e) _ (linked-intro (k .0)) (recurs-intro a (matrix s) (matrix e) (k .1)),
-  );
+  marks = λ s e hs he.
+      (let both = chosen (run-pairs a m matrix s e) in (
+        λ t. (
+          linked-elim m s e (T-and-left (linked-test m s e) _ (both .0 t)),
+          recurs-elim a (matrix s) (matrix e) (T-and-right (linked-test m s e) _ (both .0 t)),
+        ),
+        λ k. both .1 (T-and (linked-test m s e) _ (linked-intro (k .0)) (recurs-intro a (matrix s) (matrix e) (k .1))),
+      ));
 }
+
+pub run-threes : (a : Automaton) (m : Morphism) (matrix : ℕ → Matrix) (s e : ℕ) → s < m .size → e < m .size → 1 ≤ run-marks a m matrix s e → run-marks a m matrix s e ≡ 3
+unfolding run-marks
+run-threes a m matrix s e hs he h = chosen-three (run-pairs a m matrix s e) h

@@ -9,11 +9,11 @@ use Rattle.theory.proofs.TableTests.{all-pairs}
 use Rattle.buchi.specs.Matrices.{through, greatest, product}
 use Rattle.buchi.proofs.WordMatrices.{letter-matrix, matrix-of}
 use Rattle.buchi.proofs.MatrixTests.{same-test, returns-at, returns-from, recurs-test, settles, run-test}
-use Rattle.buchi.proofs.AutomatonRule.{run-marks}
+use Rattle.buchi.proofs.AutomatonRule.{run-pairs, run-marks}
 use Rattle.buchi.proofs.MatrixLists.{number-of, listed-morphism}
 use Rattle.buchi.proofs.TableTest.{letters-test, product-is, apart-test, matrices-test}
 
 -- opens all of these
 unfoldable pub testing : Bool
-unfolding anyBelow allBelow leastBelow leastFrom repeat linked-test all-pairs through greatest product letter-matrix matrix-of same-test returns-at returns-from recurs-test settles run-test run-marks number-of listed-morphism letters-test product-is apart-test matrices-test
+unfolding anyBelow allBelow leastBelow leastFrom repeat linked-test all-pairs through greatest product letter-matrix matrix-of same-test returns-at returns-from recurs-test settles run-test run-pairs run-marks number-of listed-morphism letters-test product-is apart-test matrices-test
 testing = true

@@ -1,19 +1,18 @@
 -- The rule of M10: three matrices, two marks. Its table is found to be that of the matrices by computing, so it is strong and
 -- accepts exactly the lassos with an accepting run. Assumes nothing.
-use Prim.Native.Nat.{ℕ}
+use Prim.Native.Nat.{ℕ, _≤_}
 use mathlib.Core.Path.{_≡_, refl}
-use mathlib.Core.Bool.{Bool, true, false}
 use mathlib.Core.List.{List, [], _∷_}
 use lib.ListN.{getD}
-use Rattle.theory.specs.Rules.{Morphism, Lawful, AllReached}
-use Rattle.theory.specs.Acceptance.{Strong}
-use Rattle.theory.specs.Smallest.{MarksAccepted}
+use Rattle.theory.specs.Rules.{Morphism, Lawful, Marking, level, AllReached}
+use Rattle.theory.specs.Grades.{StrongMarking}
+use Rattle.theory.specs.Smallest.{MarksGrades}
 use Rattle.theory.proofs.Computing.{computing}
 use Rattle.theory.proofs.TableTests.{lawful-elim, reached-all}
 use Rattle.theory.proofs.SmallRules.{entry, table}
 use Rattle.buchi.specs.Matrices.{Matrix}
 use Rattle.buchi.specs.Rule.{MatricesOf, MarkedBy, AcceptsRuns}
-use Rattle.buchi.proofs.AutomatonRule.{run-marks, run-marked, rule-accepts-runs, rule-strong, rule-marks-accepted}
+use Rattle.buchi.proofs.AutomatonRule.{run-marks, run-marked, run-threes, graded-accepts-runs, graded-strong, graded-marks}
 use Rattle.buchi.proofs.TableTest.{matrices-elim}
 use Rattle.buchi.proofs.Computing.{testing}
 use Rattle.buchi.proofs.Examples.{M10}
@@ -46,25 +45,25 @@ pub M10-three : MatricesOf M10 M10-table M10-matrix
 unfolding testing
 M10-three = matrices-elim M10 M10-table M10-matrix M10-lawful M10-reached refl tt
 
--- "A linked pair (R, E) is marked if ..": (0, 0) and (2, 2), and no other
-abbrev pub M10-marks : ℕ → ℕ → Bool
+-- "A linked pair (R, E) is marked if ..": (0, 0) and (2, 2), and no other; "Automata mark with 3"
+abbrev pub M10-marks : Marking
 M10-marks = run-marks M10 M10-table M10-matrix
 
-abbrev row : ℕ → List Bool
+abbrev row : ℕ → List ℕ
 row s = M10-marks s 0 ∷ M10-marks s 1 ∷ M10-marks s 2 ∷ []
 
-pub M10-two-marks : row 0 ∷ row 1 ∷ row 2 ∷ [] ≡ (true ∷ false ∷ false ∷ []) ∷ (false ∷ false ∷ false ∷ []) ∷ (false ∷ false ∷ true ∷ []) ∷ []
+pub M10-two-marks : row 0 ∷ row 1 ∷ row 2 ∷ [] ≡ (3 ∷ 0 ∷ 0 ∷ []) ∷ (0 ∷ 0 ∷ 0 ∷ []) ∷ (0 ∷ 0 ∷ 3 ∷ []) ∷ []
 unfolding testing
 M10-two-marks = refl
 
-pub M10-marked : MarkedBy M10 M10-table M10-matrix M10-marks
+pub M10-marked : MarkedBy M10 M10-table M10-matrix (level 1 M10-marks)
 M10-marked = run-marked M10 M10-table M10-matrix
 
-pub M10-accepts-runs : AcceptsRuns M10 M10-table M10-marks
-M10-accepts-runs = rule-accepts-runs M10-lawful M10-three M10-marked
+pub M10-accepts-runs : (g : ℕ) → 1 ≤ g → g ≤ 3 → AcceptsRuns M10 M10-table (level g M10-marks)
+M10-accepts-runs = graded-accepts-runs M10-marks M10-lawful M10-three M10-marked (run-threes M10 M10-table M10-matrix)
 
-pub M10-strong : Strong M10-table M10-marks
-M10-strong = rule-strong M10-lawful M10-three M10-marked
+pub M10-strong : StrongMarking M10-table M10-marks
+M10-strong = graded-strong M10-marks M10-lawful M10-three M10-marked (run-threes M10 M10-table M10-matrix)
 
-pub M10-marks-accepted : MarksAccepted M10-table M10-marks
-M10-marks-accepted = rule-marks-accepted M10-lawful M10-three M10-marked
+pub M10-marks-grades : MarksGrades M10-table M10-marks
+M10-marks-grades = graded-marks M10-marks M10-lawful M10-three M10-marked (run-threes M10 M10-table M10-matrix)

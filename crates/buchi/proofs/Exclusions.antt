@@ -8,7 +8,7 @@ use native.Mathlib.Omega.{arith}
 use lib.Dec.{T, eqb}
 use mir.Facts.{eqb-yes}
 use Rattle.theory.specs.Words.{over-nil, over-cons}
-use Rattle.theory.specs.Rules.{join, value}
+use Rattle.theory.specs.Rules.{level, join, value}
 use Rattle.theory.proofs.SmallRules.{Z₀, W₀, W₀-lawful}
 use Rattle.theory.proofs.Computing.{over-test, lasso-test, lasso-elim}
 use Rattle.theory.proofs.EveryLasso.{one}
@@ -140,7 +140,7 @@ unlinked-marked k =
     omega arith
 
 pub marks-left-out : ¬ MarkedBy M10 M10-table M10-matrix (λ s e. false)
-unfolding testing
+unfolding testing level
 marks-left-out k = k .marks 0 0 (omega arith) (omega arith) .1 (M10-marked .marks 0 0 (omega arith) (omega arith) .0 tt)
 
 -- a rule without marks does not accept M10's lassos

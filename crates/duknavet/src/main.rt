@@ -50,8 +50,8 @@ fn line(answer: Summary) {
     io::write_all(STDOUT_FILENO, b"\n");
 }
 
-// 12,309 bytes of the input are enough. The longest rule has 12,308 bytes: where the counts are in their ranges the sections end by
-// then, so a longer input is refused by 4 or earlier, at a place below 12,309, and no such refusal depends on a later byte.
+// 16,405 bytes of the input are enough. The longest rule has 16,404 bytes: where the counts are in their ranges the sections end by
+// then, so a longer input is refused by 4 or earlier, at a place below 16,405, and no such refusal depends on a later byte.
 fn main() {
     let mut input = [0u8; RULE_SIZE + 1];
     let mut work = [0u8; RULE_SIZE];

@@ -52,7 +52,7 @@ odd s e n =
 
 -- one that is
 marked : (s e : ℕ) → bitOr s e ≡ s → (e % 2 + e / 2 % 2 + e / 4 % 2 + e / 8 % 2 + e / 16 % 2 + e / 32 % 2) % 2 ≡ 0
-    → markBytes s e ≡ lastByte s ++ lastByte e
+    → markBytes s e ≡ lastByte s ++ (lastByte e ++ lastByte 3)
 unfolding markBytes isMark
 marked s e p q =
     simp (eq-eqb (bitOr s e) s p, letters-sum e, eq-eqb ((e % 2 + e / 2 % 2 + e / 4 % 2 + e / 8 % 2 + e / 16 % 2 + e / 32 % 2) % 2) 0 q)
@@ -65,9 +65,10 @@ module _ {d : List ℕ} {at : ℕ} (s e : ℕ) where
       → Stored d at (markBytes s e) d at
   unmarked-odd n h = rw (odd s e n) (stored-none h)
 
-  pub marked-both : bitOr s e ≡ s → (e % 2 + e / 2 % 2 + e / 4 % 2 + e / 8 % 2 + e / 16 % 2 + e / 32 % 2) % 2 ≡ 0
-      → {b f : List ℕ} {mid end : ℕ} → Stored d at (lastByte s) b mid → Stored b mid (lastByte e) f end → Stored d at (markBytes s e) f end
-  marked-both p q t u = rw (marked s e p q) (stored-more t u)
+  pub marked-all : bitOr s e ≡ s → (e % 2 + e / 2 % 2 + e / 4 % 2 + e / 8 % 2 + e / 16 % 2 + e / 32 % 2) % 2 ≡ 0
+      → {b c f : List ℕ} {mid last end : ℕ} → Stored d at (lastByte s) b mid → Stored b mid (lastByte e) c last → Stored c last (lastByte 3) f end
+      → Stored d at (markBytes s e) f end
+  marked-all p q t u v = rw (marked s e p q) (stored-more t (stored-more u v))
 
 -- the lists by their names' first letters
 module _ {d e : List ℕ} {at end : ℕ} (letter other x y : ℕ) where

@@ -48,7 +48,7 @@ unfolding entryBytes pairProduct wordProduct
 product = refl
 
 -- two letters of three are marked, one is not
-even : entryBytes 109 0 7 5 ≡ 7 ∷ 5 ∷ []
+even : entryBytes 109 0 7 5 ≡ 7 ∷ 5 ∷ 3 ∷ []
 unfolding entryBytes markBytes isMark lettersOf
 even = refl
 

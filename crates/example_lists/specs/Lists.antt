@@ -30,9 +30,9 @@ lettersOf (suc n) set = set % 2 + lettersOf n (set / 2)
 unfoldable pub isMark : ℕ → ℕ → Bool
 isMark s e = eqb (bitOr s e) s && eqb (lettersOf 6 e % 2) 0
 
--- the bytes of a pair of sets where it is marked, none where it is not
+-- the bytes of a pair of sets and its grade 3 where it is marked, none where it is not
 unfoldable pub markBytes : ℕ → ℕ → List ℕ
-markBytes s e = cond (isMark s e) (lastByte s ++ lastByte e) []
+markBytes s e = cond (isMark s e) (lastByte s ++ (lastByte e ++ lastByte 3)) []
 
 -- What stands in row x and column y of a list that is known by its name's first letter: the sum by 64 for `s`, the union of two sets
 -- for `u`, the product of two pairs of a word and a remainder for `w`, the mark for `m`. Any other list has one byte everywhere.

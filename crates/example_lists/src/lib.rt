@@ -40,8 +40,9 @@ fn word_pair(x: usize, y: usize) -> usize
     2 * (6 + (x / 2 * 5 + y / 2)) + parity
 }
 
-// Stores a pair of sets of six letters, each letter a bit, where the second is a part of the first and has an even number of letters.
-fn store_pair(out: &mut [u8], at: usize, s: usize, e: usize) -> usize
+// Stores a pair of sets of six letters, each letter a bit, where the second is a part of the first and has an even number of letters,
+// and the grade 3.
+fn store_mark(out: &mut [u8], at: usize, s: usize, e: usize) -> usize
     requires { ⌜ at ≤ length (now out) ⌝ }
     ensures { λ r. ⌜ Stored (now (out .entry)) at (markBytes s e) (now (out .exit)) r ⌝ }
 {
@@ -52,7 +53,8 @@ fn store_pair(out: &mut [u8], at: usize, s: usize, e: usize) -> usize
         return at;
     }
     let next = store(out, at, s);
-    store(out, next, e)
+    let last = store(out, next, e);
+    store(out, last, 3)
 }
 
 // Stores what a list that is known by its first letter has with the number i: the sum of two remainders by 64, the union of two
@@ -67,7 +69,7 @@ fn entry(name: u8, byte: usize, i: usize, out: &mut [u8], at: usize) -> usize
         b's' => store(out, at, (x % 64 + y) % 64),
         b'u' => store(out, at, x | y),
         b'w' => store(out, at, word_pair(x, y)),
-        b'm' => store_pair(out, at, x, y),
+        b'm' => store_mark(out, at, x, y),
         _ => store(out, at, byte),
     }
 }

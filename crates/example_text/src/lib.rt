@@ -36,13 +36,9 @@ pub fn refused_line(number: u8, input: usize, place: usize) {
     three_line(b"refused ", number as usize, b" in ", input, b" at ", place);
 }
 
-// Writes whether a lasso is accepted, and after how many turns its cycle settles.
-pub fn decided_line(accepted: bool, turns: usize) {
-    if accepted {
-        word_and(b"accepted, turns ", turns);
-    } else {
-        word_and(b"not accepted, turns ", turns);
-    }
+// Writes a lasso's grade, and after how many turns its cycle settles.
+pub fn graded_line(grade: usize, turns: usize) {
+    two(b"grade ", grade, b", turns ", turns);
     word(b"\n");
 }
 

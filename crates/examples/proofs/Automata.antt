@@ -18,17 +18,18 @@ use Rattle.finite.proofs.Discovery.{Discovery}
 use Rattle.answer.specs.Checks.{passed, FirstFailure}
 use Rattle.answer.proofs.Order.{first-passes, none-left, passed-before}
 use Rattle.theory.specs.Words.{Lasso}
-use Rattle.theory.specs.Rules.{Rule, Lawful, Marking, level, marked, join}
-use Rattle.theory.specs.Acceptance.{RuleStrong}
-use Rattle.theory.specs.Smallest.{SameLassos}
+use Rattle.theory.specs.Rules.{Rule, Lawful, Marking, level, join}
+use Rattle.theory.specs.Grades.{RuleStrong}
+use Rattle.theory.specs.Smallest.{SameGrades}
+use Rattle.theory.proofs.Gradings.{GradedMarks, at-least-small}
 use Rattle.theory.proofs.Computing.{computing}
 use Rattle.formats.specs.Sections.{Section}
 use Rattle.formats.proofs.Sections.{good-passes}
-use Rattle.formats.specs.RuleFile.{morphismOf, oneIf}
+use Rattle.formats.specs.RuleFile.{morphismOf}
 use Rattle.formats.proofs.Buffers.{buffer-long}
 use Rattle.formats.specs.RuleChecks.{ruleSize, scratchSize}
 use Rattle.rule_check.specs.GoodRule.{GoodRule}
-use Rattle.rule_check.proofs.CheckedRule.{good-rule}
+use Rattle.rule_check.proofs.CheckedRule.{good-rule, graded-marks}
 use Rattle.formats.specs.AutomatonFile.{statesOf, kindAt, isInitial, isFinal, lettersAt, lettersOf, transitionsAt, transitionsOf, transitionAt, fromOf, letterOf, toOf, isTransition, hasTransition, automatonEnd, tripleBound, statesSection, lettersSection, transitionsSection}
 use Rattle.formats.specs.Calls.{scratchLeft}
 use Rattle.formats.specs.AutomatonChecks.{automatonChecks, readChecks}
@@ -36,7 +37,7 @@ use Rattle.automaton_file.proofs.RepeatedOrder.{Fresh, fresh-all}
 use Rattle.buchi.specs.Automata.{Automaton}
 use Rattle.buchi.specs.Rule.{MatricesOf, MarkedBy, AcceptsRuns, MoreMatrices}
 use Rattle.buchi.proofs.Computing.{testing}
-use Rattle.buchi.proofs.AutomatonRule.{run-marks, run-marked, marked-linked, rule-accepts-runs, rule-strong, rule-marks-accepted}
+use Rattle.buchi.proofs.AutomatonRule.{run-marks, run-marked, run-threes, graded-good, graded-accepts-runs, graded-strong, graded-marks as graded-marks-of}
 use Rattle.buchi.proofs.TableTest.{matrices-elim}
 use Rattle.buchi.proofs.Numberings.{more-matrices}
 use Rattle.buchi.proofs.ExampleRule.{M10-table, M10-matrix, M10-lawful, M10-reached}
@@ -54,7 +55,7 @@ use Rattle.examples.specs.Files.{automaton}
 use Rattle.examples.specs.Examples.{FileStrong, RuleReducesTo, ReducesTo, Translation, TranslatedTo, AutomatonReducesTo}
 use Rattle.examples.proofs.Passing.{section-test, section-elim, checks-to}
 use Rattle.examples.proofs.OneElement.{sooner-none}
-use Rattle.examples.proofs.ReadRules.{one-if, reads-accepts, reads-strong}
+use Rattle.examples.proofs.ReadRules.{reads-at-least, reads-strong}
 use Rattle.examples.proofs.Reductions.{reducing, reduces-as, reduces-by-model}
 
 -- ---- a test that computes whether an automaton file passes the checks 1 to 4 and 8
@@ -125,29 +126,29 @@ unfolding opening
 three = matrices-elim a M10-table M10-matrix M10-lawful M10-reached refl tt
 
 abbrev marks : Marking
-marks s e = oneIf (run-marks a M10-table M10-matrix s e)
+marks = run-marks a M10-table M10-matrix
 
-marking : MarkedBy a M10-table M10-matrix (marked marks)
-unfolding marked level
-marking = record {
-  marks = λ s e hs he.
-      let k = run-marked a M10-table M10-matrix .marks s e hs he in
-      let b = one-if (run-marks a M10-table M10-matrix s e) in
-      (λ t. k .0 (b .0 t), λ t. b .1 (k .1 t));
-}
+marking : MarkedBy a M10-table M10-matrix (level 1 marks)
+marking = run-marked a M10-table M10-matrix
+
+threes : (s e : ℕ) → s < 3 → e < 3 → 1 ≤ marks s e → marks s e ≡ 3
+threes = run-threes a M10-table M10-matrix
 
 abbrev rule : Rule
 rule = record { morphism = M10-table; lawful = M10-lawful; marks = marks }
 
-accepts : AcceptsRuns a M10-table (marked marks)
-accepts = rule-accepts-runs M10-lawful three marking
+accepts : (g : ℕ) → 1 ≤ g → g ≤ 3 → AcceptsRuns a M10-table (level g marks)
+accepts = graded-accepts-runs marks M10-lawful three marking threes
 
 strong : RuleStrong rule
-strong = rule-strong M10-lawful three marking
+strong = graded-strong marks M10-lawful three marking threes
+
+marks-good : GradedMarks M10-table marks
+marks-good = graded-good marks M10-lawful three marking threes
 
 rule-reduces : RuleReducesTo rule 2
 unfolding opening
-rule-reduces = reduces-by-model rule M10-reached (marked-linked M10-lawful three marking) strong refl
+rule-reduces = reduces-by-model rule M10-reached marks-good strong refl
 
 -- ---- every rule that the promise allows has as many elements as there are matrices, and its file reduces as this rule does
 
@@ -168,17 +169,22 @@ module _ {before after : List ℕ} {r : ℕ} (made : RuleOf automaton before aft
   abbrev good : GoodRule written-file
   good = good-rule 1 written-file (made .written .passes 1)
 
-  -- its file means a rule that accepts the lassos with an accepting run, as the computed rule does
-  file-same : (law : Lawful (morphismOf written-file)) → SameLassos (ruleOf written-file law) rule
+  -- its file means a rule that grades the lassos with an accepting run 3 and no other, as the computed rule does
+  file-same : (law : Lawful (morphismOf written-file)) → SameGrades (ruleOf written-file law) rule
   unfolding opening
   file-same law = record {
     same-letters = made .written .reads-back .letters ∙ made .elements .same-letters;
-    both-or-neither = λ u v l.
+    both-or-neither = λ g some u v l.
         let l′ = subst (λ n. Lasso n u v) (made .written .reads-back .letters) l in
-        let f = reads-accepts (made .lawful) (made .written .reads-back) u v in
-        let k = made .accepts .accepts u v l′ in
-        let k′ = accepts .accepts u v (subst (λ n. Lasso n u v) (made .elements .same-letters) l′) in
-        (λ t. k′ .1 (k .0 (f .1 t)), λ t. f .0 (k .1 (k′ .0 t)));
+        let l″ = subst (λ n. Lasso n u v) (made .elements .same-letters) l′ in
+        let f = reads-at-least (made .lawful) (made .written .reads-back) g u v in (
+          λ t.
+              (let small = at-least-small (good .lawful) (graded-marks good) t in
+              accepts g some small .accepts u v l″ .1 (made .accepts g some small .accepts u v l′ .0 (f .1 t))),
+          λ t.
+              (let small = at-least-small M10-lawful marks-good t in
+              f .0 (made .accepts g some small .accepts u v l′ .1 (accepts g some small .accepts u v l″ .0 t))),
+        );
   }
 
   file-strong : FileStrong written-file
@@ -187,7 +193,7 @@ module _ {before after : List ℕ} {r : ℕ} (made : RuleOf automaton before aft
   file-reduces : ReducesTo written-file 2
   file-reduces = record {
     lawful = good .lawful;
-    reduces = λ law. reduces-as (ruleOf written-file law) (good .reached) (good .linked) file-strong (file-same law) (rule-reduces .reduction)
+    reduces = λ law. reduces-as (ruleOf written-file law) (good .reached) (graded-marks good) file-strong (file-same law) (rule-reduces .reduction)
         (rule-reduces .elements (rule-reduces .reduced) (rule-reduces .reduction));
   }
 
@@ -264,12 +270,13 @@ module _ (before entry : List ℕ) (long : ruleSize ≤ length before) (room : s
         elements = three;
         numbered = by-first-words;
         marking = marking;
+        threes = threes;
         accepts = accepts;
         strong = strong;
-        all-marked = rule-marks-accepted M10-lawful three marking;
+        all-marked = graded-marks-of marks M10-lawful three marking threes;
         written =
             written-rule M10-table marks (record { some = omega arith; small = omega arith; letters-some = omega arith; letters-small = omega arith })
-            M10-lawful (marked-linked M10-lawful three marking) M10-reached (record { holds = refl; counts = refl });
+            (record { grades = marks-good .small }) M10-lawful (marks-good .linked) M10-reached (record { holds = refl; counts = refl });
       };
       scratch = refl;
     };

@@ -9,10 +9,11 @@ use lib.ListN.{length, drop, replicate, length-replicate}
 use Rattle.finite.proofs.Tests.{T-or-cases, not-T}
 use Rattle.answer.specs.Checks.{passed, numbered}
 use Rattle.theory.specs.Words.{Over, over-cons}
+use Rattle.theory.specs.Rules.{level}
 use Rattle.theory.specs.Pairs.{Classes, ClassCounts}
 use Rattle.theory.proofs.Closure.{linked-elim, closure-test, closure-intro}
 use Rattle.theory.proofs.TableTests.{all-pairs-elim, counted-same}
-use Rattle.formats.specs.RuleFile.{morphismOf, pairsOf}
+use Rattle.formats.specs.RuleFile.{morphismOf, markingOf}
 use Rattle.promises.specs.declared.Reduced.the-variants.{Rule as Is-rule}
 use Rattle.formats.specs.RuleChecks.{ruleSize, scratchSize}
 use Rattle.examples.specs.Files.{W, W-all, one-element, Z, Z₀, not-associative, unreached, automaton}
@@ -65,16 +66,16 @@ not-a-mark k = k .is-marked
 
 -- the marks of W are closed under conjugacy
 marked-if-closed : ℕ → ℕ → Bool
-marked-if-closed s e = not (closure-test (morphismOf W) (pairsOf W) s e) || pairsOf W s e
+marked-if-closed s e = not (closure-test (morphismOf W) (level 1 (markingOf W)) s e) || level 1 (markingOf W) s e
 
 pub closed-marks : ¬ NotClosed W
 unfolding reading marked-if-closed
 closed-marks k =
     let c = k .to-mark .conjugate in
-    let t = closure-intro {m = morphismOf W} {P = pairsOf W}
+    let t = closure-intro {m = morphismOf W} {P = level 1 (markingOf W)}
     (record { to-start = k .mark-start; to-cycle = k .mark-cycle; conjugate = c; is-marked = k .to-mark .is-marked }) in
-    ⊎-elim (not-T (closure-test (morphismOf W) (pairsOf W) (k .start) (k .cycle))) (λ f. absurd (k .not-marked f))
-    (T-or-cases (not (closure-test (morphismOf W) (pairsOf W) (k .start) (k .cycle))) (pairsOf W (k .start) (k .cycle))
+    ⊎-elim (not-T (closure-test (morphismOf W) (level 1 (markingOf W)) (k .start) (k .cycle))) (λ f. absurd (k .not-marked f))
+    (T-or-cases (not (closure-test (morphismOf W) (level 1 (markingOf W)) (k .start) (k .cycle))) (level 1 (markingOf W) (k .start) (k .cycle))
     (all-pairs-elim 2 marked-if-closed tt (k .start) (k .cycle) (c .left-linked .inside) (c .left-linked .idempotent .inside))) t
 
 -- W leaves linked pairs without a mark
@@ -100,21 +101,21 @@ copied-table k = let e : _≡_ {A = ℕ} 2 1 = one-number k (examples .m7 .3) in
 -- W with all linked pairs marked, copied to out
 module _ (before entry : List ℕ) (long : ruleSize ≤ length before) (room : scratchSize ≤ length entry) (k : ReducesToBytes W-all W-all) where
   abbrev after : List ℕ
-  after = W-all ++ drop 16 before
+  after = W-all ++ drop 19 before
 
   abbrev exit : List ℕ
   exit = replicate (length entry) 0
 
-  copy : HandsBack W-all before after entry exit (Is-rule 16)
-  copy = record { end = 16; answer-is = refl; stands = record { holds = refl; counts = refl }; scratch-is = refl }
+  copy : HandsBack W-all before after entry exit (Is-rule 19)
+  copy = record { end = 19; answer-is = refl; stands = record { holds = refl; counts = refl }; scratch-is = refl }
 
-  reduced : HandsBack one-element before after entry exit (Is-rule 16)
-  reduced = examples .m4 .1 .exactly before after entry exit (Is-rule 16) long room .0 (k .exactly before after entry exit (Is-rule 16) long room .1 copy)
+  reduced : HandsBack one-element before after entry exit (Is-rule 19)
+  reduced = examples .m4 .1 .exactly before after entry exit (Is-rule 19) long room .0 (k .exactly before after entry exit (Is-rule 19) long room .1 copy)
 
   not-copied : ⊥
   not-copied =
       let e = reduced .answer-is in
-      let f : 16 ≡ reduced .end = cc in
+      let f : 19 ≡ reduced .end = cc in
       omega (arith, reduced .stands .counts)
 
 pub copied-file : ¬ ReducesToBytes W-all W-all

@@ -1,18 +1,18 @@
--- The reduction of a rule that accepts every lasso, as bytes: every reduction of it has one element, with its pair marked, and so
+-- The reduction of a rule that grades every lasso 3, as bytes: every reduction of it has one element, with its pair marked with 3, and so
 -- is written as the same file. Assumes nothing.
 use Prim.Native.Nat.{ℕ, zero, suc, _<_}
 use native.Mathlib.Omega.{arith}
 use mathlib.Core.Path.{_≡_, refl, sym, subst, ap}
 use mathlib.Core.List.{List, [], _∷_}
-use lib.Dec.{ltb}
-use Rattle.finite.proofs.Tests.{T-true}
 use Rattle.finite.proofs.FirstWords.{Sooner, sooner-parent, sooner-letter}
 use Rattle.finite.proofs.Discovery.{Discovery}
 use Rattle.theory.specs.Words.{Lasso, over-nil, over-cons}
-use Rattle.theory.specs.Rules.{Morphism, Marking, Rule, level, marked, element, join, value, WordOf, AllReached}
-use Rattle.theory.specs.Pairs.{LinkedOnly}
-use Rattle.theory.specs.Smallest.{Reduction, LinkedAccepted}
-use Rattle.theory.proofs.EveryLasso.{AcceptsEvery, one, one-lawful}
+use Rattle.theory.specs.Rules.{Morphism, Marking, Rule, level, element, join, value, WordOf, AllReached}
+use Rattle.theory.specs.Pairs.{Linked, LinkedOnly}
+use Rattle.theory.specs.Grades.{LassosGraded}
+use Rattle.theory.specs.Smallest.{Reduction}
+use Rattle.theory.proofs.Gradings.{graded-same, one-lassos-grade}
+use Rattle.theory.proofs.EveryLasso.{GradesEvery, one, one-lawful}
 use Rattle.theory.proofs.SmallReductions.{one-marks, every-reduction}
 use Rattle.rule_reach.specs.Reach.{wordStep}
 use Rattle.formats.specs.FirstWords.{ByFirstWords}
@@ -26,11 +26,11 @@ use Rattle.formats.specs.Front.{AtFront}
 use Rattle.promises.proofs.SameReductions.{reductions-size}
 use Rattle.examples.proofs.Reductions.{same-self}
 
--- every pair is marked
+-- every pair is marked with 3
 abbrev pub all-marked : Marking
-all-marked s e = 1
+all-marked s e = 3
 
-module _ (r : Rule) (some : 0 < r .morphism .letters) (every : AcceptsEvery (r .morphism) (marked (r .marks))) (reduced : Rule) (red : Reduction r reduced) where
+module _ (r : Rule) (some : 0 < r .morphism .letters) (every : GradesEvery (r .morphism) (r .marks)) (reduced : Rule) (red : Reduction r reduced) where
   abbrev m : Morphism
   m = reduced .morphism
 
@@ -60,27 +60,27 @@ module _ (r : Rule) (some : 0 < r .morphism .letters) (every : AcceptsEvery (r .
     its-value = ap element (let e : m .image 0 ≡ s = omega (arith, image-zero 0 some) in e);
   }
 
-  -- its one pair is linked and its lassos are accepted
-  pair-accepted : (s e : ℕ) → s < 1 → e < 1 → LinkedAccepted m (marked (reduced .marks)) s e
-  pair-accepted s e hs he = record {
-    linked = record {
-      inside = omega (arith, one-size);
-      idempotent = record { inside = omega (arith, one-size); square = omega (arith, product-zero e e he he) };
-      stays = omega (arith, product-zero s e hs he);
-    };
-    lassos = record {
-      start = word-zero s hs;
-      cycle = word-zero e he;
-      accepted = λ u v l eu ev.
-          let l′ = subst (λ k. Lasso k u v) (sym (red .same .same-letters)) l in red .same .both-or-neither u v l′ .0 (every .accepted u v l′);
-    };
+  -- its one pair is linked
+  pair-linked : (s e : ℕ) → s < 1 → e < 1 → Linked m s e
+  pair-linked s e hs he = record {
+    inside = omega (arith, one-size);
+    idempotent = record { inside = omega (arith, one-size); square = omega (arith, product-zero e e he he) };
+    stays = omega (arith, product-zero s e hs he);
+  }
+
+  -- and its lassos have the grade 3, as all have
+  pair-graded : (s e : ℕ) → s < 1 → e < 1 → LassosGraded m (reduced .marks) (element s) e 3
+  pair-graded s e hs he = record {
+    start = word-zero s hs;
+    cycle = word-zero e he;
+    graded = λ u v l eu ev.
+        (let l′ = subst (λ k. Lasso k u v) (sym (red .same .same-letters)) l in
+        graded-same (λ g some. red .same .both-or-neither g some u v l′) (every .graded u v l′));
   }
 
   same-marks : SameMarks 1 all-marked (reduced .marks)
-  unfolding marked level
   same-marks = record {
-    same = λ s e hs he.
-        T-true (ltb 0 (reduced .marks s e)) (red .marks .marks s e (omega (arith, one-size)) (omega (arith, one-size)) .1 (pair-accepted s e hs he));
+    same = λ s e hs he. one-lassos-grade (red .marks .of-linked s e (pair-linked s e hs he) .lassos) (pair-graded s e hs he);
   }
 
   -- so it is written as the rule of one element is
@@ -94,18 +94,20 @@ sooner-none (sooner-letter e h) = omega arith
 
 -- the rule of one element as a file
 module _ (k : ℕ) (some : 0 < k) (few : k < 17) where
-  one-reached : AllReached (one k)
-  unfolding marked level
-  one-reached = record { word-of = λ s h. one-marks k some .marks s s h h .0 tt .lassos .start }
+  zero-linked : (s e : ℕ) → s < 1 → e < 1 → Linked (one k) s e
+  zero-linked s e hs he = record { inside = hs; idempotent = record { inside = he; square = omega arith }; stays = omega arith }
 
-  one-linked : LinkedOnly (one k) (marked all-marked)
-  one-linked = record { linked = λ s e hs he t. one-marks k some .marks s e hs he .0 t .linked }
+  one-reached : AllReached (one k)
+  one-reached = record { word-of = λ s h. one-marks k some .of-linked s s (zero-linked s s h h) .lassos .start }
+
+  one-linked : LinkedOnly (one k) (level 1 all-marked)
+  one-linked = record { linked = λ s e hs he t. zero-linked s e hs he }
 
   pub one-written : {before after : List ℕ} {r : ℕ} → AtFront (fileOf (one k) all-marked) before after r → WrittenRule (one k) all-marked before after r
   one-written =
       written-rule (one k) all-marked
       (record { some = omega arith; small = omega arith; letters-some = omega arith; letters-small = omega arith })
-      (one-lawful k) one-linked one-reached
+      (record { grades = λ s e hs he. omega arith }) (one-lawful k) one-linked one-reached
 
   -- it is numbered by first words
   unfoldable only-zero : (j : ℕ) → 0 < j → j < 2 → Discovery (wordStep (one k)) k entry j

@@ -15,7 +15,7 @@ use Rattle.theory.proofs.Closure.{linked-test, linked-elim}
 use Rattle.theory.proofs.ShortWords.{unreached}
 use Rattle.theory.proofs.TableTests.{lawful-test, lawful-elim, reached-all}
 use Rattle.formats.proofs.Tables.{all-associate-none}
-use Rattle.formats.specs.Sections.{Section, countBytes, countAt}
+use Rattle.formats.specs.Sections.{Section, InRange, countBytes, countAt}
 use Rattle.formats.proofs.Sections.{SectionGood, good-passes}
 use Rattle.formats.specs.RuleFile.{elementsOf, lettersAt, marksAt, marksOf, ruleEnd, morphismOf, markStart, markCycle, elementsSection, lettersSection, marksSection}
 use Rattle.formats.specs.RuleChecks.{tableChecks, markChecks, ruleChecks}
@@ -25,7 +25,15 @@ use Rattle.examples.specs.Examples.{ChecksTo}
 
 -- ---- sections
 
--- the count is there and in its range, and the entries are there, each below its bound
+-- a byte is in its range
+unfoldable pub range-test : ℕ → ℕ → ℕ → Bool
+range-test floor bound byte = leb floor byte && ltb byte bound
+
+range-elim : (floor bound byte : ℕ) → T (range-test floor bound byte) → InRange floor bound byte
+unfolding range-test
+range-elim floor bound byte t = record { above = leb→le _ _ (T-and-left (leb floor byte) _ t); below = ltb-yes (T-and-right (leb floor byte) (ltb byte bound) t) }
+
+-- the count is there and in its range, and the entries are there, each in its range
 unfoldable pub section-test : Section → List ℕ → Bool
 section-test s rest =
     let count = countAt (s .width) rest in
@@ -33,13 +41,13 @@ section-test s rest =
     && (leb (s .low) count
     && (leb count (s .high)
     && (leb (countBytes (s .width) + s .entries count) (length rest)
-    && allBelow (s .entries count) (λ i. ltb (getD rest (countBytes (s .width) + i) 0) (s .bound count i)))))
+    && allBelow (s .entries count) (λ i. range-test (s .floor count i) (s .bound count i) (getD rest (countBytes (s .width) + i) 0)))))
 
 pub section-elim : (s : Section) (rest : List ℕ) → T (section-test s rest) → SectionGood s rest
 unfolding section-test
 section-elim s rest t =
     let count = countAt (s .width) rest in
-    let below : ℕ → Bool = λ i. ltb (getD rest (countBytes (s .width) + i) 0) (s .bound count i) in
+    let good : ℕ → Bool = λ i. range-test (s .floor count i) (s .bound count i) (getD rest (countBytes (s .width) + i) 0) in
     let t₁ = T-and-right (leb (countBytes (s .width)) (length rest)) _ t in
     let t₂ = T-and-right (leb (s .low) count) _ t₁ in
     let t₃ = T-and-right (leb count (s .high)) _ t₂ in
@@ -48,8 +56,8 @@ section-elim s rest t =
       above = leb→le _ _ (T-and-left (leb (s .low) count) _ t₁);
       within = leb→le _ _ (T-and-left (leb count (s .high)) _ t₂);
       entries-present = leb→le _ _ (T-and-left (leb (countBytes (s .width) + s .entries count) (length rest)) _ t₃);
-      entries-below = λ i h. ltb-yes
-          (all-elim (s .entries count) below (T-and-right (leb (countBytes (s .width) + s .entries count) (length rest)) _ t₃) i h);
+      entries-good = λ i h. range-elim _ _ _
+          (all-elim (s .entries count) good (T-and-right (leb (countBytes (s .width) + s .entries count) (length rest)) _ t₃) i h);
     }
 
 -- 1 to 3, and then 4

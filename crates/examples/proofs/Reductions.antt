@@ -1,13 +1,17 @@
--- How many elements a reduction has: two reductions of rules with the same lassos have as many, so every reduction of a strong
+-- How many elements a reduction has: two reductions of rules with the same grades have as many, so every reduction of a strong
 -- rule has as many as the model computes. Assumes nothing.
 use Prim.Native.Nat.{ℕ}
 use mathlib.Core.Path.{_≡_, refl, _∙_}
 use mathlib.Core.Bool.{Bool, true}
 use mathlib.Core.List.{List}
-use Rattle.theory.specs.Rules.{Rule, marked, AllReached}
-use Rattle.theory.specs.Acceptance.{RuleStrong}
-use Rattle.theory.specs.Pairs.{LinkedOnly}
-use Rattle.theory.specs.Smallest.{SameLassos, Reduction}
+use Rattle.theory.specs.Rules.{Rule, AllReached}
+use Rattle.theory.specs.Grades.{RuleStrong}
+use Rattle.theory.specs.Smallest.{SameGrades, Reduction}
+use Rattle.theory.proofs.Gradings.{GradedMarks}
+use Rattle.finite.proofs.Highest.{highest}
+use Rattle.theory.proofs.ClosureGrades.{closure-grade}
+use Rattle.minimality.proofs.GradeOutcomes.{grading}
+use Rattle.rule_check.proofs.CheckedRule.{graded-marks}
 use Rattle.minimality.proofs.Listed.{passing}
 use Rattle.minimality.proofs.Blocks.{tabFrom, leastOf, sameTest, productsTest, keptTest, firstBlocks, nextBlocks}
 use Rattle.minimality.proofs.Settle.{unchanged, settleFrom, settle}
@@ -15,7 +19,7 @@ use Rattle.minimality.proofs.ReduceModel.{heads, headsOf, finalBlocks, reduced-
 use Rattle.rule_check.specs.GoodRule.{GoodRule}
 use Rattle.promises.specs.Reduce.{ruleOf}
 use Rattle.promises.proofs.SameReductions.{reductions-size}
-use Rattle.formats.specs.RuleFile.{morphismOf, pairsOf}
+use Rattle.formats.specs.RuleFile.{morphismOf, markingOf}
 use Rattle.examples.specs.Files.{W, Z₀}
 use Rattle.examples.specs.Examples.{FileStrong, RuleReducesTo, ReducesTo}
 use Rattle.examples.proofs.Reading.{reading}
@@ -23,32 +27,32 @@ use Rattle.examples.proofs.Rules.{W-good, Z₀-good, W-strong, Z₀-str
 
 -- opens the model of the reduction, and all that is read of a file
 unfoldable pub reducing : Bool
-unfolding reading reduced-size finalBlocks headsOf heads settle settleFrom unchanged firstBlocks nextBlocks leastOf tabFrom sameTest productsTest keptTest passing
+unfolding reading reduced-size finalBlocks headsOf heads settle settleFrom unchanged firstBlocks nextBlocks leastOf tabFrom sameTest productsTest keptTest passing grading closure-grade highest
 reducing = true
 
--- ---- rules with the same lassos
+-- ---- rules with the same grades
 
-pub same-self : (r : Rule) → SameLassos r r
-same-self r = record { same-letters = refl; both-or-neither = λ u v l. (λ a. a, λ a. a) }
+pub same-self : (r : Rule) → SameGrades r r
+same-self r = record { same-letters = refl; both-or-neither = λ g some u v l. (λ a. a, λ a. a) }
 
 -- ---- the model's number is that of every reduction
 
-module _ (r : Rule) (reached : AllReached (r .morphism)) (linked : LinkedOnly (r .morphism) (marked (r .marks))) (strong : RuleStrong r) where
-  pub reduces-as : {r′ y : Rule} {n : ℕ} → SameLassos r r′ → Reduction r′ y → y .morphism .size ≡ n → RuleReducesTo r n
+module _ (r : Rule) (reached : AllReached (r .morphism)) (marks-good : GradedMarks (r .morphism) (r .marks)) (strong : RuleStrong r) where
+  pub reduces-as : {r′ y : Rule} {n : ℕ} → SameGrades r r′ → Reduction r′ y → y .morphism .size ≡ n → RuleReducesTo r n
   reduces-as s q e =
-      let k = reduce-model-right r reached linked strong in
+      let k = reduce-model-right r reached marks-good strong in
       record { reduced = k .reduced; reduction = k .reduction; elements = λ other p. reductions-size s p q ∙ e }
 
-  pub reduces-by-model : {n : ℕ} → reduced-size (r .morphism) (marked (r .marks)) ≡ n → RuleReducesTo r n
+  pub reduces-by-model : {n : ℕ} → reduced-size (r .morphism) (r .marks) ≡ n → RuleReducesTo r n
   reduces-by-model e =
-      let k = reduce-model-right r reached linked strong in
+      let k = reduce-model-right r reached marks-good strong in
       reduces-as (same-self r) (k .reduction) (k .size-is ∙ e)
 
 -- the same for a file that passes every check
-file-reduces : {bytes : List ℕ} {n : ℕ} → GoodRule bytes → FileStrong bytes → reduced-size (morphismOf bytes) (pairsOf bytes) ≡ n → ReducesTo bytes n
+file-reduces : {bytes : List ℕ} {n : ℕ} → GoodRule bytes → FileStrong bytes → reduced-size (morphismOf bytes) (markingOf bytes) ≡ n → ReducesTo bytes n
 file-reduces {bytes} good strong e = record {
   lawful = good .lawful;
-  reduces = λ law. reduces-by-model (ruleOf bytes law) (good .reached) (good .linked) strong e;
+  reduces = λ law. reduces-by-model (ruleOf bytes law) (good .reached) (graded-marks good) strong e;
 }
 
 pub W-reduces : ReducesTo W 2

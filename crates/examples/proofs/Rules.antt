@@ -7,14 +7,15 @@ use mathlib.Core.Logic.{⊎-elim}
 use mathlib.Core.List.{[], _∷_}
 use Rattle.finite.proofs.Tests.{T-or-cases, not-T}
 use Rattle.answer.specs.Checks.{passed, FirstFailure}
-use Rattle.theory.proofs.Included.{strong-test-elim, strong-test-intro}
+use Rattle.theory.specs.Rules.{level}
+use Rattle.theory.proofs.GradedStrength.{strong-grades-elim, strong-grades-intro}
 use Rattle.theory.proofs.Closure.{linked-test, linked-intro}
 use Rattle.theory.proofs.TableTests.{counts-by, all-pairs-elim, conjugate-elim}
-use Rattle.theory.proofs.Computing.{lasso-elim, accepts-by, refuses-by}
-use Rattle.formats.specs.RuleFile.{morphismOf, pairsOf}
+use Rattle.theory.proofs.Computing.{lasso-elim, graded-is}
+use Rattle.formats.specs.RuleFile.{morphismOf, markingOf}
 use Rattle.formats.specs.RuleChecks.{ruleChecks}
 use Rattle.rule_check.specs.GoodRule.{GoodRule}
-use Rattle.rule_check.proofs.CheckedRule.{good-rule}
+use Rattle.rule_check.proofs.CheckedRule.{good-rule, graded-marks}
 use Rattle.theory.specs.Pairs.{ClassCounts}
 use Rattle.examples.specs.Files.{W, W-all, Z, Z₀}
 use Rattle.examples.specs.Examples.{FileStrong, AcceptsLasso, RefusesLasso, ValuePair, ConjugateToMark, NotClosed, MarksLinked}
@@ -55,7 +56,7 @@ Z₀-good = good-rule 1 Z₀ Z₀-passes
 
 -- each pair that is linked is marked
 marked-if-linked : ℕ → ℕ → Bool
-marked-if-linked s e = not (linked-test (morphismOf W-all) s e) || pairsOf W-all s e
+marked-if-linked s e = not (linked-test (morphismOf W-all) s e) || level 1 (markingOf W-all) s e
 
 pub W-all-marks : MarksLinked W-all
 unfolding reading marked-if-linked
@@ -63,7 +64,7 @@ W-all-marks = record {
   marks = λ s e hs he. (
     W-all-good .linked .linked s e hs he,
     λ l. ⊎-elim (λ f. absurd (not-T (linked-test (morphismOf W-all) s e) f (linked-intro l))) (λ t. t)
-        (T-or-cases (not (linked-test (morphismOf W-all) s e)) (pairsOf W-all s e) (all-pairs-elim 2 marked-if-linked tt s e hs he)),
+        (T-or-cases (not (linked-test (morphismOf W-all) s e)) (level 1 (markingOf W-all) s e) (all-pairs-elim 2 marked-if-linked tt s e hs he)),
   );
 }
 
@@ -81,28 +82,28 @@ pub W-accepts : AcceptsLasso W (1 ∷ []) (0 ∷ [])
 unfolding reading
 W-accepts = record {
   lasso = lasso-elim 2 (1 ∷ []) (0 ∷ []) tt;
-  accepted = accepts-by (W-good .lawful) (W-good .linked) (1 ∷ []) (0 ∷ []) tt tt;
+  graded = graded-is (W-good .lawful) (graded-marks W-good) (1 ∷ []) (0 ∷ []) tt refl;
 }
 
 pub W-refuses : RefusesLasso W (0 ∷ []) (1 ∷ [])
 unfolding reading
 W-refuses = record {
   lasso = lasso-elim 2 (0 ∷ []) (1 ∷ []) tt;
-  refused = refuses-by (W-good .lawful) (W-good .linked) (0 ∷ []) (1 ∷ []) tt (λ t. t);
+  graded = graded-is (W-good .lawful) (graded-marks W-good) (0 ∷ []) (1 ∷ []) tt refl;
 }
 
 pub Z-refuses : RefusesLasso Z (0 ∷ []) (1 ∷ [])
 unfolding reading
 Z-refuses = record {
   lasso = lasso-elim 2 (0 ∷ []) (1 ∷ []) tt;
-  refused = refuses-by (Z-good .lawful) (Z-good .linked) (0 ∷ []) (1 ∷ []) tt (λ t. t);
+  graded = graded-is (Z-good .lawful) (graded-marks Z-good) (0 ∷ []) (1 ∷ []) tt refl;
 }
 
 pub Z-accepts : AcceptsLasso Z (0 ∷ []) (0 ∷ 0 ∷ [])
 unfolding reading
 Z-accepts = record {
   lasso = lasso-elim 2 (0 ∷ []) (0 ∷ 0 ∷ []) tt;
-  accepted = accepts-by (Z-good .lawful) (Z-good .linked) (0 ∷ []) (0 ∷ 0 ∷ []) tt tt;
+  graded = graded-is (Z-good .lawful) (graded-marks Z-good) (0 ∷ []) (0 ∷ 0 ∷ []) tt refl;
 }
 
 -- both lassos have the values 1 and 0
@@ -122,19 +123,19 @@ Z-conjugate = record { conjugate = conjugate-elim (Z-good .lawful) 1 0 0 0 tt; i
 
 pub W-strong : FileStrong W
 unfolding reading
-W-strong = strong-test-elim (W-good .lawful) (W-good .linked) tt
+W-strong = strong-grades-elim (W-good .lawful) (graded-marks W-good) tt
 
 pub W-all-strong : FileStrong W-all
 unfolding reading
-W-all-strong = strong-test-elim (W-all-good .lawful) (W-all-good .linked) tt
+W-all-strong = strong-grades-elim (W-all-good .lawful) (graded-marks W-all-good) tt
 
 pub Z-weak : FileStrong Z → ⊥
 unfolding reading
-Z-weak = strong-test-intro (Z-good .lawful) (Z-good .linked) (Z-good .reached)
+Z-weak = strong-grades-intro (Z-good .lawful) (graded-marks Z-good) (Z-good .reached)
 
 pub Z₀-strong : FileStrong Z₀
 unfolding reading
-Z₀-strong = strong-test-elim (Z₀-good .lawful) (Z₀-good .linked) tt
+Z₀-strong = strong-grades-elim (Z₀-good .lawful) (graded-marks Z₀-good) tt
 
 -- the mark (0, 0) of Z with letter 0 only has the conjugate (1, 0)
 pub Z₀-not-closed : NotClosed Z₀

@@ -10,13 +10,14 @@ use Rattle.answer.specs.Checks.{passed, FirstFailure}
 use Rattle.answer.proofs.Order.{one-verdict, first-passes, none-left, passed-before}
 use Rattle.theory.specs.Rules.{Rule, Lawful}
 use Rattle.theory.specs.Smallest.{Reduction}
-use Rattle.theory.proofs.EveryLasso.{AcceptsEvery, every-test, every-elim, one, one-rule}
+use Rattle.theory.proofs.EveryLasso.{GradesEvery, every-test, every-elim, one, one-rule}
 use Rattle.theory.proofs.SmallReductions.{every-reduction}
-use Rattle.formats.specs.RuleFile.{morphismOf, pairsOf}
+use Rattle.formats.specs.RuleFile.{morphismOf, markingOf}
+use Rattle.rule_check.proofs.CheckedRule.{graded-marks}
 use Rattle.formats.proofs.Buffers.{buffer-long}
 use Rattle.formats.specs.RuleChecks.{ruleSize, scratchSize}
 use Rattle.formats.specs.Calls.{checkedChecks, afterCall, scratchLeft}
-use Rattle.formats.specs.WrittenFile.{tabulate, elementsBytes, lettersBytes, isMarked, markNumbers, pairBytes, marksBytes, fileOf}
+use Rattle.formats.specs.WrittenFile.{tabulate, elementsBytes, lettersBytes, isMarked, markNumbers, markBytes, marksBytes, fileOf}
 use Rattle.formats.specs.Front.{AtFront}
 use Rattle.formats.proofs.Front.{front-same}
 use Rattle.promises.specs.declared.Reduced.{Reduced}
@@ -29,14 +30,14 @@ use Rattle.examples.proofs.Reading.{reading}
 use Rattle.examples.proofs.Rules.{W-all-passes, W-all-good, W-all-strong}
 use Rattle.examples.proofs.OneElement.{all-marked, one-file, one-written, one-by-first-words}
 
--- every lasso is accepted
-every : AcceptsEvery (morphismOf W-all) (pairsOf W-all)
+-- every lasso is graded 3
+every : GradesEvery (morphismOf W-all) (markingOf W-all)
 unfolding reading every-test
-every = every-elim (record { lawful = W-all-good .lawful; reached = W-all-good .reached; linked = W-all-good .linked }) W-all-strong tt
+every = every-elim (W-all-good .lawful) (W-all-good .reached) (graded-marks W-all-good) W-all-strong tt
 
 -- the rule of one element over two letters is written as the document's bytes
 one-bytes : fileOf (one 2) all-marked ≡ one-element
-unfolding fileOf elementsBytes lettersBytes marksBytes markNumbers isMarked pairBytes tabulate select selectFrom
+unfolding fileOf elementsBytes lettersBytes marksBytes markNumbers isMarked markBytes tabulate select selectFrom
 one-bytes = refl
 
 reduced-bytes : (law : Lawful (morphismOf W-all)) (reduced : Rule) → Reduction (ruleOf W-all law) reduced → fileOf (reduced .morphism) (reduced .marks) ≡ one-element

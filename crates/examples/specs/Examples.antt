@@ -1,5 +1,5 @@
--- Document 01's small rules, M1 to M10, as one table: each row says of a file's bytes what the document's line says of its rule,
--- in the definitions of specs/ only. Assumes nothing.
+-- Document 01's small rules, M1 to M10, with the grade 3 on each mark, as one table: each row says of a file's bytes what the
+-- document's line says of its rule, in the definitions of specs/ only. Assumes nothing.
 use Prim.Native.Nat.{ℕ, _≤_, _<_}
 use mathlib.Core.Path.{_≡_}
 use mathlib.Core.Logic.{_↔_}
@@ -8,11 +8,11 @@ use lib.Dec.{T}
 use lib.ListN.{length, replicate}
 use Rattle.answer.specs.Checks.{Verdict, passed, numbered, FirstFailure}
 use Rattle.theory.specs.Words.{Lasso}
-use Rattle.theory.specs.Rules.{Rule, Lawful, element, value}
-use Rattle.theory.specs.Acceptance.{Accepts, Strong}
+use Rattle.theory.specs.Rules.{Rule, Lawful, level, element, value}
+use Rattle.theory.specs.Grades.{Graded, StrongMarking}
 use Rattle.theory.specs.Pairs.{Linked, Conjugate, ClassCounts}
 use Rattle.theory.specs.Smallest.{Reduction}
-use Rattle.formats.specs.RuleFile.{elementsOf, lettersOf, morphismOf, pairsOf}
+use Rattle.formats.specs.RuleFile.{elementsOf, lettersOf, morphismOf, markingOf}
 use Rattle.formats.specs.RuleChecks.{ruleChecks, ruleSize, scratchSize}
 use Rattle.formats.specs.Front.{AtFront}
 use Rattle.promises.specs.declared.Reduced.{Reduced}
@@ -31,17 +31,20 @@ pub record ChecksTo (bytes : List ℕ) (v : Verdict) : Type 0 where
 
 -- the rule that the file means is strong
 abbrev pub FileStrong : List ℕ → Type 0
-FileStrong bytes = Strong (morphismOf bytes) (pairsOf bytes)
+FileStrong bytes = StrongMarking (morphismOf bytes) (markingOf bytes)
 
--- it accepts the lasso u, v over its letters
-pub record AcceptsLasso (bytes u v : List ℕ) : Type 0 where
+-- it gives the lasso u, v over its letters the grade g
+pub record GradesLasso (bytes u v : List ℕ) (g : ℕ) : Type 0 where
   pub lasso : Lasso (lettersOf bytes) u v
-  pub accepted : Accepts (morphismOf bytes) (pairsOf bytes) u v
+  pub graded : Graded (morphismOf bytes) (markingOf bytes) u v g
+
+-- it accepts the lasso: "Document 01's small rules get grade 3 on each mark" (document 02, Job 12)
+abbrev pub AcceptsLasso : List ℕ → List ℕ → List ℕ → Type 0
+AcceptsLasso bytes u v = GradesLasso bytes u v 3
 
 -- it does not
-pub record RefusesLasso (bytes u v : List ℕ) : Type 0 where
-  pub lasso : Lasso (lettersOf bytes) u v
-  pub refused : Accepts (morphismOf bytes) (pairsOf bytes) u v → ⊥
+abbrev pub RefusesLasso : List ℕ → List ℕ → List ℕ → Type 0
+RefusesLasso bytes u v = GradesLasso bytes u v 0
 
 -- (s, e) is the pair of the values of u and v
 pub record ValuePair (bytes u v : List ℕ) (s e : ℕ) : Type 0 where
@@ -51,7 +54,7 @@ pub record ValuePair (bytes u v : List ℕ) (s e : ℕ) : Type 0 where
 -- (t, f) is marked, and (s, e) is conjugate to it
 pub record ConjugateToMark (bytes : List ℕ) (s e t f : ℕ) : Type 0 where
   pub conjugate : Conjugate (morphismOf bytes) s e t f
-  pub is-marked : T (pairsOf bytes t f)
+  pub is-marked : T (level 1 (markingOf bytes) t f)
 
 -- the marks "aren't closed": a pair that is conjugate to a marked one is not marked
 pub record NotClosed (bytes : List ℕ) : Type 0 where
@@ -60,11 +63,11 @@ pub record NotClosed (bytes : List ℕ) : Type 0 where
   pub mark-start : ℕ
   pub mark-cycle : ℕ
   pub to-mark : ConjugateToMark bytes start cycle mark-start mark-cycle
-  pub not-marked : T (pairsOf bytes start cycle) → ⊥
+  pub not-marked : T (level 1 (markingOf bytes) start cycle) → ⊥
 
 -- exactly the linked pairs are marked
 pub record MarksLinked (bytes : List ℕ) : Type 0 where
-  pub marks : (s e : ℕ) → s < elementsOf bytes → e < elementsOf bytes → T (pairsOf bytes s e) ↔ Linked (morphismOf bytes) s e
+  pub marks : (s e : ℕ) → s < elementsOf bytes → e < elementsOf bytes → T (level 1 (markingOf bytes) s e) ↔ Linked (morphismOf bytes) s e
 
 -- the rule has a reduction, and every reduction of it has n elements
 pub record RuleReducesTo (r : Rule) (n : ℕ) : Type 0 where
@@ -125,7 +128,7 @@ pub record Examples : Type 0 where
   pub m2 : AcceptsLasso W (1 ∷ []) (0 ∷ [])
   -- "M3 W refuses u=0, v=1."
   pub m3 : RefusesLasso W (0 ∷ []) (1 ∷ [])
-  -- "M4 W with all 3 linked pairs marked reduces to bytes 1 0 2 0 0 1 0 0 0."
+  -- "M4 W with all 3 linked pairs marked reduces to bytes 1 0 2 0 0 1 0 0 0.", with the grade 3 behind its mark
   pub m4 : MarksLinked W-all × ReducesToBytes W-all one-element
   -- "M5 Z has 2 linked pairs, 1 class, 1 join."
   pub m5 : ChecksTo Z passed × ClassCounts (morphismOf Z) 2 1 1

@@ -3,7 +3,6 @@
 -- (`-fits`): the refusals by Limits, the results by what their promises say. Assumes nothing.
 use Prim.Native.Nat.{ℕ, _+_, _*_, _≤_}
 use mathlib.Core.Path.{_≡_, sym, ap, _∙_, subst}
-use mathlib.Core.Bool.{Bool, true, false}
 use mathlib.Core.List.{List, [], _∷_, _++_}
 use native.Mathlib.Omega.{arith}
 use native.Mathlib.Nat.{mul-le-mul}
@@ -11,10 +10,12 @@ use Rattle.answer.proofs.Order.{passed-first, passes-tail}
 use Rattle.answer.proofs.Limits.{Limited, limited-nil, limited-cons, limited-append}
 use Rattle.theory.specs.Rules.{Morphism, Marking}
 use Rattle.theory.specs.Pairs.{LinkedPairs, Classes, LeastExponent}
-use Rattle.formats.specs.RuleFile.{elementsOf, lettersOf, oneIf}
+use Rattle.formats.specs.RuleFile.{elementsOf, lettersOf}
 use Rattle.formats.specs.RuleChecks.{ruleSize, bufferCheck}
 use Rattle.formats.specs.Calls.{checkedChecks}
 use Rattle.rule_check.proofs.Calls.{called-good}
+use Rattle.rule_check.proofs.CheckedRule.{graded-marks}
+use Rattle.theory.proofs.Gradings.{graded-small, lassos-small}
 use Rattle.formats.specs.ReadBack.{WrittenRule}
 use Rattle.promises.specs.Weak.{WeakAt, weakCheck}
 use Rattle.promises.specs.declared.Monitor.{Monitor}
@@ -60,10 +61,9 @@ use Rattle.exports.proofs.Monitors.{mark-fits, event-fits, keep-fits, r
 bit-fits : {a : ℕ} → a ≤ 1 → FieldsFit a 0 0
 bit-fits h = record { first = omega arith; second = omega arith; third = omega arith }
 
--- a lasso accepted or not, and turns
-decided-fits : {m : Morphism} {x turns : ℕ} (accepted : Bool) → m .size ≤ 64 → LeastExponent m x turns → FieldsFit (oneIf accepted) turns 0
-decided-fits true h l = record { first = omega arith; second = omega (arith, l .is-exponent, l .below); third = omega arith }
-decided-fits false h l = record { first = omega arith; second = omega (arith, l .is-exponent, l .below); third = omega arith }
+-- a grade, and turns
+decided-fits : {m : Morphism} {x grade turns : ℕ} → grade ≤ 3 → m .size ≤ 64 → LeastExponent m x turns → FieldsFit grade turns 0
+decided-fits g h l = record { first = omega arith; second = omega (arith, l .is-exponent, l .below); third = omega arith }
 
 -- the length of a written rule
 written-fits : {m : Morphism} {marks : Marking} {entry exit : List ℕ} {r : ℕ} → WrittenRule m marks entry exit r → FieldsFit r 0 0
@@ -100,8 +100,9 @@ strength-fits {bytes} {entry} (Not-decided r i place) p = refused-fits r (checke
 
 -- member
 member-fits : {bytes u v entry exit : List ℕ} (answer : Membership) → MemberPromise bytes u v entry exit answer → Fits (membershipContents answer)
-member-fits {bytes} {entry = entry} (Decided accepted turns) p =
-    decided-fits accepted (called-good 1 bytes entry (passed-first (checkedChecks 1 bytes entry) _ (p .refusal)) .table .small) (p .answered .1 .turns-are)
+member-fits {bytes} {entry = entry} (Decided grade turns) p =
+    let good = called-good 1 bytes entry (passed-first (checkedChecks 1 bytes entry) _ (p .refusal)) in
+    decided-fits (graded-small (good .lawful) (graded-marks good) (p .answered .0)) (good .table .small) (p .answered .1 .turns-are)
 member-fits {bytes} {u} {v} {entry} (Not-a-member r i place) p =
     refused-fits r (limited-append (checkedChecks 1 bytes entry) (checked-limited bytes entry) (λ _. lasso-limited (lettersOf bytes) u v)) (p .refusal)
 
@@ -134,8 +135,8 @@ inclusion-fits {bytes} {entry = entry} (NotIncluded u v) p =
     let apart = p .answered in
     record {
       first = omega arith;
-      second = omega (arith, apart .start-written .counts, apart .witness .start-short);
-      third = omega (arith, apart .cycle-written .counts, apart .witness .cycle-short);
+      second = omega (arith, apart .start-written .counts, apart .witness .witness .start-short);
+      third = omega (arith, apart .cycle-written .counts, apart .witness .witness .cycle-short);
     }
 inclusion-fits {bytes} {second} {entry = entry} (Not-compared r i place) p =
     refused-fits r (buffer-limited (buffer-limited (limited-append (checkedChecks 1 bytes entry) (checked-limited bytes entry) (λ _. second-limited bytes second)))) (p .refusal)
@@ -175,9 +176,9 @@ return-answer-fits {bytes} {f} {name} {points} {entry} (Not-moved g r i place) p
 
 -- verdict
 verdict-fits : {bytes : List ℕ} {f : Monitor} {entry exit : List ℕ} (answer : MonitorVerdict) → VerdictPromise bytes f entry exit answer → Fits (monitorVerdictContents answer)
-verdict-fits {bytes} {f} {entry} (Judged accepted turns) p =
-    decided-fits accepted
-    (called-good 1 bytes entry (passed-first (checkedChecks 1 bytes entry) _ (passed-first (monitorChecks bytes f entry) _ (p .refusal))) .table .small) (p .answered .1)
+verdict-fits {bytes} {f} {entry} (Judged grade turns) p =
+    let good = called-good 1 bytes entry (passed-first (checkedChecks 1 bytes entry) _ (passed-first (monitorChecks bytes f entry) _ (p .refusal))) in
+    decided-fits (lassos-small (good .lawful) (graded-marks good) (p .answered .0)) (good .table .small) (p .answered .1)
 verdict-fits {bytes} {f} {entry} (Not-judged r i place) p =
     refused-fits r (limited-append (monitorChecks bytes f entry) (monitor-limited bytes f entry)
     (λ _. limited-cons (λ place (a : NoneAt _ place). at-zero (a .is-place))

@@ -33,7 +33,7 @@ pub extern "C" fn duknavet_strong(rule: &[u8], scratch: &mut [u8]) -> u64
     pack_strength(rules::strong(rule, scratch))
 }
 
-// 1 for a lasso that is accepted, 0 for another; and how many turns settle the value of v.
+// The lasso's grade, 0 to 3, and how many turns settle the value of v.
 #[no_mangle]
 pub extern "C" fn duknavet_member(rule: &[u8], u: &[u8], v: &[u8], scratch: &mut [u8]) -> u64
     ensures { λ r. ⌜ ExportedMember (now (rule .entry)) (now (u .entry)) (now (v .entry)) (now (scratch .entry)) (now (scratch .exit)) r ⌝ }
@@ -124,7 +124,7 @@ pub extern "C" fn duknavet_return(
     pack_moved(rules::return_to(rule, Monitor { before, since }, name, points, scratch))
 }
 
-// 1 where the lassos with the monitor's values are accepted, 0 where they are not; and how many turns settle the value of since.
+// The grade of the lassos with the monitor's values, 0 to 3, and how many turns settle the value of since.
 #[no_mangle]
 pub extern "C" fn duknavet_verdict(
     rule: &[u8],

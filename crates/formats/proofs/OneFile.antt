@@ -1,16 +1,16 @@
--- Two rules that are numbered by first words, are renumberings of one another, accept the same lassos and mark every linked pair whose
--- lassos they accept are written as one file. Assumes nothing.
+-- Two rules that are numbered by first words, are renumberings of one another, give each lasso the same grade and mark every linked pair
+-- with the grade of its lassos are written as one file. Assumes nothing.
 use Prim.Native.Nat.{ℕ, _<_}
 use native.Mathlib.Omega.{arith}
 use mathlib.Core.Path.{_≡_, sym, ap₂, _∙_, subst}
-use mathlib.Core.Logic.{_↔_}
-use mathlib.Core.List.{List}
-use lib.Dec.{ltb}
-use Rattle.finite.proofs.Tests.{tests-equal}
+use mathlib.Core.Logic.{⊎-elim}
+use Rattle.finite.proofs.Tests.{T-dec}
 use Rattle.theory.specs.Words.{Lasso}
-use Rattle.theory.specs.Rules.{Morphism, Lawful, Pairs, Rule, level, marked}
-use Rattle.theory.specs.Acceptance.{Accepts, RuleAccepts}
-use Rattle.theory.specs.Smallest.{LinkedAccepted, Renumbered, MarksAccepted}
+use Rattle.theory.specs.Rules.{Morphism, Rule}
+use Rattle.theory.specs.Smallest.{Renumbered, MarksGrades, SameGrades}
+use Rattle.theory.specs.Grades.{LinkedGraded}
+use Rattle.theory.proofs.Closure.{linked-test, linked-intro, linked-elim}
+use Rattle.theory.proofs.Gradings.{graded-same, one-lassos-grade}
 use Rattle.formats.specs.WrittenFile.{fileOf}
 use Rattle.formats.proofs.Agree.{Agree, below-first, letter-first, agree-linked, agree-value, agree-word}
 use Rattle.formats.proofs.Same.{SameMarks, file-same}
@@ -25,19 +25,20 @@ agree-back g = record {
   same-image = λ a h. sym (g .same-image a (letter-first g h));
 }
 
--- a linked pair whose lassos are accepted is one in the other table
-module _ {m m′ : Morphism} {P P′ : Pairs} (g : Agree m m′) (law : Lawful m) (lassos : (u v : List ℕ) → Lasso (m .letters) u v → Accepts m P u v → Accepts m′ P′ u v) where
-  accepted-agree : {s e : ℕ} → LinkedAccepted m P s e → LinkedAccepted m′ P′ s e
-  accepted-agree k = record {
-    linked = agree-linked g (k .linked);
-    lassos = record {
-      start = agree-word g law (k .lassos .start);
-      cycle = agree-word g law (k .lassos .cycle);
-      accepted = λ u v l eu ev.
-          let h = subst (λ n. Lasso n u v) (g .same-letters) l in
-          lassos u v h (k .lassos .accepted u v h (sym (agree-value g law (h .start-over)) ∙ eu) (sym (agree-value g law (h .cycle-over)) ∙ ev));
-    };
-  }
+-- a linked pair whose lassos have a grade is one in the other table
+graded-agree : (x y : Rule) → Agree (x .morphism) (y .morphism) → SameGrades x y → {s e h : ℕ} → LinkedGraded (x .morphism) (x .marks) s e h
+    → LinkedGraded (y .morphism) (y .marks) s e h
+graded-agree x y g same k = record {
+  linked = agree-linked g (k .linked);
+  lassos = record {
+    start = agree-word g (x .lawful) (k .lassos .start);
+    cycle = agree-word g (x .lawful) (k .lassos .cycle);
+    graded = λ u v l eu ev.
+        let h = subst (λ n. Lasso n u v) (g .same-letters) l in
+        graded-same (λ i some. same .both-or-neither i some u v h)
+        (k .lassos .graded u v h (sym (agree-value g (x .lawful) (h .start-over)) ∙ eu) (sym (agree-value g (x .lawful) (h .cycle-over)) ∙ ev));
+  };
+}
 
 module _ (x y : Rule) (f : Renumbered (x .morphism) (y .morphism)) (size : x .morphism .size ≡ y .morphism .size)
     (p : ByFirstWords (x .morphism)) (q : ByFirstWords (y .morphism)) where
@@ -59,20 +60,18 @@ module _ (x y : Rule) (f : Renumbered (x .morphism) (y .morphism)) (size : x .mo
     same-image = λ i h. sym (f .images i (subst (λ n. i < n) (f .same-letters) h)) ∙ keeps (a .image i) (x .lawful .images i h);
   }
 
-  module _ (accepted : MarksAccepted a (marked (x .marks))) (accepted′ : MarksAccepted b (marked (y .marks)))
-      (lassos : (u v : List ℕ) → Lasso (a .letters) u v → RuleAccepts x u v ↔ RuleAccepts y u v) where
+  module _ (graded : MarksGrades a (x .marks)) (graded′ : MarksGrades b (y .marks)) (same : SameGrades x y) where
     same-marks : SameMarks (a .size) (x .marks) (y .marks)
-    unfolding marked level
-    same-marks = record {
-      same = λ s e hs he.
-          let left = accepted .marks s e hs he in
-          let right = accepted′ .marks s e (omega arith) (omega arith) in
-          tests-equal (ltb 0 (y .marks s e)) (ltb 0 (x .marks s e))
-          (λ k.
-          left .1
-          (accepted-agree (agree-back agree) (y .lawful) (λ u v l. lassos u v (subst (λ n. Lasso n u v) (sym (f .same-letters)) l) .1) (right .0 k)))
-          (λ k. right .1 (accepted-agree agree (x .lawful) (λ u v l. lassos u v l .0) (left .0 k)));
-    }
+    same-marks = record { same = λ s e hs he. go s e hs he }
+      where
+        go : (s e : ℕ) → s < a .size → e < a .size → y .marks s e ≡ x .marks s e
+        go s e hs he =
+            ⊎-elim (λ t.
+            let l = linked-elim a s e t in
+            one-lassos-grade (graded′ .of-linked s e (agree-linked agree l) .lassos) (graded-agree x y agree same (graded .of-linked s e l) .lassos))
+            (λ f.
+            graded′ .of-others s e (omega arith) (omega arith) (λ l. f (linked-intro (agree-linked (agree-back agree) l)))
+            ∙ sym (graded .of-others s e hs he (λ l. f (linked-intro l)))) (T-dec (linked-test a s e))
 
     pub one-file : fileOf b (y .marks) ≡ fileOf a (x .marks)
     one-file = file-same agree same-marks

@@ -7,7 +7,7 @@ use native.Mathlib.Omega.{arith}
 use lib.ListN.{length}
 use Rattle.answer.specs.Checks.{passed, FirstFailure}
 use Rattle.answer.proofs.Order.{first-passes, none-left, passed-before}
-use Rattle.theory.specs.Rules.{Morphism, Marking, Lawful, AllReached, marked, level}
+use Rattle.theory.specs.Rules.{Morphism, Marking, Lawful, AllReached, level}
 use Rattle.theory.specs.Pairs.{Linked, LinkedOnly}
 use Rattle.formats.specs.Table.{productAt, imageAt}
 use Rattle.formats.proofs.Tables.{all-associate-none}
@@ -15,7 +15,7 @@ use Rattle.formats.specs.Sections.{sectionChecks}
 use Rattle.formats.specs.RuleFile.{lettersAt, marksAt, marksOf, markStart, markCycle, morphismOf, lettersSection, marksSection}
 use Rattle.formats.specs.RuleChecks.{layoutChecks, markChecks, ruleChecks, RepeatedAt}
 use Rattle.formats.specs.ReadBack.{ReadsBack, FileShape, WrittenRule}
-use Rattle.formats.specs.WrittenFile.{markNumbers, fileOf, FitsFormat}
+use Rattle.formats.specs.WrittenFile.{markNumbers, fileOf, FitsFormat, FitsGrades}
 use Rattle.formats.proofs.Agree.{Agree, agree-lawful, agree-linked, agree-reached}
 use Rattle.formats.proofs.Stands.{elements-are, letters-are, letters-from, marks-from, marks-are, ends-there, product-stands, image-stands, start-stands, cycle-stands}
 use Rattle.formats.proofs.Marks.{number-marked, marking-stands, marks-apart}
@@ -34,8 +34,8 @@ module _ (m : Morphism) (marks : Marking) where
   }
 
   -- a written rule has the shape of a file
-  pub file-shape : FitsFormat m → NamesElements m → FileShape (fileOf m marks)
-  file-shape fits names = record { ends = ends-there m marks; short = file-short m marks fits; small = file-over m marks fits names }
+  pub file-shape : FitsFormat m → FitsGrades m marks → NamesElements m → FileShape (fileOf m marks)
+  file-shape fits graded names = record { ends = ends-there m marks; short = file-short m marks fits; small = file-over m marks fits graded names }
 
 -- the morphism that the bytes mean agrees with the one that was written
 pub reads-agree : {m : Morphism} {marks : Marking} {bytes : List ℕ} → ReadsBack m marks bytes → Agree m (morphismOf bytes)
@@ -46,7 +46,7 @@ reads-agree {m} {marks} {bytes} r = record {
   same-image = λ a h. ap (λ (n : ℕ). imageAt bytes n a) (r .elements) ∙ r .images a h;
 }
 
-module _ (m : Morphism) (marks : Marking) (fits : FitsFormat m) (law : Lawful m) (linked : LinkedOnly m (marked marks)) where
+module _ (m : Morphism) (marks : Marking) (fits : FitsFormat m) (graded : FitsGrades m marks) (law : Lawful m) (linked : LinkedOnly m (level 1 marks)) where
   agrees : Agree m (morphismOf (fileOf m marks))
   agrees = reads-agree (reads-back m marks)
 
@@ -54,7 +54,7 @@ module _ (m : Morphism) (marks : Marking) (fits : FitsFormat m) (law : Lawful m)
   mark-linked : (j : ℕ) → j < length (markNumbers m marks)
       → Linked (morphismOf (fileOf m marks))
       (markStart (fileOf m marks) (marksAt (fileOf m marks)) j) (markCycle (fileOf m marks) (marksAt (fileOf m marks)) j)
-  unfolding marked level
+  unfolding level
   mark-linked j h =
       let p = number-marked m marks (fits .some) j h in
       rw (start-stands m marks j h, cycle-stands m marks j h)
@@ -87,7 +87,7 @@ module _ (m : Morphism) (marks : Marking) (fits : FitsFormat m) (law : Lawful m)
       (letters-pass m marks fits (lawful-names law) input (lettersAt (fileOf m marks))))
       (subst₂ (λ (n : ℕ) (l : List ℕ). FirstFailure (sectionChecks (marksSection n) input (marksAt (fileOf m marks)) l) passed)
       (sym (elements-are m marks)) (sym (marks-from m marks))
-      (marks-pass m marks fits (lawful-names law) input (marksAt (fileOf m marks)))))
+      (marks-pass m marks fits graded input (marksAt (fileOf m marks)))))
 
   -- a written rule passes every check, whatever its number among the inputs: 1 to 3, then 4, 5, 6, then 7 and 8
   pub file-passes : AllReached m → (input : ℕ) → FirstFailure (ruleChecks input (fileOf m marks)) passed
@@ -99,11 +99,12 @@ module _ (m : Morphism) (marks : Marking) (fits : FitsFormat m) (law : Lawful m)
       (first-passes (record { nowhere = λ place f. f .no-word (agree-reached agrees law reached .word-of place (f .inside)) })
       (marks-checked input 0 (marksOf (fileOf m marks)) (omega (arith, marks-are m marks))))))
 
-  -- so a written rule keeps what its file promises
-  pub written-rule : {entry exit : List ℕ} {r : ℕ} → AllReached m → AtFront (fileOf m marks) entry exit r → WrittenRule m marks entry exit r
-  written-rule reached w = record {
-    front = w;
-    passes = file-passes reached;
-    reads-back = reads-back m marks;
-    shape = file-shape m marks fits (lawful-names law);
-  }
+-- so a written rule whose marks are 1 keeps what its file promises
+pub written-rule : (m : Morphism) (marks : Marking) {entry exit : List ℕ} {r : ℕ} → FitsFormat m → FitsGrades m marks → Lawful m → LinkedOnly m (level 1 marks)
+    → AllReached m → AtFront (fileOf m marks) entry exit r → WrittenRule m marks entry exit r
+written-rule m marks fits grades law linked reached w = record {
+  front = w;
+  passes = file-passes m marks fits grades law linked reached;
+  reads-back = reads-back m marks;
+  shape = file-shape m marks fits grades (lawful-names law);
+}

@@ -9,16 +9,16 @@ use lib.ListN.{length}
 use Rattle.finite.specs.Select.{selectFrom, select}
 use Rattle.theory.specs.Rules.{Morphism, Marking}
 use Rattle.formats.specs.RuleFile.{markWidth}
-use Rattle.formats.specs.WrittenFile.{isMarked, pairBytes, markNumbers, marksBytes}
-use Rattle.formats.proofs.Pairs.{pairs-length, pairs-size}
+use Rattle.formats.specs.WrittenFile.{isMarked, markBytes, markNumbers, marksBytes}
+use Rattle.formats.proofs.MarkBytes.{marks-length, marks-size}
 
--- n elements and nothing else: what the pairs of a file look at
+-- n elements and nothing else: what the marks of a file look at
 abbrev pub sized : ℕ → Morphism
 sized n = record { size = n; letters = 0; product = λ a b. 0; image = λ a. 0 }
 
 -- the bytes of the marked ones among `count` pairs of n elements, from the pair with the number `from` on
-unfoldable pub pairsFrom : ℕ → Marking → ℕ → ℕ → List ℕ
-pairsFrom n marks from count = pairBytes (sized n) (selectFrom count from (isMarked (sized n) marks) (λ i. i))
+unfoldable pub marksFrom : ℕ → Marking → ℕ → ℕ → List ℕ
+marksFrom n marks from count = markBytes (sized n) marks (selectFrom count from (isMarked (sized n) marks) (λ i. i))
 
 -- the numbers of the marked pairs depend on the size only
 numbers-are : (m : Morphism) (marks : Marking) (n : ℕ) → m .size ≡ n
@@ -26,15 +26,15 @@ numbers-are : (m : Morphism) (marks : Marking) (n : ℕ) → m .size ≡ n
 unfolding markNumbers select isMarked
 numbers-are m marks n e = ap (λ (k : ℕ). selectFrom (k * k) 0 (λ i. ltb 0 (marks (i / k) (i % k))) (λ i. i)) e
 
--- as many pairs as their bytes hold
-pairs-count : (m : Morphism) (xs : List ℕ) → length xs ≡ length (pairBytes m xs) / markWidth
-pairs-count m xs = sym (ap (λ (c : ℕ). c / markWidth) (pairs-length m xs) ∙ mul-div-right (length xs) (omega arith))
+-- as many marks as their bytes hold
+marks-count : (m : Morphism) (marks : Marking) (xs : List ℕ) → length xs ≡ length (markBytes m marks xs) / markWidth
+marks-count m marks xs = sym (ap (λ (c : ℕ). c / markWidth) (marks-length m marks xs) ∙ mul-div-right (length xs) (omega arith))
 
--- all pairs after their count are the marks' section
+-- all marks after their count are the marks' section
 pub section-is : (m : Morphism) (marks : Marking) (n : ℕ) → m .size ≡ n
     → marksBytes m marks
-    ≡ (length (pairsFrom n marks 0 (n * n)) / markWidth % 256 ∷ length (pairsFrom n marks 0 (n * n)) / markWidth / 256 ∷ pairsFrom n marks 0 (n * n))
-unfolding marksBytes pairsFrom
+    ≡ (length (marksFrom n marks 0 (n * n)) / markWidth % 256 ∷ length (marksFrom n marks 0 (n * n)) / markWidth / 256 ∷ marksFrom n marks 0 (n * n))
+unfolding marksBytes marksFrom
 section-is m marks n e =
-    ap (λ (xs : List ℕ). length xs % 256 ∷ length xs / 256 ∷ pairBytes m xs) (numbers-are m marks n e)
-    ∙ ap₂ (λ (c : ℕ) (l : List ℕ). c % 256 ∷ c / 256 ∷ l) (pairs-count (sized n) _) (pairs-size (sized n) m e _)
+    ap (λ (xs : List ℕ). length xs % 256 ∷ length xs / 256 ∷ markBytes m marks xs) (numbers-are m marks n e)
+    ∙ ap₂ (λ (c : ℕ) (l : List ℕ). c % 256 ∷ c / 256 ∷ l) (marks-count (sized n) marks _) (marks-size (sized n) m marks e _)

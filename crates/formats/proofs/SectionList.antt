@@ -8,7 +8,7 @@ use lib.ListN.{length, getD, take, drop, length-drop}
 use lib.Seq.{take-all, getD-drop}
 use Rattle.answer.specs.Checks.{Check, passed, FirstFailure}
 use Rattle.answer.proofs.Order.{AllSingle, single-append, passed-before, passed-first, passed-last}
-use Rattle.formats.specs.Sections.{CountWidth, one-byte, two-byte, countBytes, countAt, twoBytes, Section, sectionChecks}
+use Rattle.formats.specs.Sections.{CountWidth, one-byte, two-byte, countBytes, countAt, twoBytes, Section, InRange, sectionChecks}
 use Rattle.formats.proofs.Sections.{passed-good, good-passes, section-single}
 
 -- a list of sections, each given the counts before it
@@ -57,8 +57,8 @@ pub record GoodAt (s : Section) (bytes : List ℕ) (at : ℕ) : Type 0 where
   pub above : s .low ≤ countIn (s .width) bytes at
   pub within : countIn (s .width) bytes at ≤ s .high
   pub inside : at + sizeFor s (countIn (s .width) bytes at) ≤ length bytes
-  pub entries-below : (i : ℕ) → i < s .entries (countIn (s .width) bytes at)
-      → getD bytes (at + (countBytes (s .width) + i)) 0 < s .bound (countIn (s .width) bytes at) i
+  pub entries-good : (i : ℕ) → i < s .entries (countIn (s .width) bytes at)
+      → InRange (s .floor (countIn (s .width) bytes at) i) (s .bound (countIn (s .width) bytes at) i) (getD bytes (at + (countBytes (s .width) + i)) 0)
 
 -- each section of a list at its place
 abbrev pub AllGood : SectionList → ℕ → List ℕ → Type 0
@@ -87,9 +87,10 @@ module _ (s : Section) (input at : ℕ) (bytes : List ℕ) (passes : FirstFailur
         above = subst (λ (c : ℕ). s .low ≤ c) e (g .above);
         within = subst (λ (c : ℕ). c ≤ s .high) e (g .within);
         inside = omega (arith, long, length-drop at bytes, some-bytes (s .width));
-        entries-below = λ i h.
-            subst (λ (x : ℕ). x < s .bound (countIn (s .width) bytes at) i) (getD-drop at bytes (countBytes (s .width) + i) 0)
-            (subst (λ (c : ℕ). i < s .entries c → getD (drop at bytes) (countBytes (s .width) + i) 0 < s .bound c i) e (g .entries-below i) h);
+        entries-good = λ i h.
+            subst (InRange (s .floor (countIn (s .width) bytes at) i) (s .bound (countIn (s .width) bytes at) i))
+            (getD-drop at bytes (countBytes (s .width) + i) 0)
+            (subst (λ (c : ℕ). i < s .entries c → InRange (s .floor c i) (s .bound c i) (getD (drop at bytes) (countBytes (s .width) + i) 0)) e (g .entries-good i) h);
       }
 
   -- and passes in any input

@@ -12,10 +12,10 @@ use lib.Arith.{digits-lt, digits-div, digits-mod}
 use Rattle.theory.specs.Rules.{Morphism, Marking}
 use Rattle.formats.specs.Sections.{twoBytes}
 use Rattle.formats.specs.Table.{productAt, imageAt}
-use Rattle.formats.specs.RuleFile.{elementsOf, lettersAt, lettersOf, marksAt, marksOf, markWidth, markStart, markCycle, ruleEnd}
-use Rattle.formats.specs.WrittenFile.{tabulate, elementsBytes, lettersBytes, markNumbers, marksBytes, fileOf}
+use Rattle.formats.specs.RuleFile.{elementsOf, lettersAt, lettersOf, marksAt, marksOf, markWidth, markStart, markCycle, markGrade, ruleEnd}
+use Rattle.formats.specs.WrittenFile.{tabulate, elementsBytes, lettersBytes, markNumbers, markBytes, marksBytes, fileOf}
 use Rattle.formats.proofs.Tabulated.{tabulate-length, tabulate-at}
-use Rattle.formats.proofs.Pairs.{pairs-length, pair-start, pair-cycle}
+use Rattle.formats.proofs.MarkBytes as bytes
 
 -- the byte i further than a place is the i-th byte from there on
 from-place : (bytes rest : List ℕ) (at i : ℕ) → drop at bytes ≡ rest → getD bytes (at + i) 0 ≡ getD rest i 0
@@ -33,7 +33,7 @@ module _ (m : Morphism) (marks : Marking) where
 
   pub marks-length : length (marksBytes m marks) ≡ 2 + markWidth * length (markNumbers m marks)
   unfolding marksBytes
-  marks-length = omega (arith, pairs-length m (markNumbers m marks))
+  marks-length = omega (arith, bytes.marks-length m marks (markNumbers m marks))
 
   -- what stands from each section on
   from-letters : drop (1 + m .size * m .size) (fileOf m marks) ≡ lettersBytes m ++ marksBytes m marks
@@ -115,20 +115,25 @@ module _ (m : Morphism) (marks : Marking) where
       ∙ List·getD-append (tabulate 0 (m .letters) (m .image)) _ 0 a (omega (arith, tabulate-length 0 (m .letters) (m .image)))
       ∙ tabulate-at (m .letters) (m .image) a h
 
-  -- the j-th mark
+  -- a byte of the marks
+  mark-byte : (at i : ℕ) → at ≡ marksAt (fileOf m marks) + (2 + i) → getD (fileOf m marks) at 0 ≡ getD (markBytes m marks (markNumbers m marks)) i 0
+  unfolding marksBytes
+  mark-byte at i e =
+      ap (λ (x : ℕ). getD (fileOf m marks) x 0) (let q : at ≡ marksAt (fileOf m marks) + suc (suc i) = omega arith in q)
+      ∙ from-place (fileOf m marks) _ (marksAt (fileOf m marks)) (suc (suc i)) marks-from
+
+  -- the j-th mark: its pair and its grade
   pub start-stands : (j : ℕ) → j < length (markNumbers m marks)
       → markStart (fileOf m marks) (marksAt (fileOf m marks)) j ≡ getD (markNumbers m marks) j 0 / m .size
-  unfolding markStart marksBytes
-  start-stands j h =
-      from-place (fileOf m marks) _ (marksAt (fileOf m marks)) (2 + markWidth * j) marks-from
-      ∙ ap (λ (i : ℕ). getD (marksBytes m marks) i 0) (let e : 2 + markWidth * j ≡ suc (suc (markWidth * j)) = omega arith in e)
-      ∙ pair-start m (markNumbers m marks) j h
+  unfolding markStart
+  start-stands j h = mark-byte _ (markWidth * j) refl ∙ bytes.mark-start m marks (markNumbers m marks) j h
 
   pub cycle-stands : (j : ℕ) → j < length (markNumbers m marks)
       → markCycle (fileOf m marks) (marksAt (fileOf m marks)) j ≡ getD (markNumbers m marks) j 0 % m .size
-  unfolding markCycle marksBytes
-  cycle-stands j h =
-      ap (λ (i : ℕ). getD (fileOf m marks) i 0)
-      (let e : marksAt (fileOf m marks) + (2 + markWidth * j) + 1 ≡ marksAt (fileOf m marks) + suc (suc (markWidth * j + 1)) = omega arith in e)
-      ∙ from-place (fileOf m marks) _ (marksAt (fileOf m marks)) (suc (suc (markWidth * j + 1))) marks-from
-      ∙ pair-cycle m (markNumbers m marks) j h
+  unfolding markCycle
+  cycle-stands j h = mark-byte _ (markWidth * j + 1) (omega arith) ∙ bytes.mark-cycle m marks (markNumbers m marks) j h
+
+  pub grade-stands : (j : ℕ) → j < length (markNumbers m marks)
+      → markGrade (fileOf m marks) (marksAt (fileOf m marks)) j ≡ marks (getD (markNumbers m marks) j 0 / m .size) (getD (markNumbers m marks) j 0 % m .size)
+  unfolding markGrade
+  grade-stands j h = mark-byte _ (markWidth * j + 2) (omega arith) ∙ bytes.mark-grade m marks (markNumbers m marks) j h

@@ -74,11 +74,11 @@ automatonEnd bytes = transitionsAt bytes + (2 + transitionWidth * transitionsOf 
 
 -- "a one-byte count of states, 1 to 6, then a byte for each (0 plain, 1 initial, 2 final, 3 both)"
 abbrev pub statesSection : Section
-statesSection = record { width = one-byte; low = 1; high = 6; entries = λ m. m; bound = λ m i. 4 }
+statesSection = record { width = one-byte; low = 1; high = 6; entries = λ m. m; floor = λ m i. 0; bound = λ m i. 4 }
 
 -- "a one-byte count of letters, 1 to 16, with no bytes following it"
 abbrev pub lettersSection : Section
-lettersSection = record { width = one-byte; low = 1; high = 16; entries = λ k. 0; bound = λ k i. 0 }
+lettersSection = record { width = one-byte; low = 1; high = 16; entries = λ k. 0; floor = λ k i. 0; bound = λ k i. 0 }
 
 -- "triples (from, letter, to)": what the i-th byte of the triples stays below, k for a letter and m for a state
 unfoldable pub tripleBound : ℕ → ℕ → ℕ → ℕ
@@ -86,4 +86,11 @@ tripleBound m k i = cond (eqb (i % transitionWidth) 1) k m
 
 -- "a two-byte count of transitions, 0 to 576, then triples (from, letter, to) of three bytes", of m states and k letters
 abbrev pub transitionsSection : ℕ → ℕ → Section
-transitionsSection m k = record { width = two-byte; low = 0; high = 576; entries = λ c. transitionWidth * c; bound = λ c i. tripleBound m k i }
+transitionsSection m k = record {
+  width = two-byte;
+  low = 0;
+  high = 576;
+  entries = λ c. transitionWidth * c;
+  floor = λ c i. 0;
+  bound = λ c i. tripleBound m k i;
+}

@@ -22,7 +22,8 @@ pub record UnlinkedAt (m : Morphism) (bytes : List ℕ) (at i place : ℕ) : Typ
   pub unlinked : Linked m (markStart bytes at i) (markCycle bytes at i) → ⊥
   pub is-place : place ≡ at + (2 + markWidth * i)
 
--- 8 "a pair or transition stands twice", said of the i-th mark as the later; place "first byte of the later"
+-- 8 "a pair or transition stands twice", said of the i-th mark as the later, and "A pair repeated with another grade is still 8"
+-- (document 02, Job 12); place "first byte of the later"
 pub record RepeatedAt (bytes : List ℕ) (at i place : ℕ) : Type 0 where
   pub earlier : ℕ
   pub before : earlier < i
@@ -82,9 +83,9 @@ pub record ShortAt (needed : ℕ) (buffer : List ℕ) (place : ℕ) : Type 0 whe
 abbrev pub scratchSize : ℕ
 scratchSize = 65536
 
--- "Buffers: rule out 12,308 bytes"
+-- "The longest rule file becomes 16,404 bytes, and rule buffers grow to that." (document 02, Job 12)
 abbrev pub ruleSize : ℕ
-ruleSize = 12308
+ruleSize = 16404
 
 -- "First 13", of a buffer that must have `needed` bytes
 abbrev pub bufferCheck : ℕ → List ℕ → Check

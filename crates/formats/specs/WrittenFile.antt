@@ -1,6 +1,6 @@
 -- The file that a rule is written as: its elements, its letters, and its marks by s, then by e. Document 01, "The rule file and
--- the automaton file". Assumes nothing.
-use Prim.Native.Nat.{ℕ, zero, suc, _*_, _/_, _%_, _≤_}
+-- the automaton file"; document 02, Job 12, for the grades. Assumes nothing.
+use Prim.Native.Nat.{ℕ, zero, suc, _*_, _/_, _%_, _≤_, _<_}
 use mathlib.Core.Bool.{Bool}
 use mathlib.Core.List.{List, [], _∷_, _++_}
 use lib.ListN.{length}
@@ -29,15 +29,15 @@ isMarked m marks i = ltb 0 (marks (i / m .size) (i % m .size))
 unfoldable pub markNumbers : Morphism → Marking → List ℕ
 markNumbers m marks = select (m .size * m .size) (isMarked m marks) (λ i. i)
 
--- "pairs (s, e) of two bytes"
-unfoldable pub pairBytes : Morphism → List ℕ → List ℕ
-pairBytes m [] = []
-pairBytes m (i ∷ rest) = i / m .size ∷ i % m .size ∷ pairBytes m rest
+-- "pairs (s, e) of two bytes", each with "a third byte, its grade": the marks with these numbers
+unfoldable pub markBytes : Morphism → Marking → List ℕ → List ℕ
+markBytes m marks [] = []
+markBytes m marks (i ∷ rest) = i / m .size ∷ i % m .size ∷ marks (i / m .size) (i % m .size) ∷ markBytes m marks rest
 
--- "a two-byte count, .. then pairs", the count's low byte first
+-- "a two-byte count, .. then pairs" with their grades, the count's low byte first
 unfoldable pub marksBytes : Morphism → Marking → List ℕ
 marksBytes m marks =
-    length (markNumbers m marks) % 256 ∷ length (markNumbers m marks) / 256 ∷ pairBytes m (markNumbers m marks)
+    length (markNumbers m marks) % 256 ∷ length (markNumbers m marks) / 256 ∷ markBytes m marks (markNumbers m marks)
 
 -- the whole file
 unfoldable pub fileOf : Morphism → Marking → List ℕ
@@ -49,3 +49,7 @@ pub record FitsFormat (m : Morphism) : Type 0 where
   pub small : m .size ≤ 64
   pub letters-some : 1 ≤ m .letters
   pub letters-small : m .letters ≤ 16
+
+-- "its grade 1 to 3": no number of a pair of elements is above the highest grade
+pub record FitsGrades (m : Morphism) (marks : Marking) : Type 0 where
+  pub grades : (s e : ℕ) → s < m .size → e < m .size → marks s e ≤ 3

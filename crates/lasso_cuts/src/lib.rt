@@ -1,20 +1,23 @@
-// Whether a rule accepts a lasso: the value of each beginning and each end of the cycle in one pass each, and then, for each
-// place of one turn, the powers of the turn's value. The marks stand in the first 4,096 bytes of scratch, a byte for each
-// pair; the values go behind them.
-use lasso_turns::some_cut;
+// The grade of a lasso: the value of each beginning and each end of the cycle in one pass each, and then, for each place of one
+// turn, the powers of the turn's value. The marks stand in the first 4,096 bytes of scratch, a byte for each pair; the values go
+// behind them.
+use lasso_turns::highest_cut;
 use rule_table::image;
 use rule_table::product;
 use scratch::BEGINNINGS_BASE;
 use scratch::ENDS_BASE;
+use sections::greatest;
 ghost use mathlib.Core.Path.{_≡_};
 ghost use Prim.Native.Nat.{_+_, _≤_};
 ghost use lib.ListN.{length};
-ghost use Rattle.theory.specs.Rules.{Lawful, element, value};
+ghost use Rattle.theory.specs.Rules.{Lawful, level, element, value};
 ghost use Rattle.theory.proofs.Membership.{accepts-test};
 ghost use Rattle.rule_table.specs.Table.{Table};
 ghost use Rattle.formats.specs.Table.{morphismAt};
 ghost use Rattle.lasso_cuts.specs.WordValues.{CallWord};
-ghost use Rattle.lasso_turns.specs.Cuts.{markedIn, Beginnings, Ends, KeptAround};
+ghost use Rattle.lasso_turns.specs.Cuts.{Beginnings, Ends, KeptAround};
+ghost use Rattle.lasso_turns.specs.Raising.{Raised};
+ghost use Rattle.scratch.specs.Map.{marksFrom};
 ghost use Rattle.formats.specs.RuleChecks.{scratchSize};
 
 // The value of a word.
@@ -72,25 +75,26 @@ fn ends(rule: &[u8], n: usize, k: usize, w: &[u8], scratch: &mut [u8], base: usi
     }
 }
 
-// Whether a lasso is accepted, and the value of its cycle.
-pub struct Tested {
-    pub accepted: bool,
+// The grade of a lasso, and the value of its cycle.
+pub struct Graded {
+    pub grade: usize,
     pub cycle: usize,
 }
 
-// Whether the lasso is accepted under the marks that stand in scratch. The bytes of scratch behind the marks are used.
-pub fn accepts(rule: &[u8], n: usize, k: usize, u: &[u8], v: &[u8], scratch: &mut [u8]) -> Tested
+// The grade of the lasso under the marks that stand in scratch. The bytes of scratch behind the marks are used.
+pub fn grade_of(rule: &[u8], n: usize, k: usize, u: &[u8], v: &[u8], scratch: &mut [u8]) -> Graded
     requires { ⌜ Table (now rule) n k ⌝ }
     requires { ⌜ Lawful (morphismAt (now rule) n k) ⌝ }
     requires { ⌜ CallWord k (now u) ⌝ }
     requires { ⌜ CallWord k (now v) ⌝ }
     requires { ⌜ scratchSize ≤ length (now scratch) ⌝ }
-    ensures acceptance { λ r. ⌜ r .accepted ≡ accepts-test (morphismAt (now (rule .entry)) n k) (markedIn (now (scratch .entry))) (now (u .entry)) (now (v .entry)) ⌝ }
+    ensures grade { λ r. ⌜ Raised (λ g. accepts-test (morphismAt (now (rule .entry)) n k) (level g (marksFrom (now (scratch .entry)) 0)) (now (u .entry)) (now (v .entry))) 0 (r .grade) ⌝ }
     ensures cycle { λ r. ⌜ value (morphismAt (now (rule .entry)) n k) (now (v .entry)) ≡ element (r .cycle) ⌝ }
 {
+    let top = greatest(scratch, 0, n * 64);
     let s = word_value(rule, n, k, u);
     let cycle = beginnings(rule, n, k, v, scratch, BEGINNINGS_BASE);
     ends(rule, n, k, v, scratch, ENDS_BASE);
-    let accepted = some_cut(rule, n, k, scratch, s, v.len());
-    Tested { accepted, cycle }
+    let grade = highest_cut(rule, n, k, scratch, s, v.len(), top) as usize;
+    Graded { grade, cycle }
 }

@@ -1,19 +1,16 @@
 -- What each way through the call for membership promises. Assumes nothing.
 use Prim.Native.Nat.{ℕ, _≤_, _<_}
-use mathlib.Core.Path.{_≡_, refl, sym, ap, _∙_, subst}
-use mathlib.Core.Bool.{Bool}
+use mathlib.Core.Path.{_≡_, refl, sym, _∙_, subst}
 use mathlib.Core.List.{List, [], _∷_}
 use native.Mathlib.Omega.{arith}
 use lib.ListN.{length, replicate}
-use lib.Dec.{leb}
 use Rattle.answer.specs.declared.Refusal.{Refusal}
 use Rattle.answer.specs.Checks.{passed, refused, FirstFailure}
 use Rattle.answer.proofs.Order.{refused-before, passed-before}
-use Rattle.finite.specs.Tells.{Tells}
-use Rattle.finite.proofs.Tells.{tells-same}
-use Rattle.theory.specs.Rules.{Morphism, Lawful, Pairs, marked, level, element, value}
-use Rattle.theory.specs.Acceptance.{Accepts}
-use Rattle.theory.specs.Pairs.{LinkedOnly, LeastPower, TurnsOf}
+use Rattle.theory.specs.Rules.{Morphism, Lawful, Marking, level, element, value}
+use Rattle.theory.specs.Grades.{Graded}
+use Rattle.theory.proofs.Gradings.{GradedMarks, graded-same}
+use Rattle.theory.specs.Pairs.{LeastPower, TurnsOf}
 use Rattle.theory.proofs.Words.{over-from}
 use Rattle.theory.proofs.Values.{inside-of}
 use Rattle.theory.proofs.Starts.{start-or-turn, turn-of-empty, start-of-some}
@@ -21,21 +18,24 @@ use Rattle.theory.proofs.Membership.{accepts-test}
 use Rattle.theory.proofs.Strength.{started-accepts}
 use Rattle.rule_table.specs.Table.{Table}
 use Rattle.formats.specs.Table.{morphismAt}
-use Rattle.formats.specs.RuleFile.{lettersOf, pairsOf}
+use Rattle.formats.specs.RuleFile.{lettersOf, markingOf}
 use Rattle.formats.specs.RuleChecks.{scratchSize}
 use Rattle.rule_layout.specs.declared.Shape.{Shape}
 use Rattle.rule_check.specs.declared.Checked.the-variants.{Rule, Refused as Checked-refused}
 use Rattle.rule_check.specs.Answers.{CheckPromise}
 use Rattle.formats.specs.Calls.{afterCall}
 use Rattle.rule_check.specs.GoodRule.{GoodRule}
+use Rattle.rule_check.proofs.CheckedRule.{graded-marks}
 use Rattle.rule_check.proofs.Calls.{scratch-long, called-good, zeros-left, checked-length, shape-morphism, shape-table}
 use Rattle.lasso_words.specs.declared.LassoFault.{LassoFault}
 use Rattle.lasso_words.specs.declared.LassoFault.the-variants.{Nothing, Refused as Lasso-refused}
 use Rattle.formats.specs.WordChecks.{shortestStart, shortestCycle, lassoChecks}
 use Rattle.lasso_words.specs.Answers.{GoodWord, GoodLasso, LassoAnswer}
 use Rattle.lasso_cuts.specs.WordValues.{CallWord}
-use Rattle.lasso_turns.specs.Cuts.{markedIn}
-use Rattle.lasso_cuts.proofs.Accepted.{Agrees, accepted-told}
+use Rattle.scratch.specs.Map.{marksFrom, MarkingAt}
+use Rattle.scratch.proofs.Markings.{front-mark}
+use Rattle.lasso_turns.specs.Raising.{Raised}
+use Rattle.lasso_cuts.proofs.Accepted.{graded-told}
 use Rattle.promises.specs.declared.Membership.the-variants.{Decided, Refused}
 use Rattle.promises.specs.Member.{MemberPromise}
 
@@ -56,13 +56,16 @@ unfolding start-or-turn
 start-call [] gu gv = cycle-call gv
 start-call {k} (a ∷ u) gu gv = record { over = over-from k (a ∷ u) (gu .letters); some = omega arith; short = gu .short }
 
--- the test with a turn of the cycle for an empty start
-module _ (m : Morphism) (P : Pairs) (u v : List ℕ) {b : Bool} where
-  pub turn-answer : length u < 1 → b ≡ accepts-test m P v v → b ≡ accepts-test m P (start-or-turn u v) v
-  turn-answer h e = e ∙ ap (λ x. accepts-test m P x v) (turn-of-empty u v h)
+-- the tests with a turn of the cycle for an empty start
+abbrev tested : Morphism → Marking → ℕ → List ℕ → List ℕ → Type 0
+tested m marks r v u = Raised (λ g. accepts-test m (level g marks) u v) 0 r
 
-  pub start-answer : 1 ≤ length u → b ≡ accepts-test m P u v → b ≡ accepts-test m P (start-or-turn u v) v
-  start-answer h e = e ∙ ap (λ x. accepts-test m P x v) (start-of-some u v h)
+module _ (m : Morphism) (marks : Marking) (u v : List ℕ) {r : ℕ} where
+  pub turn-answer : length u < 1 → tested m marks r v v → tested m marks r v (start-or-turn u v)
+  turn-answer h a = subst (tested m marks r v) (turn-of-empty u v h) a
+
+  pub start-answer : 1 ≤ length u → tested m marks r v u → tested m marks r v (start-or-turn u v)
+  start-answer h a = subst (tested m marks r v) (start-of-some u v h) a
 
 pub start-itself : {k : ℕ} (u v : List ℕ) → 1 ≤ length u → CallWord k (start-or-turn u v) → CallWord k u
 start-itself {k} u v h w = subst (CallWord k) (sym (start-of-some u v h)) w
@@ -82,18 +85,17 @@ module _ (bytes u v entry : List ℕ) where
     pub lawful : Lawful (morphismAt bytes (shape .elements) (shape .letters))
     lawful = subst Lawful (sym (shape-morphism (p .scratch .shape-is))) (good .lawful)
 
-    linked : LinkedOnly (morphismAt bytes (shape .elements) (shape .letters)) (pairsOf bytes)
-    linked = subst (λ (m : Morphism). LinkedOnly m (pairsOf bytes)) (sym (shape-morphism (p .scratch .shape-is))) (good .linked)
+    marks-good : GradedMarks (morphismAt bytes (shape .elements) (shape .letters)) (markingOf bytes)
+    marks-good = subst (λ (m : Morphism). GradedMarks m (markingOf bytes)) (sym (shape-morphism (p .scratch .shape-is))) (graded-marks good)
 
     pub long : scratchSize ≤ length mid
     long = omega (arith, scratch-long 1 bytes entry (p .refusal), checked-length (p .scratch))
 
-    -- the table of marks in scratch marks the file's pairs
-    agrees : Agrees (shape .elements) (pairsOf bytes) (markedIn mid)
-    unfolding marked level markedIn
-    agrees = record {
-      same = λ s e hs he. ap (leb 1)
-          (sym (p .scratch .mark s e (omega (arith, p .scratch .shape-is .elements)) (omega (arith, p .scratch .shape-is .elements))));
+    -- the file's marking stands in the table of marks in scratch
+    stands : MarkingAt (shape .elements) (markingOf bytes) mid 0
+    stands = record {
+      same = λ s e hs he.
+          sym (p .scratch .mark s e (omega (arith, p .scratch .shape-is .elements)) (omega (arith, p .scratch .shape-is .elements))) ∙ front-mark mid s e;
     }
 
     -- zeros after the marks or after their use
@@ -124,15 +126,16 @@ module _ (bytes u v entry : List ℕ) where
       cycle-inside = inside-of lawful (cycle-word .over)
 
       -- the lasso is decided
-      pub decided : {b : Bool} {x e turns : ℕ} → b ≡ accepts-test (morphismAt bytes (shape .elements) (shape .letters)) (markedIn mid) (start-or-turn u v) v
+      pub decided : {r x e turns : ℕ}
+          → Raised (λ g. accepts-test (morphismAt bytes (shape .elements) (shape .letters)) (level g (marksFrom mid 0)) (start-or-turn u v) v) 0 r
           → value (morphismAt bytes (shape .elements) (shape .letters)) v ≡ element x
           → LeastPower (morphismAt bytes (shape .elements) (shape .letters)) x e turns
-          → (was exit : List ℕ) → length was ≡ length mid → exit ≡ replicate (length was) 0 → MemberPromise bytes u v entry exit (Decided b turns)
-      decided {b} {x} {turns = turns} answer cycle power was exit kept z = record {
+          → (was exit : List ℕ) → length was ≡ length mid → exit ≡ replicate (length was) 0 → MemberPromise bytes u v entry exit (Decided r turns)
+      decided {r} {x} {turns = turns} answer cycle power was exit kept z = record {
         refusal = passed-before _ _ (p .refusal) words-passed;
         answered = (
-          subst (λ (m : Morphism). Tells (Accepts m (pairsOf bytes) u v) b) (shape-morphism (p .scratch .shape-is))
-              (tells-same (started-accepts u v (cycle-word .some)) (accepted-told table lawful linked start-word cycle-word mid agrees answer)),
+          subst (λ (m : Morphism). Graded m (markingOf bytes) u v r) (shape-morphism (p .scratch .shape-is))
+              (graded-same (λ g some. started-accepts u v (cycle-word .some)) (graded-told table lawful marks-good start-word cycle-word mid stands answer)),
           subst (λ (m : Morphism). TurnsOf m v turns) (shape-morphism (p .scratch .shape-is))
               (record { cycle = x; cycle-value = cycle; turns-are = power .exponent-is }),
         );

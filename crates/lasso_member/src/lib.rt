@@ -1,7 +1,7 @@
-// Whether a rule accepts a lasso: u, then v for ever, or v for ever where u is empty; and after how many turns of v its value settles.
+// The grade of a lasso: u, then v for ever, or v for ever where u is empty; and after how many turns of v its value settles.
 // Any rule that passes its checks is asked, weak ones too.
-use lasso_cuts::Tested;
-use lasso_cuts::accepts;
+use lasso_cuts::Graded;
+use lasso_cuts::grade_of;
 use lasso_words::LassoFault;
 use lasso_words::lasso_fault;
 use promises::Membership;
@@ -12,30 +12,31 @@ use sections::zero;
 ghost use mathlib.Core.Path.{_≡_};
 ghost use Prim.Native.Nat.{_≤_};
 ghost use lib.ListN.{length};
-ghost use Rattle.theory.specs.Rules.{Lawful, element, value};
+ghost use Rattle.theory.specs.Rules.{Lawful, level, element, value};
 ghost use Rattle.theory.proofs.Starts.{start-or-turn};
 ghost use Rattle.theory.proofs.Membership.{accepts-test};
 ghost use Rattle.rule_table.specs.Table.{Table};
 ghost use Rattle.formats.specs.Table.{morphismAt};
 ghost use Rattle.formats.specs.RuleChecks.{scratchSize};
 ghost use Rattle.lasso_cuts.specs.WordValues.{CallWord};
-ghost use Rattle.lasso_turns.specs.Cuts.{markedIn};
+ghost use Rattle.lasso_turns.specs.Raising.{Raised};
+ghost use Rattle.scratch.specs.Map.{marksFrom};
 ghost use Rattle.promises.specs.Member.{MemberPromise};
 
-// Whether the marks accept the lasso; a turn of the cycle stands for an empty start.
-fn accepts_lasso(rule: &[u8], n: usize, k: usize, u: &[u8], v: &[u8], scratch: &mut [u8]) -> Tested
+// The grade of the lasso under the marks; a turn of the cycle stands for an empty start.
+fn lasso_grade(rule: &[u8], n: usize, k: usize, u: &[u8], v: &[u8], scratch: &mut [u8]) -> Graded
     requires { ⌜ Table (now rule) n k ⌝ }
     requires { ⌜ Lawful (morphismAt (now rule) n k) ⌝ }
     requires { ⌜ CallWord k (start-or-turn (now u) (now v)) ⌝ }
     requires { ⌜ CallWord k (now v) ⌝ }
     requires { ⌜ scratchSize ≤ length (now scratch) ⌝ }
-    ensures acceptance { λ r. ⌜ r .accepted ≡ accepts-test (morphismAt (now (rule .entry)) n k) (markedIn (now (scratch .entry))) (start-or-turn (now (u .entry)) (now (v .entry))) (now (v .entry)) ⌝ }
+    ensures grade { λ r. ⌜ Raised (λ g. accepts-test (morphismAt (now (rule .entry)) n k) (level g (marksFrom (now (scratch .entry)) 0)) (start-or-turn (now (u .entry)) (now (v .entry))) (now (v .entry))) 0 (r .grade) ⌝ }
     ensures cycle { λ r. ⌜ value (morphismAt (now (rule .entry)) n k) (now (v .entry)) ≡ element (r .cycle) ⌝ }
 {
     if u.len() < 1 {
-        return accepts(rule, n, k, v, v, scratch);
+        return grade_of(rule, n, k, v, v, scratch);
     }
-    accepts(rule, n, k, u, v, scratch)
+    grade_of(rule, n, k, u, v, scratch)
 }
 
 pub fn member(rule: &[u8], u: &[u8], v: &[u8], scratch: &mut [u8]) -> Membership
@@ -72,11 +73,11 @@ pub fn member(rule: &[u8], u: &[u8], v: &[u8], scratch: &mut [u8]) -> Membership
             };
         }
     }
-    let tested = accepts_lasso(rule, n, k, u, v, scratch);
-    let power = idempotent_power(rule, n, k, tested.cycle);
+    let graded = lasso_grade(rule, n, k, u, v, scratch);
+    let power = idempotent_power(rule, n, k, graded.cycle);
     zero(scratch);
     Membership::Decided {
-        accepted: tested.accepted,
+        grade: graded.grade,
         turns: power.exponent,
     }
 }

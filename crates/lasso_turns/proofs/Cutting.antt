@@ -1,22 +1,26 @@
 -- The search of the cuts over the two tables of values is the test of membership. Assumes nothing.
 use Prim.Native.Nat.{ℕ, suc, _+_, _*_, _≤_, _<_}
-use mathlib.Core.Path.{_≡_, sym, ap, _∙_}
+use mathlib.Core.Path.{_≡_, sym, ap, _∙_, subst}
 use mathlib.Core.Bool.{Bool}
-use mathlib.Core.Logic.{⊎-elim}
+use mathlib.Core.Logic.{_↔_, ⊎-elim}
 use mathlib.Core.List.{List, _++_}
 use native.Mathlib.Omega.{arith}
 use borrow.Author.Tests.{lt-ltb, le-ltb}
 use lib.ListN.{length, getD, take, drop, drop-of-length-le}
-use lib.Dec.{ltb}
+use lib.Dec.{T, leb}
 use Rattle.finite.proofs.Numbers.{le-or-lt}
 use Rattle.theory.specs.Words.{Over}
-use Rattle.theory.specs.Rules.{Morphism, Lawful, Pairs, Value, element, join, value}
+use Rattle.theory.specs.Rules.{Morphism, Lawful, Pairs, Value, level, element, join, value}
 use Rattle.theory.proofs.Words.{over-take, over-drop}
 use Rattle.theory.proofs.Values.{value-append, join-elements, inside-of}
 use Rattle.theory.proofs.Membership.{cut-look, cut-test-is, accepts-test}
-use Rattle.lasso_turns.specs.Cuts.{markedIn, Beginnings, Ends, KeptAround, CutValues, turnValue, cutAt, someCut}
+use Rattle.formats.proofs.Sections.{AllInRange}
+use Rattle.scratch.specs.Map.{marksFrom}
+use Rattle.lasso_turns.specs.Raising.{Raised, MarksUpTo}
+use Rattle.lasso_turns.proofs.Raises.{raised-same}
+use Rattle.lasso_turns.specs.Cuts.{Beginnings, Ends, KeptAround, CutValues, turnValue, cutAt, someCut}
 use Rattle.lasso_turns.proofs.Looks.{any-same}
-use Rattle.lasso_turns.proofs.Agreement.{Agrees, accepts-test-agrees}
+use Rattle.lasso_turns.proofs.Agreement.{accepts-test-agrees}
 
 -- the turn's value at a cut that has letters behind it, and at the last cut
 pub turn-value-inner : (m : Morphism) (bytes : List ℕ) (len j : ℕ) → j + 1 < len
@@ -75,12 +79,10 @@ module _ {m : Morphism} (law : Lawful m) (v bytes : List ℕ) (ov : Over (m .let
   }
 
 -- stores behind the marks leave the marks of up to 64 elements
-pub marks-kept : (entry now : List ℕ) {n : ℕ} → n ≤ 64 → ((i : ℕ) → i < 4096 → getD now i 0 ≡ getD entry i 0)
-    → Agrees n (markedIn now) (markedIn entry)
-unfolding markedIn
-marks-kept entry now {n} small kept = record {
-  same = λ s e hs he. ap (ltb 0) (kept (s * 64 + e) (omega arith));
-}
+pub marks-kept : (entry now : List ℕ) {n : ℕ} → n ≤ 64 → ((i : ℕ) → i < 4096 → getD now i 0 ≡ getD entry i 0) → (s e : ℕ) → s < n → e < n
+    → marksFrom now 0 s e ≡ marksFrom entry 0 s e
+unfolding marksFrom
+marks-kept entry now {n} small kept s e hs he = kept (0 + (s * 64 + e)) (omega arith)
 
 -- both tables of values of v stand behind the marks, which are as they were at entry
 pub record BothTables (m : Morphism) (v entry now : List ℕ) : Type 0 where
@@ -99,10 +101,27 @@ both-tables {m} {v} {entry} {between} {now} short b first e second = record {
   marks = λ i h. second .before i (omega arith) ∙ first .before i h;
 }
 
--- what the search of the cuts answers is the test of membership with the marks at entry
-pub membership : {m : Morphism} {u v entry now : List ℕ} {s : ℕ} {b : Bool} → Lawful m → m .size ≤ 64 → Over (m .letters) u → Over (m .letters) v
-    → value m u ≡ element s → BothTables m v entry now → b ≡ someCut m (markedIn now) s now (length v)
-    → b ≡ accepts-test m (markedIn entry) u v
-membership {m} {u} {v} {entry} {now} law small ou ov eu t eb =
-    eb ∙ some-cut-is law v now ov (t .begins) (t .ends) (markedIn now) ou eu
-    ∙ accepts-test-agrees law (marks-kept entry now small (t .marks)) ou ov
+-- what the search of the cuts answers is the test of membership with the marks at entry, at each grade
+pub membership : {m : Morphism} {u v entry now : List ℕ} {s r : ℕ} → Lawful m → m .size ≤ 64 → Over (m .letters) u → Over (m .letters) v
+    → value m u ≡ element s → BothTables m v entry now → Raised (λ g. someCut m (level g (marksFrom now 0)) s now (length v)) 0 r
+    → Raised (λ g. accepts-test m (level g (marksFrom entry 0)) u v) 0 r
+unfolding level
+membership {m} {u} {v} {entry} {now} {s} law small ou ov eu tables raised = raised-same (λ g some. same (is g)) raised
+  where
+    is : (g : ℕ) → someCut m (level g (marksFrom now 0)) s now (length v) ≡ accepts-test m (level g (marksFrom entry 0)) u v
+    is g =
+        some-cut-is law v now ov (tables .begins) (tables .ends) (level g (marksFrom now 0)) ou eu
+        ∙ accepts-test-agrees law (record { same = λ t e hs he. ap (leb g) (marks-kept entry now small (tables .marks) t e hs he) }) ou ov
+
+    same : {a b : Bool} → a ≡ b → T a ↔ T b
+    same e = (λ x. subst T e x, λ x. subst T (sym e) x)
+
+-- what bounds the marks at entry bounds them after such stores
+pub marks-up-to : (entry now : List ℕ) {n top : ℕ} → n ≤ 64 → ((i : ℕ) → i < 4096 → getD now i 0 ≡ getD entry i 0) → MarksUpTo n (marksFrom entry 0) top
+    → MarksUpTo n (marksFrom now 0) top
+marks-up-to entry now small kept up = record { small = λ s e hs he. rw (marks-kept entry now small kept s e hs he) (up .small s e hs he) }
+
+-- no mark is above the greatest byte of the table
+pub greatest-up-to : (bytes : List ℕ) {n top : ℕ} → n ≤ 64 → AllInRange bytes 0 (n * 64) (λ i. 0) (λ i. top + 1) → MarksUpTo n (marksFrom bytes 0) top
+unfolding marksFrom
+greatest-up-to bytes {n} small all = record { small = λ s e hs he. omega (arith, all .each (s * 64 + e) (omega arith) .below) }

@@ -1,6 +1,6 @@
--- What stands in lent bytes while a lasso is tested: a marking, and the values of the beginnings and of the ends of a word; and
--- the search of a cycle's cuts over them. Assumes nothing.
-use Prim.Native.Nat.{ℕ, suc, _+_, _*_, _≤_, _<_}
+-- What stands in lent bytes while a lasso is tested: the values of the beginnings and of the ends of a word; and the search of a
+-- cycle's cuts over them. Assumes nothing.
+use Prim.Native.Nat.{ℕ, suc, _+_, _≤_, _<_}
 use mathlib.Core.Path.{_≡_}
 use mathlib.Core.Bool.{Bool, cond}
 use mathlib.Core.List.{List}
@@ -11,10 +11,6 @@ use Rattle.theory.specs.Rules.{Morphism, Pairs, element, value}
 use Rattle.theory.proofs.Membership.{turn-test}
 use Rattle.scratch.specs.Map.{beginningsBase, endsBase, wordsEnd}
 use Rattle.scratch.specs.Bytes.{UnchangedOutside}
-
--- the pairs that a table of bytes marks: (s, e) has a byte at s·64 + e
-unfoldable pub markedIn : List ℕ → Pairs
-markedIn bytes s e = ltb 0 (getD bytes (s * 64 + e) 0)
 
 -- byte base + j is the value of the word's first j + 1 letters
 pub record Beginnings (m : Morphism) (w bytes : List ℕ) (base : ℕ) : Type 0 where

@@ -25,19 +25,19 @@ length-passes : {shortest : ℕ} {w : List ℕ} → GoodLength shortest w → (p
 length-passes g place o = ⊎-elim (λ l. omega (arith, g .some)) (λ l. omega (arith, g .short)) (o .outside)
 
 -- the search for a letter that is not below k, from the first letter on
-module _ (k : ℕ) (w : List ℕ) (answer : Found) (known : FoundOut w 0 (length w) (λ i. k) answer) where
+module _ (k : ℕ) (w : List ℕ) (answer : Found) (known : FoundOut w 0 (length w) (λ i. 0) (λ i. k) answer) where
   pub foreign-at : {i : ℕ} → answer ≡ At i → UnknownLetterAt k w i
-  foreign-at {i} e = go (subst (FoundOut w 0 (length w) (λ i. k)) e known)
+  foreign-at {i} e = go (subst (FoundOut w 0 (length w) (λ i. 0) (λ i. k)) e known)
     where
-      go : FirstOut w 0 (length w) (λ i. k) i → UnknownLetterAt k w i
+      go : FirstOut w 0 (length w) (λ i. 0) (λ i. k) i → UnknownLetterAt k w i
       go o = record {
         inside = o .below;
-        foreign = subst (λ (x : ℕ). k ≤ getD w x 0) (zero-add i) (o .outside);
-        first = λ j h. subst (λ (x : ℕ). getD w x 0 < k) (zero-add j) (o .first j h);
+        foreign = subst (λ (x : ℕ). k ≤ getD w x 0) (zero-add i) (⊎-elim (λ l. absurd (let z : ⊥ = omega arith in z)) (λ l. l) (o .outside));
+        first = λ j h. subst (λ (x : ℕ). getD w x 0 < k) (zero-add j) (o .first j h .below);
       }
 
   pub letters-below : answer ≡ Nothing → (i : ℕ) → i < length w → getD w i 0 < k
-  letters-below e i h = subst (λ (x : ℕ). getD w x 0 < k) (zero-add i) (subst (FoundOut w 0 (length w) (λ i. k)) e known .below i h)
+  letters-below e i h = subst (λ (x : ℕ). getD w x 0 < k) (zero-add i) (subst (FoundOut w 0 (length w) (λ i. 0) (λ i. k)) e known .each i h .below)
 
 letters-pass : {k : ℕ} {w : List ℕ} → ((i : ℕ) → i < length w → getD w i 0 < k) → (place : ℕ) → UnknownLetterAt k w place → ⊥
 letters-pass f place o = omega (arith, f place (o .inside), o .foreign)

@@ -2,21 +2,21 @@
 -- neither, and have the same closure, and markings that agree there have the same closure. Assumes nothing.
 use Prim.Native.Nat.{ℕ, _≤_, _<_}
 use mathlib.Core.Path.{_≡_, sym, _∙_, subst}
-use mathlib.Core.Logic.{_↔_, _⊎_, inl, inr}
+use mathlib.Core.Logic.{_↔_}
 use mathlib.Core.List.{List}
-use native.Mathlib.Omega.{arith}
 use native.Mathlib.Nat.{le-trans}
 use lib.Dec.{T}
-use Rattle.finite.proofs.Numbers.{le-or-lt}
 use Rattle.finite.proofs.Tests.{tests-equal}
 use Rattle.theory.specs.Rules.{Morphism, Lawful, Marking, Pairs, level}
 use Rattle.theory.specs.Acceptance.{Accepts, Strong}
 use Rattle.theory.specs.Pairs.{LinkedOnly}
+use Rattle.theory.specs.Grades.{StrongMarking}
 use Rattle.theory.proofs.Values.{inside-of}
-use Rattle.theory.proofs.Strength.{Closed, all-strong}
+use Rattle.theory.proofs.Strength.{Closed}
 use Rattle.theory.proofs.Closure.{closure-test, closure-intro, closure-elim}
-use Rattle.theory.proofs.Included.{marked-accepted}
-use Rattle.theory.proofs.Gradings.{GradedMarks, level-up, level-down, level-linked}
+use Rattle.theory.proofs.Included.{closed-marks-strong}
+use Rattle.theory.proofs.Gradings.{GradedMarks, level-up, level-linked}
+use Rattle.theory.proofs.GradedStrength.{levels-strong}
 use Rattle.theory.proofs.ClosureGrades.{closure-grade, closure-grade-small, closure-level, closure-grade-is}
 use Rattle.scratch.specs.Map.{marksFrom, MarkingAt}
 use Rattle.scratch.proofs.Markings.{level-same}
@@ -86,6 +86,9 @@ module _ {m : Morphism} (law : Lawful m) (F G : Marking) (same : (s e : ℕ) →
     linked = linked-agrees m (level 1 F) (level 1 G) (level-agrees 1) (k .linked);
   }
 
+  pub marking-strong-agrees : StrongMarking m F → StrongMarking m G
+  marking-strong-agrees k = record { at-each = λ g some. strong-agrees law (level g F) (level g G) (level-agrees g) (k .at-each g some) }
+
   pub closure-grade-agrees : GradedMarks m F → (s e : ℕ) → closure-grade m F s e ≡ closure-grade m G s e
   closure-grade-agrees k s e = closure-grade-is law k s e (closure-grade-small m G s e) (λ g some h.
       (let q = closure-agrees law (level g F) (level g G) (level-agrees g) (level-linked law k some) s e in
@@ -99,15 +102,8 @@ laid-closure {entry = entry} law marks k t l = record {
   same = λ s e hs he. closure-grade-agrees law marks (marksFrom entry 0) (t .same) k s e ∙ l .closure .same s e hs he;
 }
 
--- closed marks are strong at every level
-pub closed-strong : {m : Morphism} {marks : Marking} → Lawful m → GradedMarks m marks → ClosedMarks m marks → (g : ℕ) → 1 ≤ g → Strong m (level g marks)
-closed-strong {m} {marks} law k c g some = all-strong law (level-linked law k some) (record {
-  accepted = λ {s} {e} d ou ov eu ev. marked-accepted ou ov eu ev (level-up marks g s e (no-higher s e d (le-or-lt g 3)));
-})
-  where
-    no-higher : (s e : ℕ) → Closed m (level g marks) s e → (g ≤ 3) ⊎ (3 < g) → g ≤ marks s e
-    no-higher s e d (inl h) =
-        le-trans (closure-level law k g s e some h .0 (closure-intro d)) (c .closed s e (d .conjugate .left-linked .inside) (d .conjugate .left-linked .idempotent .inside))
-    no-higher s e d (inr h) =
-        let t = d .conjugate .right-linked in
-        absurd (omega (arith, level-down marks g (d .to-start) (d .to-cycle) (d .is-marked), k .small (d .to-start) (d .to-cycle) (t .inside) (t .idempotent .inside)))
+-- closed marks are strong
+pub closed-strong : {m : Morphism} {marks : Marking} → Lawful m → GradedMarks m marks → ClosedMarks m marks → StrongMarking m marks
+closed-strong {m} {marks} law k c = levels-strong law k (λ g some h.
+    closed-marks-strong law (level-linked law k some)
+    (λ s e hs he t. level-up marks g s e (le-trans (closure-level law k g s e some h .0 t) (c .closed s e hs he))))

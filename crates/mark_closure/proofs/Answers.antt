@@ -10,9 +10,9 @@ use lib.ListN.{getD}
 use Rattle.theory.specs.Rules.{Morphism}
 use Rattle.theory.proofs.ClosureGrades.{closure-grade}
 use Rattle.scratch.specs.Map.{marksFrom}
+use Rattle.scratch.proofs.Markings.{front-mark}
 use Rattle.mark_closure.specs.Closure.{ClosureRoom, ClosureLaid, ClosedMarks, UnclosedMarks, ClosureAnswer}
 use Rattle.mark_closure.specs.Closing.{SecondInFirst, SecondOnly, WithinAnswer}
-use Rattle.mark_closure.proofs.Tables.{first-marks}
 
 module _ {bytes : List ℕ} where
   -- nothing was looked at
@@ -34,7 +34,7 @@ module _ {bytes : List ℕ} where
 module _ {m : Morphism} {entry exit : List ℕ} (small : m .size ≤ 64) (r : ClosureRoom m entry) (l : ClosureLaid m entry exit) where
   -- the mark of a pair and its grade in the closure, as the two tables have them
   mark-at : (s e : ℕ) → s < m .size → e < m .size → marksFrom entry 0 s e ≡ getD exit (s * 64 + e) 0
-  mark-at s e hs he = sym (l .before (s * 64 + e) (omega arith) ∙ first-marks entry s e)
+  mark-at s e hs he = sym (l .before (s * 64 + e) (omega arith) ∙ front-mark entry s e)
 
   grade-at : (s e : ℕ) → s < m .size → e < m .size → closure-grade m (marksFrom entry 0) s e ≡ getD exit (4096 + (s * 64 + e)) 0
   unfolding marksFrom

@@ -1,6 +1,6 @@
 -- What the passes over the second table leave: one pair of factors after the other, and the closure once all were tried.
 -- Assumes nothing.
-use Prim.Native.Nat.{ℕ, _+_, _*_, _-_, _≤_, _<_}
+use Prim.Native.Nat.{ℕ, _+_, _*_, _≤_, _<_}
 use mathlib.Core.Path.{_≡_, sym, _∙_, subst}
 use mathlib.Core.List.{List}
 use native.Mathlib.Omega.{arith}
@@ -14,9 +14,10 @@ use Rattle.theory.proofs.Closure.{closure-test, closure-intro, closure-elim}
 use Rattle.theory.proofs.Gradings.{level-up, level-down, level-linked}
 use Rattle.theory.proofs.ClosureGrades.{closure-grade, closure-grade-is}
 use Rattle.scratch.specs.Map.{marksFrom}
+use Rattle.scratch.proofs.Markings.{front-mark}
 use Rattle.mark_closure.specs.Closure.{ClosureRoom, ClosureLaid}
 use Rattle.mark_closure.specs.Closing.{place, highestMark, firstTable, secondTable, Kept, ClosedSoFar, Advanced}
-use Rattle.mark_closure.proofs.Tables.{first-marks, kept-both, kept-before, kept-after, kept-first}
+use Rattle.mark_closure.proofs.Tables.{kept-both, kept-before, kept-after, kept-first}
 
 -- before any factors the second table is empty
 pub closed-none : {m : Morphism} {bytes : List ℕ} → m .size ≤ 64 → ClosureRoom m bytes → ClosedSoFar m 0 bytes
@@ -50,7 +51,7 @@ module _ {m : Morphism} {entry exit : List ℕ} (small : m .size ≤ 64) (law : 
   marks = marksFrom entry 0
 
   best : BestSoFar m highestMark (marksFrom entry 0) (m .size * m .size) (secondTable exit)
-  best = so-far-same law (λ s e hs he. kept-first small (a .kept) s e hs he ∙ first-marks entry s e) (a .so-far .marks)
+  best = so-far-same law (λ s e hs he. kept-first small (a .kept) s e hs he ∙ front-mark entry s e) (a .so-far .marks)
 
   module _ {s e byte : ℕ} where
     attained-small : Attained m highestMark marks s e byte → byte ≤ 3

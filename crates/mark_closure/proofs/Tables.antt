@@ -6,7 +6,7 @@ use native.Mathlib.Omega.{arith}
 use lib.ListN.{getD}
 use lib.Dec.{T, ltb}
 use mir.Facts.{ltb-yes, yes-ltb}
-use Rattle.theory.specs.Rules.{level, marked}
+use Rattle.theory.specs.Rules.{level}
 use Rattle.scratch.specs.Map.{marksFrom}
 use Rattle.mark_closure.specs.Closing.{place, firstTable, Kept}
 
@@ -15,23 +15,18 @@ pub place-same : (s e s′ e′ : ℕ) → e < 64 → e′ < 64 → place s e �
 place-same s e s′ e′ he he′ p = (omega arith, omega arith)
 
 -- a pair is in a table exactly if its byte is not 0
-pub pair-in : (bytes : List ℕ) (base s e : ℕ) → 0 < getD bytes (base + (s * 64 + e)) 0 → T (marked (marksFrom bytes base) s e)
-unfolding marked level marksFrom
+pub pair-in : (bytes : List ℕ) (base s e : ℕ) → 0 < getD bytes (base + (s * 64 + e)) 0 → T (level 1 (marksFrom bytes base) s e)
+unfolding level marksFrom
 pair-in bytes base s e h = yes-ltb h
 
-pub pair-byte : (bytes : List ℕ) (base s e : ℕ) → T (marked (marksFrom bytes base) s e) → 0 < getD bytes (base + (s * 64 + e)) 0
-unfolding marked level marksFrom
+pub pair-byte : (bytes : List ℕ) (base s e : ℕ) → T (level 1 (marksFrom bytes base) s e) → 0 < getD bytes (base + (s * 64 + e)) 0
+unfolding level marksFrom
 pair-byte bytes base s e t = ltb-yes t
-
--- the places of the first table are counted from 0
-pub first-marks : (bytes : List ℕ) (s e : ℕ) → firstTable bytes s e ≡ marksFrom bytes 0 s e
-unfolding marksFrom
-first-marks bytes s e = ap (λ (i : ℕ). getD bytes i 0) (let z : s * 64 + e ≡ 0 + (s * 64 + e) = omega arith in z)
 
 -- a byte that is as it was says what it said
 pub pair-kept : (now next : List ℕ) (base s e : ℕ) → getD next (base + (s * 64 + e)) 0 ≡ getD now (base + (s * 64 + e)) 0
-    → marked (marksFrom next base) s e ≡ marked (marksFrom now base) s e
-unfolding marked level marksFrom
+    → level 1 (marksFrom next base) s e ≡ level 1 (marksFrom now base) s e
+unfolding level marksFrom
 pair-kept now next base s e p = ap (ltb 0) p
 
 pub kept-none : (n : ℕ) (l : List ℕ) → Kept n l l

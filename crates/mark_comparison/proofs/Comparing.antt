@@ -4,7 +4,8 @@ use mathlib.Core.Path.{_≡_, refl, ap, _∙_, subst}
 use mathlib.Core.List.{List}
 use native.Mathlib.Omega.{arith}
 use lib.ListN.{length, replicate}
-use Rattle.theory.specs.Rules.{Morphism, Marking, level, marked}
+use Rattle.theory.specs.Rules.{Morphism, Marking, level}
+use Rattle.theory.proofs.Gradings.{level-linked}
 use Rattle.theory.proofs.Included.{none-included, escape-witness}
 use Rattle.rule_table.specs.Table.{Table}
 use Rattle.formats.specs.Table.{morphismAt}
@@ -15,9 +16,10 @@ use Rattle.scratch.proofs.Markings.{marking-itself}
 use Rattle.mark_spelling.specs.Spelling.{SpellNeeds}
 use Rattle.formats.specs.Front.{AtFront}
 use Rattle.mark_spelling.proofs.Entries.{spell-place}
-use Rattle.mark_search.specs.Search.{EscapeNeeds, EscapeAnswer, EscapedAt, Escaped}
-use Rattle.mark_search.specs.declared.Escape.{Escape}
-use Rattle.mark_search.specs.declared.Escape.the-variants.{At, Nothing as No-escape}
+use Rattle.mark_search.specs.Search.{EscapeNeeds, EscapedAt}
+use Rattle.mark_grade_search.specs.GradeSearch.{GradeEscapedAt, GradeEscapeAnswer, GradeEscaped}
+use Rattle.mark_grade_search.specs.declared.GradeEscape.{GradeEscape}
+use Rattle.mark_grade_search.specs.declared.GradeEscape.the-variants.{At, Nothing as No-escape}
 use Rattle.mark_cycles.specs.Cycles.{CycleNeeds, CycleWritten}
 use Rattle.mark_cycles.proofs.Spelled.{cycle-place, spelled-escapes, ended-short}
 use Rattle.mark_comparison.specs.Comparison.{StartNeeds, StartWritten, CompareNeeds, answered-included, answered-apart, Compared}
@@ -47,17 +49,19 @@ module _ {m : Morphism} {entry : List ℕ} (place : CompareNeeds m entry) where
     room = place .room;
   }
 
-  module _ {mid : List ℕ} {answer : Escape} (r : Escaped m 1 0 4096 entry mid answer) where
-    said : {answered : Escape} → answer ≡ answered → (F S : Marking) → MarkingAt (m .size) F entry 0 → MarkingAt (m .size) S entry 4096
-        → EscapeAnswer m (marked F) (marked S) mid answered
-    unfolding marked
-    said e F S t t′ = subst (EscapeAnswer m (level 1 F) (level 1 S) mid) e (r .says F S t t′)
+  module _ {mid : List ℕ} {answer : GradeEscape} (r : GradeEscaped m 0 4096 entry mid answer) where
+    said : {answered : GradeEscape} → answer ≡ answered → (F S : Marking) → MarkingAt (m .size) F entry 0 → MarkingAt (m .size) S entry 4096
+        → GradeEscapeAnswer m F S mid answered
+    said e F S t t′ = subst (GradeEscapeAnswer m F S mid) e (r .says F S t t′)
 
-    -- no cycle escapes
+    -- no cycle escapes, at any grade
     pub compared-within : {end : List ℕ} (u v : List ℕ) → answer ≡ No-escape → end ≡ replicate (length mid) 0 → Compared m u u v v entry end Is-included
     compared-within u v e z = record {
-      answers = λ F S l l′ t t′. record {
-        included = none-included (place .lawful) l l′ (said e F S t t′);
+      answers = λ F S k k′ t t′. record {
+        included = record {
+          at-each = λ g some. none-included (place .lawful) (level-linked (place .lawful) k some) (level-linked (place .lawful) k′ some)
+              (said e F S t t′ (k .small) g some);
+        };
         start-kept = refl;
         cycle-kept = refl;
       };
@@ -65,13 +69,13 @@ module _ {m : Morphism} {entry : List ℕ} (place : CompareNeeds m entry) where
       scratch = z ∙ ap (λ (x : ℕ). replicate x 0) (r .same-length);
     }
 
-    module _ {s i : ℕ} (e : answer ≡ At s i) where
-      escaped : (F S : Marking) → MarkingAt (m .size) F entry 0 → MarkingAt (m .size) S entry 4096 → EscapedAt m (marked F) (marked S) s mid i
+    module _ {g s i : ℕ} (e : answer ≡ At g s i) where
+      escaped : (F S : Marking) → MarkingAt (m .size) F entry 0 → MarkingAt (m .size) S entry 4096 → GradeEscapedAt m F S mid g s i
       escaped F S t t′ = said e F S t t′
 
       -- the markings stand as the table itself says
-      itself : EscapedAt m (marked (marksFrom entry 0)) (marked (marksFrom entry 4096)) s mid i
-      itself = escaped (marksFrom entry 0) (marksFrom entry 4096) (marking-itself (m .size) entry 0) (marking-itself (m .size) entry 4096)
+      itself : EscapedAt m (level g (marksFrom entry 0)) (level g (marksFrom entry 4096)) s mid i
+      itself = escaped (marksFrom entry 0) (marksFrom entry 4096) (marking-itself (m .size) entry 0) (marking-itself (m .size) entry 4096) .escaped
 
       pub start-room : {u : List ℕ} → 64 ≤ length u → StartNeeds m s u
       start-room h = record { lawful = place .lawful; reached = place .reached; inside = itself .start-inside; room = h }
@@ -79,20 +83,25 @@ module _ {m : Morphism} {entry : List ℕ} (place : CompareNeeds m entry) where
       pub cycle-room : {v : List ℕ} → 4224 ≤ length v → CycleNeeds (m .size) mid i v
       cycle-room h = cycle-place (place .lawful) (itself .ended) h
 
-      -- a cycle escapes: with the first word of its start it is a lasso that tells the markings apart
+      -- a cycle escapes: with the first word of its start it is a lasso that the first marking grades higher
       pub compared-apart : {end u u′ v v′ : List ℕ} {a b : ℕ} → StartWritten m s u u′ a → CycleWritten (m .size) mid i v v′ b → end ≡ replicate (length mid) 0
           → Compared m u u′ v v′ entry end (NotIncluded a b)
       compared-apart x y z = record {
-        answers = λ F S l l′ t t′. record {
-          start = x .found .word;
-          cycle = y .word;
-          witness =
-              let k = escaped F S t t′ .ended in
-              escape-witness (place .lawful) l l′ (x .found)
-              (record { cycle = y .word; escapes = spelled-escapes (place .lawful) k (y .spells); short = ended-short (place .lawful) k (length (y .word)) (y .short) });
-          start-written = x .written;
-          cycle-written = y .written;
-        };
+        answers = λ F S k k′ t t′.
+            (let d = escaped F S t t′ in
+            let f = d .escaped .ended in
+            record {
+              start = x .found .word;
+              cycle = y .word;
+              witness = record {
+                least = g;
+                some = d .some;
+                witness = escape-witness (place .lawful) (level-linked (place .lawful) k (d .some)) (level-linked (place .lawful) k′ (d .some)) (x .found)
+                    (record { cycle = y .word; escapes = spelled-escapes (place .lawful) f (y .spells); short = ended-short (place .lawful) f (length (y .word)) (y .short) });
+              };
+              start-written = x .written;
+              cycle-written = y .written;
+            });
         answered = answered-apart;
         scratch = z ∙ ap (λ (k : ℕ). replicate k 0) (r .same-length);
       }

@@ -3,8 +3,8 @@ use Prim.Native.Nat.{ℕ, _≤_, _<_}
 use mathlib.Core.Path.{_≡_}
 use mathlib.Core.List.{List}
 use lib.ListN.{length, replicate}
-use Rattle.theory.specs.Rules.{Morphism, Lawful, Marking, AllReached, marked}
-use Rattle.theory.specs.Pairs.{LinkedOnly}
+use Rattle.theory.specs.Rules.{Morphism, Lawful, Marking, AllReached}
+use Rattle.theory.proofs.Gradings.{GradedMarks}
 use Rattle.theory.proofs.ShortWords.{ShortWord}
 use Rattle.formats.specs.Front.{AtFront}
 use Rattle.promises.specs.Inclusion.{InclusionAnswer}
@@ -38,7 +38,7 @@ pub data Answered : Inclusion → Type 0 where
 
 -- two markings compared; scratch is zeros then
 pub record Compared (m : Morphism) (u-entry u-exit v-entry v-exit entry exit : List ℕ) (answer : Inclusion) : Type 0 where
-  pub answers : (F S : Marking) → LinkedOnly m (marked F) → LinkedOnly m (marked S) → MarkingAt (m .size) F entry 0 → MarkingAt (m .size) S entry secondBase
-      → InclusionAnswer m (marked F) (marked S) u-entry u-exit v-entry v-exit answer
+  pub answers : (F S : Marking) → GradedMarks m F → GradedMarks m S → MarkingAt (m .size) F entry 0 → MarkingAt (m .size) S entry secondBase
+      → InclusionAnswer m F S u-entry u-exit v-entry v-exit answer
   pub answered : Answered answer
   pub scratch : exit ≡ replicate (length entry) 0

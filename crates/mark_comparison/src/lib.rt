@@ -1,8 +1,8 @@
-// Two markings of a table that stand in scratch compared: whether each lasso that the first accepts is accepted under the second
-// too, and if not, a lasso that tells them apart.
+// Two markings of a table that stand in scratch compared: whether no lasso is graded higher by the first than by the second, and if one
+// is, such a lasso.
 use mark_cycles::write_cycle;
-use mark_search::Escape;
-use mark_search::first_escape;
+use mark_grade_search::GradeEscape;
+use mark_grade_search::highest_escape;
 use mark_spelling::write_first_word;
 use promises::Inclusion;
 use rule_reach::reach;
@@ -39,12 +39,16 @@ pub fn compare(
     requires { ⌜ (64 ≤ length (now u)) × (4224 ≤ length (now v)) ⌝ }
     ensures { λ r. ⌜ Compared (morphismAt (now (rule .entry)) n k) (now (u .entry)) (now (u .exit)) (now (v .entry)) (now (v .exit)) (now (scratch .entry)) (now (scratch .exit)) r ⌝ }
 {
-    match first_escape(rule, n, k, scratch, 0, SECOND_BASE, 1) {
-        Escape::Nothing => {
+    match highest_escape(rule, n, k, scratch, 0, SECOND_BASE) {
+        GradeEscape::Nothing => {
             zero(scratch);
             Inclusion::Included
         }
-        Escape::At { start, entry } => {
+        GradeEscape::At {
+            grade: _,
+            start,
+            entry,
+        } => {
             let u_letters = write_start(rule, n, k, start, u);
             let v_letters = write_cycle(scratch, n, entry, v);
             zero(scratch);

@@ -8,10 +8,10 @@ use lib.ListN.{length, replicate}
 use Rattle.answer.specs.declared.Refusal.{Refusal}
 use Rattle.answer.specs.declared.Refusal.the-variants.{BufferTooShort, NotStrong}
 use Rattle.answer.proofs.Order.{first-passes, first-fails, none-left, refused-before, passed-before}
-use Rattle.theory.specs.Rules.{Morphism, marked, level}
-use Rattle.theory.specs.Acceptance.{Strong}
+use Rattle.theory.specs.Rules.{Morphism}
+use Rattle.theory.specs.Grades.{StrongMarking}
 use Rattle.formats.specs.Table.{morphismAt}
-use Rattle.formats.specs.RuleFile.{morphismOf, markingOf, pairsOf}
+use Rattle.formats.specs.RuleFile.{morphismOf, markingOf}
 use Rattle.formats.specs.RuleChecks.{ruleSize}
 use Rattle.formats.proofs.Buffers.{buffer-short, buffer-long}
 use Rattle.rule_layout.specs.declared.Shape.{Shape}
@@ -26,13 +26,13 @@ use Rattle.formats.specs.Front.{AtFront}
 use Rattle.scratch.specs.Map.{marksFrom}
 use Rattle.mark_strong.specs.Deciding.{StrongIf, Decided}
 use Rattle.promises.specs.Weak.{weakCheck}
-use Rattle.mark_strong.proofs.Deciding.{closure-marked}
-use Rattle.mark_strong.proofs.Calling.{checked-table, checked-lawful, checked-reached, checked-linked, checked-graded, marks-stand, checked-room, decided-file}
+use Rattle.mark_strong.proofs.Calling.{checked-table, checked-lawful, checked-reached, checked-graded, marks-stand, checked-room, decided-file}
 use Rattle.promises.specs.Complement.{ComplementMarks, ComplementPromise}
 use Rattle.mark_complement_marks.specs.Complement.{ComplementLaid}
-use Rattle.mark_complement.specs.Promise.{WriteNeeds, secondMarking, secondFile}
+use Rattle.mark_complement.specs.Promise.{WriteNeeds, secondFile}
+use Rattle.formats.specs.WrittenFile.{FitsGrades}
 use Rattle.promises.specs.declared.Complemented.the-variants.{Rule, Refused}
-use Rattle.mark_complement.proofs.Complements.{laid-complement}
+use Rattle.mark_complement.proofs.Complements.{laid-complement, turned-small}
 
 not-not : (b : Bool) → not (not b) ≡ b
 not-not true = refl
@@ -70,7 +70,7 @@ module _ (bytes out entry : List ℕ) where
           let e : answer ≡ false = sym (not-not answer) ∙ ap not n in
           record {
             refusal = buffer-long long (passed-before _ _ (p .refusal)
-                (first-fails (weakCheck 1 bytes) (record { weak = subst (StrongIf (morphismOf bytes) (pairsOf bytes)) e (decided-file 1 bytes entry p d); is-place = refl })));
+                (first-fails (weakCheck 1 bytes) (record { weak = subst (StrongIf (morphismOf bytes) (markingOf bytes)) e (decided-file 1 bytes entry p d); is-place = refl })));
             answered = refl;
             scratch = zeros decided end refl z;
           }
@@ -87,21 +87,23 @@ module _ (bytes out entry : List ℕ) where
           e : answer ≡ true
           e = sym (not-not answer) ∙ ap not n
 
-          strong : Strong m (pairsOf bytes)
-          strong = subst (StrongIf m (pairsOf bytes)) e (d .decision (markingOf bytes) (checked-graded 1 bytes entry p) (marks-stand 1 bytes entry p))
+          strong : StrongMarking m (markingOf bytes)
+          strong = subst (StrongIf m (markingOf bytes)) e (d .decision (markingOf bytes) (checked-graded 1 bytes entry p) (marks-stand 1 bytes entry p))
 
-          -- the second table marks the complement
-          second-marks : ComplementMarks m (pairsOf bytes) (marked (secondMarking laid))
-          unfolding marked level marksFrom
+          -- the second table has the marks of the complement
+          second-marks : ComplementMarks m (markingOf bytes) (marksFrom laid 4096)
           second-marks =
-              laid-complement (checked-lawful 1 bytes entry p) (checked-reached 1 bytes entry p) (checked-linked 1 bytes entry p) strong
-              (λ s c hs hc. sym (closure-marked (checked-lawful 1 bytes entry p) d (markingOf bytes) (checked-graded 1 bytes entry p) (marks-stand 1 bytes entry p) s c hs hc)) l
+              laid-complement (checked-lawful 1 bytes entry p) (checked-reached 1 bytes entry p) (checked-graded 1 bytes entry p) strong
+              (d .closure (markingOf bytes) (checked-graded 1 bytes entry p) (marks-stand 1 bytes entry p)) l
 
-          written : {exit : List ℕ} {r : ℕ} → AtFront (secondFile m laid) out exit r → WrittenRule m (secondMarking laid) out exit r
+          grades-fit : FitsGrades m (marksFrom laid 4096)
+          grades-fit = record { grades = λ s c hs hc. rw (l .marks s c hs hc) (turned-small m (marksFrom decided 4096) s c) }
+
+          written : {exit : List ℕ} {r : ℕ} → AtFront (secondFile m laid) out exit r → WrittenRule m (marksFrom laid 4096) out exit r
           written w =
               let t = checked-table 1 bytes entry p in
-              written-rule m (secondMarking laid)
-              (record { some = t .some; small = t .small; letters-some = write-place .letters-some; letters-small = t .letters-small })
+              written-rule m (marksFrom laid 4096)
+              (record { some = t .some; small = t .small; letters-some = write-place .letters-some; letters-small = t .letters-small }) grades-fit
               (checked-lawful 1 bytes entry p) (second-marks .linked) (checked-reached 1 bytes entry p) w
 
           -- its file was written
@@ -109,11 +111,11 @@ module _ (bytes out entry : List ℕ) where
               → ComplementPromise bytes out exit entry end (Rule r)
           complement-written {exit} {end} {r} w z = record {
             refusal = buffer-long long (passed-before _ _ (p .refusal)
-                (first-passes (record { nowhere = λ place f. f .weak (subst (λ (x : Morphism). Strong x (pairsOf bytes)) same strong) }) none-left));
+                (first-passes (record { nowhere = λ place f. f .weak (subst (λ (x : Morphism). StrongMarking x (markingOf bytes)) same strong) }) none-left));
             answered = record {
-              marks = secondMarking laid;
-              is-complement = subst (λ (x : Morphism). ComplementMarks x (pairsOf bytes) (marked (secondMarking laid))) same second-marks;
-              written = subst (λ (x : Morphism). WrittenRule x (secondMarking laid) out exit r) same (written w);
+              marks = marksFrom laid 4096;
+              is-complement = subst (λ (x : Morphism). ComplementMarks x (markingOf bytes) (marksFrom laid 4096)) same second-marks;
+              written = subst (λ (x : Morphism). WrittenRule x (marksFrom laid 4096) out exit r) same (written w);
             };
             scratch = zeros laid end (l .same-length) z;
           }

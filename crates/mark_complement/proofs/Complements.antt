@@ -1,24 +1,29 @@
--- The linked pairs that are not in the closure of a strong marking are the marks of its complement. Assumes nothing.
-use Prim.Native.Nat.{ℕ, _-_}
+-- The marks of the closure of a strong marking, turned, are the marks of its complement. Assumes nothing.
+use Prim.Native.Nat.{ℕ, _-_, _≤_, _<_}
+use native.Mathlib.Omega.{arith}
 use mathlib.Core.Path.{_≡_, refl, sym, ap, ap₂, _∙_, subst}
-use mathlib.Core.Bool.{Bool, true, false, not, cond, _&&_}
+use mathlib.Core.Bool.{Bool, true, false, cond}
 use mathlib.Core.Logic.{⊎-elim}
 use mathlib.Core.List.{List}
-use lib.Dec.{T, leb}
-use Rattle.finite.proofs.Tests.{T-dec, T-false}
-use Rattle.finite.proofs.Search.{bit}
-use Rattle.theory.specs.Rules.{Morphism, Lawful, Pairs, level, marked, AllReached}
-use Rattle.theory.specs.Acceptance.{Strong}
-use Rattle.theory.specs.Pairs.{Linked, LinkedOnly}
+use lib.Dec.{T}
+use Rattle.finite.proofs.Tests.{T-dec}
+use Rattle.theory.specs.Rules.{Morphism, Lawful, Marking, level, AllReached}
+use Rattle.theory.specs.Pairs.{Linked}
+use Rattle.theory.specs.Grades.{StrongMarking}
+use Rattle.theory.specs.Smallest.{Turned}
 use Rattle.theory.proofs.Powers.{idempotent-self}
 use Rattle.theory.proofs.Conjugacy.{semigroup}
 use Rattle.theory.proofs.Strength.{settled-cycle, settled-start}
-use Rattle.theory.proofs.Closure.{linked-test, linked-elim, closure-test, acceptance}
-use Rattle.minimality.proofs.Saturation.{saturated}
-use Rattle.minimality.proofs.Complements.{refusal, complement-marks, complement-saturates, complement-accepts, complement-strong, complement-right}
-use Rattle.scratch.specs.Map.{marksFrom}
-use Rattle.mark_closure.proofs.Agreement.{SameOn, linked-agrees, accepts-agrees, strong-agrees}
-use Rattle.mark_complement_marks.specs.Complement.{linkedOutside, ComplementLaid}
+use Rattle.theory.proofs.Closure.{linked-test, linked-intro, linked-elim}
+use Rattle.theory.proofs.Gradings.{GradedMarks}
+use Rattle.theory.proofs.ClosureGrades.{closure-grade}
+use Rattle.minimality.proofs.GradeOutcomes.{grading}
+use Rattle.minimality.proofs.Saturation.{saturated-at, saturated-other}
+use Rattle.minimality.proofs.Complements.{lack, complement-marks, complement-saturates, complement-rest, complement-right}
+use Rattle.scratch.specs.Map.{marksFrom, MarkingAt}
+use Rattle.scratch.proofs.Markings.{level-same}
+use Rattle.mark_closure.proofs.Agreement.{linked-agrees, accepts-agrees, marking-strong-agrees}
+use Rattle.mark_complement_marks.specs.Complement.{turnedMark, ComplementLaid}
 use Rattle.promises.specs.Complement.{ComplementMarks}
 
 -- the values of a linked pair are settled
@@ -27,54 +32,75 @@ settled-same {m} {s} {e} law l =
     let q = idempotent-self (semigroup law) (l .idempotent .inside) (l .idempotent .square) in
     (ap (m .product s) q ∙ l .stays, q)
 
--- the number 1 - b, where a is true, as a test
-number-test : (a b : Bool) → leb 1 (cond a (1 - bit b) 0) ≡ a && not b
-number-test true true = refl
-number-test true false = refl
-number-test false b = refl
-
-module _ {m : Morphism} (P : Pairs) (law : Lawful m) where
-  -- a pair is marked by refusal exactly if it is linked and not in the closure
-  refusal-marks : SameOn m (marked (complement-marks m P)) (linkedOutside m (closure-test m P))
-  unfolding marked level complement-marks saturated refusal acceptance
-  refusal-marks s e hs he = ⊎-elim known other (T-dec (linked-test m s e))
+-- the mark of a linked pair, and of every other
+module _ (m : Morphism) (marks : Marking) (s e : ℕ) where
+  turned-linked : Linked m s e → turnedMark m marks s e ≡ 3 - marks s e
+  unfolding turnedMark
+  turned-linked l = go (linked-test m s e) (linked-intro l)
     where
-      known : T (linked-test m s e) → marked (complement-marks m P) s e ≡ linked-test m s e && not (closure-test m P s e)
-      known t =
-          let k = settled-same law (linked-elim m s e t) in
-          ap (λ (b : Bool). leb 1 (cond (linked-test m s e) (1 - bit b) 0)) (ap₂ (closure-test m P) (k .0) (k .1))
-          ∙ number-test (linked-test m s e) (closure-test m P s e)
+      go : (b : Bool) → T b → cond b (3 - marks s e) 0 ≡ 3 - marks s e
+      go true t = refl
+      go false t = absurd t
 
-      other : (T (linked-test m s e) → ⊥) → marked (complement-marks m P) s e ≡ linked-test m s e && not (closure-test m P s e)
-      other f =
-          let q = T-false (linked-test m s e) f in
-          ap (λ (b : Bool). leb 1 (cond b (refusal m P s e) 0)) q ∙ sym (ap (λ (b : Bool). b && not (closure-test m P s e)) q)
+  turned-other : (Linked m s e → ⊥) → turnedMark m marks s e ≡ 0
+  unfolding turnedMark
+  turned-other f = go (linked-test m s e) (λ t. f (linked-elim m s e t))
+    where
+      go : (b : Bool) → (T b → ⊥) → cond b (3 - marks s e) 0 ≡ 0
+      go true g = absurd (g tt)
+      go false g = refl
 
--- a marking that has just these pairs is the complement's
-module _ {m : Morphism} {P : Pairs} (law : Lawful m) (reached : AllReached m) (linked : LinkedOnly m P) (strong : Strong m P) (P′ : Pairs)
-    (is : SameOn m P′ (linkedOutside m (closure-test m P))) where
-  same-marks : SameOn m (marked (complement-marks m P)) P′
-  same-marks s e hs he = refusal-marks P law s e hs he ∙ sym (is s e hs he)
+  turned-equal : (marks′ : Marking) → marks s e ≡ marks′ s e → turnedMark m marks s e ≡ turnedMark m marks′ s e
+  unfolding turnedMark
+  turned-equal marks′ q = ap (λ (mark : ℕ). cond (linked-test m s e) (3 - mark) 0) q
 
-  pub outside-complement : ComplementMarks m P P′
-  outside-complement = record {
+  pub turned-small : turnedMark m marks s e ≤ 3
+  unfolding turnedMark
+  turned-small = go (linked-test m s e)
+    where
+      go : (b : Bool) → cond b (3 - marks s e) 0 ≤ 3
+      go true = omega arith
+      go false = omega arith
+
+-- a pair's turned grade in the closure is what its lassos' grade lacks
+turned-closure : (m : Morphism) (marks : Marking) (s e : ℕ) → Lawful m → turnedMark m (closure-grade m marks) s e ≡ complement-marks m marks s e
+unfolding complement-marks lack grading
+turned-closure m marks s e law =
+    ⊎-elim (λ t.
+    let l = linked-elim m s e t in
+    let k = settled-same law l in
+    turned-linked m (closure-grade m marks) s e l ∙ ap (λ (g : ℕ). 3 - g) (sym (ap₂ (closure-grade m marks) (k .0) (k .1))) ∙ sym (saturated-at (lack m marks) s e l))
+    (λ f.
+    turned-other m (closure-grade m marks) s e (λ l. f (linked-intro l)) ∙ sym (saturated-other (lack m marks) s e (λ l. f (linked-intro l))))
+    (T-dec (linked-test m s e))
+
+-- a marking that has just these marks is the complement's
+module _ {m : Morphism} {marks : Marking} (law : Lawful m) (reached : AllReached m) (good : GradedMarks m marks) (strong : StrongMarking m marks) (marks′ : Marking)
+    (is : (s e : ℕ) → s < m .size → e < m .size → complement-marks m marks s e ≡ marks′ s e) where
+  pub turned-complement : ComplementMarks m marks marks′
+  turned-complement = record {
     complement = record {
-      marks = λ s e hs he.
-          (let k = complement-right law reached linked strong .marks s e hs he in
-          let q = same-marks s e hs he in
-          (λ t. k .0 (subst T (sym q) t), λ r. subst T q (k .1 r)));
+      of-linked = λ s e l. subst (Turned m marks s e) (is s e (l .inside) (l .idempotent .inside)) (complement-right law reached good strong .of-linked s e l);
+      of-others = λ s e hs he f. sym (is s e hs he) ∙ complement-right law reached good strong .of-others s e hs he f;
     };
-    strong = strong-agrees law (marked (complement-marks m P)) P′ same-marks (complement-strong law reached linked strong);
-    linked = linked-agrees m (marked (complement-marks m P)) P′ same-marks (complement-saturates law reached linked strong .linked-only);
-    accepts = λ u v l.
-        (let k = complement-accepts law reached linked strong l in
-        let q = accepts-agrees law (marked (complement-marks m P)) P′ same-marks u v in
+    strong = marking-strong-agrees law (complement-marks m marks) marks′ is (complement-saturates law reached good strong .strong);
+    linked = linked-agrees m (level 1 (complement-marks m marks)) (level 1 marks′) (same-level 1) (complement-saturates law reached good strong .linked-only);
+    rest = λ g some small u v l.
+        (let k = complement-rest law reached good strong g some small l in
+        let q = accepts-agrees law (level (4 - g) (complement-marks m marks)) (level (4 - g) marks′) (same-level (4 - g)) u v in
         (λ a. k .0 (q .1 a), λ f. q .0 (k .1 f)));
   }
+    where
+      same-level : (g s e : ℕ) → s < m .size → e < m .size → level g (complement-marks m marks) s e ≡ level g marks′ s e
+      same-level g s e hs he = level-same g (complement-marks m marks) marks′ (is s e hs he)
 
 -- the marks that the code leaves, where the second table was the closure
-pub laid-complement : {m : Morphism} {P : Pairs} {entry exit : List ℕ} → Lawful m → AllReached m → LinkedOnly m P → Strong m P
-    → SameOn m (marked (marksFrom entry 4096)) (closure-test m P) → ComplementLaid m entry exit → ComplementMarks m P (marked (marksFrom exit 4096))
-laid-complement {m} {P} {entry} {exit} law reached linked strong closed l =
-    outside-complement law reached linked strong (marked (marksFrom exit 4096))
-    (λ s e hs he. l .marks s e hs he ∙ ap (λ (b : Bool). linked-test m s e && not b) (closed s e hs he))
+pub laid-complement : {m : Morphism} {marks : Marking} {entry exit : List ℕ} → Lawful m → AllReached m → GradedMarks m marks → StrongMarking m marks
+    → MarkingAt (m .size) (closure-grade m marks) entry 4096 → ComplementLaid m entry exit → ComplementMarks m marks (marksFrom exit 4096)
+laid-complement {m} {marks} {entry} {exit} law reached good strong closed l = turned-complement law reached good strong (marksFrom exit 4096) is
+  where
+    is : (s e : ℕ) → s < m .size → e < m .size → complement-marks m marks s e ≡ marksFrom exit 4096 s e
+    is s e hs he =
+        sym (turned-closure m marks s e law)
+        ∙ turned-equal m (closure-grade m marks) s e (marksFrom entry 4096) (closed .same s e hs he)
+        ∙ sym (l .marks s e hs he)

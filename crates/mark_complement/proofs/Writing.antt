@@ -1,11 +1,10 @@
 -- The file that is written with a second table of marks: the rule's own products and images, read where they stand.
 -- Assumes nothing.
 use Prim.Native.Nat.{ℕ, _+_, _*_, _-_, _≤_}
-use mathlib.Core.Path.{_≡_, refl, ap}
+use mathlib.Core.Path.{_≡_, refl}
 use mathlib.Core.List.{List}
 use native.Mathlib.Omega.{arith}
 use lib.Arith.{digits-lt}
-use lib.Dec.{ltb}
 use lib.ListN.{length, take, drop}
 use Rattle.rule_table.specs.Table.{Table}
 use Rattle.formats.specs.Table.{productAt, imageAt, morphismAt}
@@ -15,8 +14,9 @@ use Rattle.formats.proofs.Agree.{Agree}
 use Rattle.formats.proofs.Same.{SameMarks, file-same}
 use Rattle.formats.specs.Front.{AtFront}
 use Rattle.formats.proofs.Front.{front-same}
+use Rattle.scratch.specs.Map.{marksFrom}
 use Rattle.scratch.proofs.Parts.{part-length, part-byte}
-use Rattle.mark_complement.specs.Promise.{WriteNeeds, secondMarking, secondFile}
+use Rattle.mark_complement.specs.Promise.{WriteNeeds, secondFile}
 
 module _ {rule : List ℕ} {n k : ℕ} (table : Table rule n k) {scratch out : List ℕ} (place : WriteNeeds k scratch out) where
   abbrev products : List ℕ
@@ -59,13 +59,13 @@ module _ {rule : List ℕ} {n k : ℕ} (table : Table rule n k) {scratch out : L
     same-image = λ a h. part-byte rule (2 + n * n) images-from a (omega (arith, table .long));
   }
 
-  same-marks : SameMarks n (secondMarking scratch) (tableMarks marks)
-  unfolding tableMarks
+  same-marks : SameMarks n (marksFrom scratch 4096) (tableMarks marks)
+  unfolding tableMarks marksFrom
   same-marks = record {
-    same = λ s e hs he. ap (ltb 0) (part-byte scratch 4096 marks-from (s * 64 + e) (omega (arith, table .small, place .marks-long)));
+    same = λ s e hs he. part-byte scratch 4096 marks-from (s * 64 + e) (omega (arith, table .small, place .marks-long));
   }
 
-  same-file : fileOf (tableMorphism products images n k) (tableMarks marks) ≡ fileOf (morphismAt rule n k) (secondMarking scratch)
+  same-file : fileOf (tableMorphism products images n k) (tableMarks marks) ≡ fileOf (morphismAt rule n k) (marksFrom scratch 4096)
   same-file = file-same agree same-marks
 
   pub tables-written : {exit : List ℕ} {r : ℕ}

@@ -1,4 +1,4 @@
-// The complement of a strong rule: same elements and numbering, marked are the linked pairs that are not in the closure of the
+// The complement of a strong rule: same elements and numbering; each linked pair is marked with 3 less its grade in the closure of the
 // rule's marks.
 use answer::Refusal;
 use formats::RULE_SIZE;

@@ -1,7 +1,7 @@
 -- The marks of the complement, written over the second table pair after pair and row after row. Assumes nothing.
-use Prim.Native.Nat.{ℕ, _+_, _≤_, _<_}
+use Prim.Native.Nat.{ℕ, _+_, _*_, _-_, _≤_, _<_}
 use mathlib.Core.Path.{_≡_, refl, sym, ap, _∙_, subst}
-use mathlib.Core.Bool.{Bool, true, false, not, _&&_}
+use mathlib.Core.Bool.{Bool, cond}
 use mathlib.Core.Logic.{_≢_}
 use mathlib.Core.List.{List}
 use native.Mathlib.Omega.{arith}
@@ -9,51 +9,33 @@ use native.Mathlib.Decide.{ℕ-discrete}
 use lib.ListN.{length, getD, set, length-set}
 use lib.Seq.{getD-set-same, getD-set-other}
 use Rattle.finite.proofs.Tests.{T-true, T-false}
-use Rattle.theory.specs.Rules.{Morphism, level, marked}
+use Rattle.theory.specs.Rules.{Morphism}
 use Rattle.theory.specs.Pairs.{Linked}
 use Rattle.theory.proofs.Closure.{linked-test, linked-intro, linked-elim}
 use Rattle.scratch.specs.Map.{marksFrom}
 use Rattle.mark_closure.specs.Closing.{place, Kept}
-use Rattle.mark_closure.proofs.Tables.{place-same, pair-in, pair-byte, pair-kept, kept-before, kept-after}
-use Rattle.mark_complement_marks.specs.Complement.{ComplementLaid, ComplementByte, ComplementRow, ComplementRows}
+use Rattle.mark_closure.proofs.Tables.{place-same, kept-before, kept-after}
+use Rattle.mark_complement_marks.specs.Complement.{turnedMark, ComplementLaid, ComplementByte, ComplementRow, ComplementRows}
 
--- a test is not passed together with one that is false
-and-false : (a : Bool) → a && false ≡ false
-and-false true = refl
-and-false false = refl
-
--- the ways through the code for one byte: the pair is in the table, is not linked, or is to be marked
+-- the ways through the code for one byte: the pair is not linked, has the highest grade, or lacks something of it
 module _ (m : Morphism) (bytes : List ℕ) (s e : ℕ) where
-  in-table : (getD bytes (place s e) 0 ≡ 0 → ⊥) → marked (marksFrom bytes 4096) s e ≡ true
-  in-table g =
-      let b : getD bytes (place s e) 0 ≢ 0 = g in
-      T-true (marked (marksFrom bytes 4096) s e) (pair-in bytes 4096 s e (omega arith))
-
-  not-in-table : getD bytes (place s e) 0 ≡ 0 → marked (marksFrom bytes 4096) s e ≡ false
-  not-in-table z = T-false (marked (marksFrom bytes 4096) s e) (λ t. (let b = pair-byte bytes 4096 s e t in omega arith))
-
-  pub turned-in : (getD bytes (place s e) 0 ≡ 0 → ⊥) → ComplementByte m bytes s e 0
-  turned-in g = record { says = sym (ap (λ (b : Bool). linked-test m s e && not b) (in-table g) ∙ and-false (linked-test m s e)); bit = omega arith }
-
   pub turned-unlinked : (Linked m s e → ⊥) → ComplementByte m bytes s e 0
-  turned-unlinked g = record {
-    says = sym (ap (λ (b : Bool). b && not (marked (marksFrom bytes 4096) s e)) (T-false (linked-test m s e) (λ t. g (linked-elim m s e t))));
-    bit = omega arith;
-  }
+  unfolding turnedMark
+  turned-unlinked g =
+      let number : ℕ = 3 - marksFrom bytes 4096 s e in
+      sym (ap (λ (b : Bool). cond b number 0) (T-false (linked-test m s e) (λ t. g (linked-elim m s e t))))
 
-  pub turned-new : getD bytes (place s e) 0 ≡ 0 → Linked m s e → ComplementByte m bytes s e 1
-  turned-new z l = record {
-    says = sym (ap (λ (b : Bool). b && not (marked (marksFrom bytes 4096) s e)) (T-true (linked-test m s e) (linked-intro l)) ∙ ap not (not-in-table z));
-    bit = omega arith;
-  }
+  pub turned-linked : {byte : ℕ} → Linked m s e → byte ≡ 3 - getD bytes (4096 + (s * 64 + e)) 0 → ComplementByte m bytes s e byte
+  unfolding turnedMark marksFrom
+  turned-linked l q =
+      let number : ℕ = 3 - marksFrom bytes 4096 s e in
+      q ∙ sym (ap (λ (b : Bool). cond b number 0) (T-true (linked-test m s e) (linked-intro l)))
 
 -- the byte to be depends on the byte that is there only
-turned-same : {m : Morphism} {s e byte : ℕ} (now entry : List ℕ) → getD now (place s e) 0 ≡ getD entry (place s e) 0
+turned-same : (m : Morphism) (s e : ℕ) {byte : ℕ} (now entry : List ℕ) → getD now (place s e) 0 ≡ getD entry (place s e) 0
     → ComplementByte m now s e byte → ComplementByte m entry s e byte
-turned-same {m} {s} {e} now entry q d = record {
-  says = d .says ∙ ap (λ (b : Bool). linked-test m s e && not b) (pair-kept entry now 4096 s e q);
-  bit = d .bit;
-}
+unfolding turnedMark marksFrom
+turned-same m s e now entry q d = d ∙ ap (λ (mark : ℕ). cond (linked-test m s e) (3 - mark) 0) q
 
 -- no pair of the row has its byte yet
 pub row-none : (m : Morphism) (s : ℕ) (l : List ℕ) → ComplementRow m s 0 l l
@@ -68,7 +50,7 @@ module _ {m : Morphism} {s e : ℕ} {entry now : List ℕ} {byte : ℕ} (he : e 
   stored : (a : ℕ) → Dec (a ≡ e) → a < e + 1 → ComplementByte m entry s a (getD (set now (place s e) byte) (place s a) 0)
   stored a (yes q) h =
       subst (λ (a : ℕ). ComplementByte m entry s a (getD (set now (place s e) byte) (place s a) 0)) (sym q)
-      (rw (getD-set-same now (place s e) byte 0 inside) (turned-same now entry fresh d))
+      (rw (getD-set-same now (place s e) byte 0 inside) (turned-same m s e now entry fresh d))
   stored a (no g) h =
       rw (getD-set-other now (place s e) (place s a) byte 0 (λ q. g (place-same s a s e (omega arith) he q .1)))
       (l .row a (let w : a ≢ e = g in omega arith))
@@ -89,7 +71,7 @@ module _ {m : Morphism} {s : ℕ} {entry now next : List ℕ} (small : m .size �
   row-byte : (a e : ℕ) → e < m .size → Dec (a ≡ s) → a < s + 1 → ComplementByte m entry a e (getD next (place a e) 0)
   row-byte a e he (yes q) h =
       subst (λ (a : ℕ). ComplementByte m entry a e (getD next (place a e) 0)) (sym q)
-      (turned-same now entry (l .others (place s e) (λ b d hb hd p. let w = place-same s e b d (omega arith) (omega arith) p .0 in omega arith)) (r .row e he))
+      (turned-same m s e now entry (l .others (place s e) (λ b d hb hd p. let w = place-same s e b d (omega arith) (omega arith) p .0 in omega arith)) (r .row e he))
   row-byte a e he (no g) h =
       rw (r .others (place a e) (λ d hd p. g (place-same a e s d (omega arith) (omega arith) p .0)))
       (l .rows a e (let w : a ≢ s = g in omega arith) he)
@@ -107,11 +89,10 @@ module _ {m : Morphism} {entry exit : List ℕ} (small : m .size ≤ 64) (l : Co
   rows-kept = record { same-length = l .same-length; kept = l .others }
 
   pub rows-all : ComplementLaid m entry exit
-  unfolding marked level marksFrom
+  unfolding marksFrom
   rows-all = record {
     same-length = l .same-length;
-    marks = λ s e hs he. l .rows s e hs he .says;
-    bits = λ s e hs he. l .rows s e hs he .bit;
+    marks = λ s e hs he. l .rows s e hs he;
     before = kept-before small rows-kept;
     after = kept-after small rows-kept;
     between = l .others;

@@ -1,4 +1,4 @@
-// The marks of a complement: every linked pair that is not in the closure of the rule's marks, as a second table of marks.
+// The marks of a complement, as a second table of marks: every linked pair has 3 less its grade in the closure of the rule's marks.
 use rule_marks::linked;
 use scratch::SECOND_BASE;
 ghost use Prim.Native.Nat.{_≤_, _<_};
@@ -8,20 +8,24 @@ ghost use Rattle.formats.specs.Table.{morphismAt};
 ghost use Rattle.mark_complement_marks.specs.Complement.{ComplementLaid, ComplementByte, ComplementRow};
 ghost use Rattle.scratch.specs.Map.{tablesEnd};
 
-// The byte of (s, e): 1 where the pair is linked and not in the second table, else 0.
+// The highest grade.
+const HIGHEST_GRADE: u8 = 3;
+
+// The byte of (s, e): what its byte lacks of the highest grade where the pair is linked, else 0.
 pub fn complement_byte(rule: &[u8], n: usize, k: usize, scratch: &[u8], s: usize, e: usize) -> u8
     requires { ⌜ Table (now rule) n k ⌝ }
     requires { ⌜ tablesEnd ≤ length (now scratch) ⌝ }
     requires { ⌜ (s < n) × (e < n) ⌝ }
     ensures { λ r. ⌜ ComplementByte (morphismAt (now (rule .entry)) n k) (now (scratch .entry)) s e r ⌝ }
 {
-    if scratch[SECOND_BASE + (s * 64 + e)] != 0 {
-        return 0;
-    }
     if !linked(rule, n, k, s, e) {
         return 0;
     }
-    1
+    let mark = scratch[SECOND_BASE + (s * 64 + e)];
+    if HIGHEST_GRADE <= mark {
+        return 0;
+    }
+    HIGHEST_GRADE - mark
 }
 
 // The bytes of the pairs that begin with s.

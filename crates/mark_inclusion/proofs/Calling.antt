@@ -8,12 +8,14 @@ use borrow.Author.Tests.{lt-ltb, le-ltb}
 use Rattle.answer.specs.declared.Refusal.{Refusal}
 use Rattle.answer.specs.declared.Refusal.the-variants.{BufferTooShort}
 use Rattle.answer.specs.Checks.{Verdict, passed, FirstFailure}
-use Rattle.answer.proofs.Order.{refused-before, passed-before, passed-last, passes-tail}
+use Rattle.answer.proofs.Order.{refused-before, passed-before, passed-first, passed-last, passes-tail}
 use Rattle.theory.specs.Rules.{Morphism}
-use Rattle.theory.specs.Pairs.{LinkedOnly}
+use Rattle.theory.proofs.Gradings.{GradedMarks}
 use Rattle.formats.specs.Sections.{twoBytes, sectionChecks}
 use Rattle.formats.specs.Table.{morphismAt}
-use Rattle.formats.specs.RuleFile.{elementsOf, morphismOf, marksIn, markingOf, pairsOf, markWidth, marksSection}
+use Rattle.formats.specs.RuleFile.{elementsOf, morphismOf, markingOf, markWidth, marksSection}
+use Rattle.formats.proofs.SectionList.{good-at}
+use Rattle.formats.proofs.MarkEntries.{grades-within}
 use Rattle.formats.proofs.Buffers.{buffer-short, buffer-long}
 use Rattle.formats.specs.RuleChecks.{scratchSize, trailingCheck, markChecks, secondMarksChecks}
 use Rattle.rule_layout.specs.declared.Shape.{Shape}
@@ -24,12 +26,12 @@ use Rattle.rule_marks.specs.Faults.{FaultAnswer}
 use Rattle.rule_check.specs.Answers.{CheckPromise}
 use Rattle.formats.specs.Calls.{checkedChecks, afterCall}
 use Rattle.rule_check.proofs.Calls.{zeros-left, checked-length, shape-morphism}
-use Rattle.rule_check.proofs.MarksPassed.{passed-marks, marking-linked}
+use Rattle.rule_check.proofs.MarksPassed.{passed-marks, marking-linked, marking-at-most}
 use Rattle.scratch.specs.Map.{marksFrom, MarkingAt}
-use Rattle.mark_strong.proofs.Calling.{checked-table, checked-lawful, checked-reached, checked-linked, marks-stand, checked-room}
+use Rattle.mark_strong.proofs.Calling.{checked-table, checked-lawful, checked-reached, checked-graded, marks-stand, checked-room}
 use Rattle.mark_inclusion.specs.Laying.{SecondLaid, LaidAnswer}
 use Rattle.mark_comparison.specs.Comparison.{CompareNeeds, Answered, answered-included, answered-apart, Compared}
-use Rattle.promises.specs.Inclusion.{InclusionAnswer, startSize, cycleSize, secondPairs, inclusionChecks, inclusionVerdict, inclusionLeft, InclusionPromise}
+use Rattle.promises.specs.Inclusion.{InclusionAnswer, startSize, cycleSize, secondMarking, inclusionChecks, inclusionVerdict, inclusionLeft, InclusionPromise}
 use Rattle.promises.specs.declared.Inclusion.{Inclusion}
 use Rattle.promises.specs.declared.Inclusion.the-variants.{Refused}
 use Rattle.scratch.proofs.Markings.{marking-kept}
@@ -103,15 +105,19 @@ module _ (bytes second u v entry : List ℕ) where
               room = omega (arith, checked-room 1 bytes entry p, second-laid .same-length);
             }
 
-            second-linked : LinkedOnly m (secondPairs second)
+            -- the second marks are linked, and their grades at most 3
+            second-graded : GradedMarks m (secondMarking second)
             unfolding secondMarksChecks
-            second-linked =
+            second-graded =
+                let section : FirstFailure (sectionChecks (marksSection (elementsOf bytes)) 2 0 second) passed = passed-first _ _ second-passed in
                 let rest : FirstFailure (trailingCheck 2 (2 + markWidth * twoBytes second 0) second ∷ markChecks 2 (morphismOf bytes) second 0 0 (twoBytes second 0)) passed =
                 passed-last (sectionChecks (marksSection (elementsOf bytes)) 2 0 second) _ second-passed in
-                subst (λ (x : Morphism). LinkedOnly x (secondPairs second)) (sym (shape-morphism (p .scratch .shape-is)))
-                (marking-linked second 0 (passed-marks 2 (twoBytes second 0) (passes-tail rest)))
+                subst (λ (x : Morphism). GradedMarks x (secondMarking second)) (sym (shape-morphism (p .scratch .shape-is))) (record {
+                  small = λ s c hs hc. marking-at-most second 0 (grades-within (elementsOf bytes) (good-at (marksSection (elementsOf bytes)) 2 0 second section)) s c;
+                  linked = marking-linked second 0 (passed-marks 2 (twoBytes second 0) (passes-tail rest));
+                })
 
-            second-stands : MarkingAt (shape .elements) (marksIn second 0) laid 4096
+            second-stands : MarkingAt (shape .elements) (secondMarking second) laid 4096
             unfolding marksFrom
             second-stands = record { same = λ s c hs hc. sym (second-laid .mark s c hs hc) }
 
@@ -122,8 +128,8 @@ module _ (bytes second u v entry : List ℕ) where
             pub both-compared : {u′ v′ end : List ℕ} {r : Inclusion} → Compared m u u′ v v′ laid end r → InclusionPromise bytes second u u′ v v′ entry end r
             both-compared {u′} {v′} {end} {r} c = record {
               refusal = after-buffers (subst (FirstFailure _) (sym (no-refusal (c .answered))) (passed-before _ _ (p .refusal) second-passed));
-              answered = subst (λ (x : Morphism). InclusionAnswer x (pairsOf bytes) (secondPairs second) u u′ v v′ r) (shape-morphism (p .scratch .shape-is))
-                  (c .answers (markingOf bytes) (marksIn second 0) (checked-linked 1 bytes entry p) second-linked first-stands second-stands);
+              answered = subst (λ (x : Morphism). InclusionAnswer x (markingOf bytes) (secondMarking second) u u′ v v′ r) (shape-morphism (p .scratch .shape-is))
+                  (c .answers (markingOf bytes) (secondMarking second) (checked-graded 1 bytes entry p) second-graded first-stands second-stands);
               scratch = zeros laid end (second-laid .same-length) (c .scratch);
             }
               where

@@ -1,5 +1,5 @@
-// Whether each lasso that a rule accepts is accepted under a second marking of its table too; if not, a lasso that tells the two
-// markings apart is written. Weak markings are compared like others.
+// Whether no lasso is graded higher by a rule than by a second marking of its table; if one is, such a lasso is written. Weak markings are
+// compared like others.
 use answer::Refusal;
 use mark_comparison::compare;
 use promises::Inclusion;

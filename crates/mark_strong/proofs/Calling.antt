@@ -6,17 +6,18 @@ use mathlib.Core.List.{List}
 use native.Mathlib.Omega.{arith}
 use lib.ListN.{length, getD, replicate}
 use Rattle.answer.specs.declared.Refusal.{Refusal}
-use Rattle.theory.specs.Rules.{Morphism, Lawful, AllReached, marked}
+use Rattle.theory.specs.Rules.{Morphism, Lawful, AllReached, level}
 use Rattle.theory.specs.Pairs.{LinkedOnly}
 use Rattle.theory.proofs.Gradings.{GradedMarks}
 use Rattle.rule_table.specs.Table.{Table}
 use Rattle.formats.specs.Table.{morphismAt}
-use Rattle.formats.specs.RuleFile.{morphismOf, markingOf, pairsOf}
+use Rattle.formats.specs.RuleFile.{morphismOf, markingOf}
 use Rattle.rule_layout.specs.declared.Shape.{Shape}
 use Rattle.rule_check.specs.declared.Checked.the-variants.{Rule, Refused as Checked-refused}
 use Rattle.rule_check.specs.Answers.{CheckPromise}
 use Rattle.formats.specs.Calls.{afterCall}
 use Rattle.rule_check.specs.GoodRule.{GoodRule}
+use Rattle.rule_check.proofs.CheckedRule.{marking-small}
 use Rattle.rule_check.proofs.Calls.{scratch-long, called-good, zeros-left, checked-length, shape-morphism, shape-table}
 use Rattle.scratch.specs.Map.{marksFrom, MarkingAt}
 use Rattle.mark_closure.proofs.Agreement.{graded-agrees}
@@ -38,13 +39,12 @@ module _ (input : ℕ) (bytes entry : List ℕ) {shape : Shape} {mid : List ℕ}
   pub checked-reached : AllReached (morphismAt bytes (shape .elements) (shape .letters))
   checked-reached = subst AllReached (sym (shape-morphism (p .scratch .shape-is))) (good .reached)
 
-  pub checked-linked : LinkedOnly (morphismAt bytes (shape .elements) (shape .letters)) (pairsOf bytes)
-  checked-linked = subst (λ (m : Morphism). LinkedOnly m (pairsOf bytes)) (sym (shape-morphism (p .scratch .shape-is))) (good .linked)
+  pub checked-linked : LinkedOnly (morphismAt bytes (shape .elements) (shape .letters)) (level 1 (markingOf bytes))
+  checked-linked = subst (λ (m : Morphism). LinkedOnly m (level 1 (markingOf bytes))) (sym (shape-morphism (p .scratch .shape-is))) (good .linked)
 
   pub checked-graded : GradedMarks (morphismAt bytes (shape .elements) (shape .letters)) (markingOf bytes)
-  unfolding marked
   checked-graded = record {
-    small = λ s e hs he. good .grades-small s e (omega (arith, p .scratch .shape-is .elements)) (omega (arith, p .scratch .shape-is .elements));
+    small = λ s e hs he. marking-small good s e;
     linked = checked-linked;
   }
 
@@ -69,8 +69,8 @@ module _ (input : ℕ) (bytes entry : List ℕ) {shape : Shape} {mid : List ℕ}
 
   module _ {exit : List ℕ} {answer : Bool} (d : Decided (morphismAt bytes (shape .elements) (shape .letters)) mid exit answer) where
     -- the verdict on the file
-    pub decided-file : StrongIf (morphismOf bytes) (pairsOf bytes) answer
-    decided-file = subst (λ (m : Morphism). StrongIf m (pairsOf bytes) answer) (shape-morphism (p .scratch .shape-is)) (d .decision (markingOf bytes) checked-graded marks-stand)
+    pub decided-file : StrongIf (morphismOf bytes) (markingOf bytes) answer
+    decided-file = subst (λ (m : Morphism). StrongIf m (markingOf bytes) answer) (shape-morphism (p .scratch .shape-is)) (d .decision (markingOf bytes) checked-graded marks-stand)
 
     pub decided-left : (was end : List ℕ) → length was ≡ length exit → end ≡ replicate (length was) 0 → end ≡ afterCall entry
     decided-left was end e z = zeros-left input bytes entry (p .refusal) was end (e ∙ d .same-length ∙ checked-length (p .scratch)) z
@@ -85,13 +85,13 @@ module _ (bytes entry : List ℕ) where
     pub says-strong : answer ≡ true → StrongPromise bytes entry end Is-strong
     says-strong e = record {
       refusal = p .refusal;
-      answered = subst (StrongIf (morphismOf bytes) (pairsOf bytes)) e (decided-file 1 bytes entry p d);
+      answered = subst (StrongIf (morphismOf bytes) (markingOf bytes)) e (decided-file 1 bytes entry p d);
       scratch = decided-left 1 bytes entry p d exit end refl z;
     }
 
     pub says-weak : answer ≡ false → StrongPromise bytes entry end Weak
     says-weak e = record {
       refusal = p .refusal;
-      answered = subst (StrongIf (morphismOf bytes) (pairsOf bytes)) e (decided-file 1 bytes entry p d);
+      answered = subst (StrongIf (morphismOf bytes) (markingOf bytes)) e (decided-file 1 bytes entry p d);
       scratch = decided-left 1 bytes entry p d exit end refl z;
     }

@@ -4,22 +4,25 @@ use mathlib.Core.Path.{_≡_, sym, ap, _∙_, subst}
 use mathlib.Core.Bool.{Bool, true, false}
 use mathlib.Core.List.{List}
 use native.Mathlib.Omega.{arith}
-use Rattle.theory.specs.Rules.{Morphism, Lawful, Marking, Pairs, level, marked}
+use Rattle.theory.specs.Rules.{Morphism, Lawful, Marking, Pairs, level}
 use Rattle.theory.specs.Acceptance.{Strong}
-use Rattle.theory.specs.Pairs.{LinkedOnly}
+use Rattle.theory.specs.Grades.{StrongMarking}
+use Rattle.theory.proofs.Escapes.{Escapes}
 use Rattle.theory.proofs.Closure.{closure-test, closure-linked}
-use Rattle.theory.proofs.Gradings.{GradedMarks}
-use Rattle.theory.proofs.ClosureGrades.{closure-grade, closure-levels}
+use Rattle.theory.proofs.GradedStrength.{levels-strong}
+use Rattle.theory.proofs.Gradings.{GradedMarks, level-linked}
+use Rattle.theory.proofs.ClosureGrades.{closure-grade, closure-grade-small, closure-levels}
 use Rattle.theory.proofs.ShortWords.{short-word}
 use Rattle.theory.proofs.Included.{none-included, included-strong, strong-included, escape-witness}
 use Rattle.sections.specs.Answers.{PartZeroed}
 use Rattle.scratch.specs.Map.{secondBase, tablesEnd, marksFrom, MarkingAt}
 use Rattle.mark_closure.specs.Closure.{ClosureRoom, ClosureAnswer, ClosedAnswer}
-use Rattle.mark_closure.proofs.Agreement.{same-back, strong-agrees, graded-agrees, laid-closure, closed-strong}
-use Rattle.mark_search.specs.Search.{EscapeNeeds, EscapeAnswer, EscapedAt, Escaped}
-use Rattle.mark_search.specs.declared.Escape.{Escape}
-use Rattle.mark_search.specs.declared.Escape.the-variants.{At, Nothing}
-use Rattle.scratch.proofs.Markings.{marking-itself, level-at, marked-at, marking-kept}
+use Rattle.mark_closure.proofs.Agreement.{graded-agrees, marking-strong-agrees, laid-closure, closed-strong}
+use Rattle.mark_search.specs.Search.{EscapeNeeds, EscapedAt}
+use Rattle.mark_grade_search.specs.GradeSearch.{GradeEscapedAt, GradeEscapeAnswer, GradeEscaped}
+use Rattle.mark_grade_search.specs.declared.GradeEscape.{GradeEscape}
+use Rattle.mark_grade_search.specs.declared.GradeEscape.the-variants.{At, Nothing}
+use Rattle.scratch.proofs.Markings.{marking-itself, level-at, marking-kept}
 use Rattle.mark_cycles.proofs.Spelled.{ended-escapes}
 use Rattle.mark_strong.specs.Deciding.{DecideNeeds, StrongIf, Decided}
 
@@ -40,16 +43,12 @@ module _ {m : Morphism} {entry blank : List ℕ} (small : m .size ≤ 64) (place
     second-stands : (marks : Marking) → GradedMarks m marks → MarkingAt (m .size) marks entry 0 → MarkingAt (m .size) (closure-grade m marks) mid 4096
     second-stands marks k t = laid-closure (place .lawful) marks k (stands-blank marks t) (a .laid)
 
-    closed-marked : closed ≡ true → Strong m (marked (marksFrom blank 0))
-    unfolding marked
-    closed-marked e = closed-strong (place .lawful) graded-blank (subst (ClosedAnswer m (marksFrom blank 0)) e (a .answered)) 1 (omega arith)
-
     -- the marks have all of their closure
     pub decided-closed : closed ≡ true → Decided m entry mid true
     decided-closed e = record {
       same-length = a .laid .same-length ∙ z .outside .same-length;
-      decision = λ marks k t. strong-agrees (place .lawful) (marked (marksFrom blank 0)) (marked marks)
-          (same-back m (marked marks) (marked (marksFrom blank 0)) (λ s f hs hf. marked-at (stands-blank marks t) hs hf)) (closed-marked e);
+      decision = λ marks k t. marking-strong-agrees (place .lawful) (marksFrom blank 0) marks (λ s f hs hf. sym (stands-blank marks t .same s f hs hf))
+          (closed-strong (place .lawful) graded-blank (subst (ClosedAnswer m (marksFrom blank 0)) e (a .answered)));
       closure = second-stands;
       marks = λ i h. a .laid .before i h ∙ z .outside .before i h;
       behind = λ i h. a .laid .after i (omega arith) ∙ z .outside .after i (omega arith);
@@ -64,8 +63,8 @@ module _ {m : Morphism} {entry blank : List ℕ} (small : m .size ≤ 64) (place
       room = omega (arith, place .room, a .laid .same-length, z .outside .same-length);
     }
 
-    module _ {exit : List ℕ} {answer : Escape} (r : Escaped m 1 4096 0 mid exit answer) where
-      after-search : {b : Bool} → ((marks : Marking) → GradedMarks m marks → MarkingAt (m .size) marks entry 0 → StrongIf m (marked marks) b) → Decided m entry exit b
+    module _ {exit : List ℕ} {answer : GradeEscape} (r : GradeEscaped m 4096 0 mid exit answer) where
+      after-search : {b : Bool} → ((marks : Marking) → GradedMarks m marks → MarkingAt (m .size) marks entry 0 → StrongIf m marks b) → Decided m entry exit b
       after-search v = record {
         same-length = r .same-length ∙ a .laid .same-length ∙ z .outside .same-length;
         decision = v;
@@ -75,39 +74,42 @@ module _ {m : Morphism} {entry blank : List ℕ} (small : m .size ≤ 64) (place
       }
 
       module _ (marks : Marking) (k : GradedMarks m marks) (t : MarkingAt (m .size) marks entry 0) where
-        linked : LinkedOnly m (marked marks)
-        unfolding marked
-        linked = k .linked
+        said : {answered : GradeEscape} → answer ≡ answered → GradeEscapeAnswer m (closure-grade m marks) marks exit answered
+        said e =
+            subst (GradeEscapeAnswer m (closure-grade m marks) marks exit) e
+            (r .says (closure-grade m marks) marks (second-stands marks k t) (marking-kept 0 small (λ i g h. a .laid .before i h) (stands-blank marks t)))
 
-        -- the marks as the search finds them
-        first-stands : MarkingAt (m .size) marks mid 0
-        first-stands = marking-kept 0 small (λ i g h. a .laid .before i h) (stands-blank marks t)
+        -- no cycle of the closure escapes, at any grade
+        no-escape-strong : answer ≡ Nothing → StrongMarking m marks
+        no-escape-strong e = levels-strong (place .lawful) k within
+          where
+            within : (g : ℕ) → 1 ≤ g → g ≤ 3 → Strong m (level g marks)
+            within g some h =
+                let l = level-linked (place .lawful) k some in
+                included-strong (place .lawful) l
+                (none-included (place .lawful) (closure-linked m (level g marks)) l
+                (subst (λ (P : Pairs). (s : ℕ) → s < m .size → (v : List ℕ) → Escapes m P (level g marks) s v → ⊥) (closure-levels (place .lawful) k g some h)
+                (said e (λ s f hs hf. closure-grade-small m marks s f) g some)))
 
-        said : {answered : Escape} → answer ≡ answered → EscapeAnswer m (closure-test m (marked marks)) (marked marks) exit answered
-        unfolding marked
-        said {answered} e =
-            subst (λ (P : Pairs). EscapeAnswer m P (level 1 marks) exit answered) (closure-levels (place .lawful) k 1 (omega arith) (omega arith))
-            (subst (EscapeAnswer m (level 1 (closure-grade m marks)) (level 1 marks) exit) e (r .says (closure-grade m marks) marks (second-stands marks k t) first-stands))
+        -- one does
+        escape-weak : {g s i : ℕ} → answer ≡ At g s i → StrongMarking m marks → ⊥
+        escape-weak {g} {s} {i} e strong =
+            let d : GradeEscapedAt m (closure-grade m marks) marks exit g s i = said e in
+            let x : EscapedAt m (closure-test m (level g marks)) (level g marks) s exit i =
+            subst (λ (P : Pairs). EscapedAt m P (level g marks) s exit i) (closure-levels (place .lawful) k g (d .some) (d .small)) (d .escaped) in
+            let l = level-linked (place .lawful) k (d .some) in
+            let w = escape-witness (place .lawful) (closure-linked m (level g marks)) l (short-word (place .lawful) (place .reached .word-of s (x .start-inside)))
+            (ended-escapes (place .lawful) (x .ended)) in
+            w .refused-second (strong-included (place .lawful) l (place .reached) (strong .at-each g (d .some)) .accepted-too _ _ (w .lasso) (w .accepted-first))
 
-        escape-weak : {s i : ℕ} → answer ≡ At s i → Strong m (marked marks) → ⊥
-        escape-weak {s} {i} e strong =
-            let d : EscapedAt m (closure-test m (marked marks)) (marked marks) s exit i = said e in
-            let w = escape-witness (place .lawful) (closure-linked m (marked marks)) linked (short-word (place .lawful) (place .reached .word-of s (d .start-inside)))
-            (ended-escapes (place .lawful) (d .ended)) in
-            w .refused-second (strong-included (place .lawful) linked (place .reached) strong .accepted-too _ _ (w .lasso) (w .accepted-first))
-
-      -- no cycle of the closure escapes
       pub decided-strong : answer ≡ Nothing → Decided m entry exit true
-      decided-strong e = after-search (λ marks k t. included-strong (place .lawful) (linked marks k t)
-          (none-included (place .lawful) (closure-linked m (marked marks)) (linked marks k t) (said marks k t e)))
+      decided-strong e = after-search (λ marks k t. no-escape-strong marks k t e)
 
-      -- one does
-      pub decided-weak : {s i : ℕ} → answer ≡ At s i → Decided m entry exit false
+      pub decided-weak : {g s i : ℕ} → answer ≡ At g s i → Decided m entry exit false
       decided-weak e = after-search (λ marks k t. escape-weak marks k t e)
 
 -- the second table marks the closure of the marked pairs
 pub closure-marked : {m : Morphism} {entry exit : List ℕ} {answer : Bool} → Lawful m → Decided m entry exit answer → (marks : Marking) → GradedMarks m marks
-    → MarkingAt (m .size) marks entry 0 → (s e : ℕ) → s < m .size → e < m .size → closure-test m (marked marks) s e ≡ marked (marksFrom exit secondBase) s e
-unfolding marked
+    → MarkingAt (m .size) marks entry 0 → (s e : ℕ) → s < m .size → e < m .size → closure-test m (level 1 marks) s e ≡ level 1 (marksFrom exit secondBase) s e
 closure-marked law d marks k t s e hs he =
     sym (ap (λ (P : Pairs). P s e) (closure-levels law k 1 (omega arith) (omega arith))) ∙ level-at 1 (d .closure marks k t) hs he

@@ -1,8 +1,8 @@
 // Whether a rule is strong: the closure of its marks is worked out, and where the marks have all of it they are strong without a
-// search; otherwise they are strong exactly if no lasso of the closure escapes them.
+// search; otherwise they are strong exactly if no lasso of the closure escapes them, at any grade.
 use mark_closure::close;
-use mark_search::Escape;
-use mark_search::first_escape;
+use mark_grade_search::GradeEscape;
+use mark_grade_search::highest_escape;
 use promises::Strength;
 use rule_check::Checked;
 use rule_check::check;
@@ -26,9 +26,13 @@ pub fn decide(rule: &[u8], n: usize, k: usize, scratch: &mut [u8]) -> bool
     if closed {
         return true;
     }
-    match first_escape(rule, n, k, scratch, SECOND_BASE, 0, 1) {
-        Escape::At { start: _, entry: _ } => false,
-        Escape::Nothing => true,
+    match highest_escape(rule, n, k, scratch, SECOND_BASE, 0) {
+        GradeEscape::At {
+            grade: _,
+            start: _,
+            entry: _,
+        } => false,
+        GradeEscape::Nothing => true,
     }
 }
 

@@ -2,19 +2,19 @@
 -- nothing.
 use Prim.Native.Nat.{ℕ, _≤_, _<_}
 use native.Mathlib.Omega.{arith}
-use mathlib.Core.Path.{_≡_, sym}
+use mathlib.Core.Path.{sym, subst}
 use mathlib.Core.Logic.{_↔_, ⊎-elim}
 use mathlib.Core.List.{List}
 use Rattle.finite.proofs.Numbers.{le-or-lt}
 use Rattle.finite.proofs.Highest.{same-above}
 use Rattle.theory.specs.Words.{Lasso}
-use Rattle.theory.specs.Rules.{Morphism, Lawful, Marking, level, AllReached}
-use Rattle.theory.specs.Grades.{AtLeast, StrongMarking}
+use Rattle.theory.specs.Rules.{Morphism, Lawful, Marking, level, element, AllReached}
+use Rattle.theory.specs.Grades.{AtLeast, Graded, StrongMarking, LassosGraded}
 use Rattle.theory.proofs.Strength.{settled-start, settled-cycle, accepts-same, started-accepts}
 use Rattle.theory.proofs.Closure.{acceptance-passes, strong-acceptance}
-use Rattle.theory.proofs.Gradings.{GradedMarks, level-linked, at-least-small}
+use Rattle.theory.proofs.Gradings.{GradedMarks, level-linked, at-least-small, graded-by}
 use Rattle.theory.proofs.ClosureGrades.{closure-grade, closure-grade-small, closure-level}
-use Rattle.minimality.proofs.Smallest.{outcome, LassoValues, lasso-values, values-outcome}
+use Rattle.minimality.proofs.Smallest.{outcome, outcome-at, LassoValues, lasso-values, values-outcome}
 use Rattle.minimality.proofs.Saturation.{DependsOnWord}
 
 -- the grade of the lassos with the values (s, z): that of their settled pair in the closure
@@ -49,4 +49,14 @@ module _ {m : Morphism} {marks : Marking} (law : Lawful m) (reached : AllReached
       λ h. grading-outcome g some l′ .0 (accepts-same (l′ .cycle-some) same (grading-outcome g some l .1 h)),
       λ h. grading-outcome g some l .0 (accepts-same (l .cycle-some) (λ i. sym (same i)) (grading-outcome g some l′ .1 h)),
     ));
+  }
+
+  -- so the lassos with two values have the grade of those values
+  pub grading-lassos : {s z : ℕ} → s < m .size → z < m .size → LassosGraded m marks (element s) z (grading m marks s z)
+  grading-lassos {s} {z} hs hz = record {
+    start = reached .word-of s hs;
+    cycle = reached .word-of z hz;
+    graded = λ u v l eu ev.
+        subst (Graded m marks u v) (outcome-at (grading m marks) (record { over = l .start-over; is = eu }) (record { over = l .cycle-over; is = ev }))
+        (graded-by (λ g some. grading-outcome g some l));
   }

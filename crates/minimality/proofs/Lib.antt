@@ -15,6 +15,3 @@ pub mod Reductions
 pub mod ReduceModel
 pub mod ReducedExamples
 pub mod GradeOutcomes
-pub mod GradeSaturation
-pub mod GradeReductions
-pub mod GradeComplements

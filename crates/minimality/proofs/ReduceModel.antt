@@ -11,11 +11,10 @@ use lib.ListN.{length, getD}
 use mir.Facts.{yes-eqb}
 use Rattle.finite.proofs.Numbers.{le-or-lt}
 use Rattle.finite.proofs.Search.{leastBelow, least-holds, least-bound}
-use Rattle.theory.specs.Rules.{Morphism, Lawful, Rule, Pairs, Marking, marked, AllReached}
-use Rattle.theory.specs.Acceptance.{RuleStrong}
-use Rattle.theory.specs.Pairs.{LinkedOnly}
+use Rattle.theory.specs.Rules.{Morphism, Lawful, Rule, Marking, AllReached}
+use Rattle.theory.specs.Grades.{RuleStrong}
 use Rattle.theory.specs.Smallest.{Reduction}
-use Rattle.theory.proofs.Closure.{acceptance}
+use Rattle.theory.proofs.Gradings.{GradedMarks}
 use Rattle.minimality.specs.Rounds.{Together, Stable}
 use Rattle.minimality.proofs.FirstStable.{StableRound, stable-round}
 use Rattle.minimality.proofs.Congruence.{Congruence, stable-congruence}
@@ -25,6 +24,7 @@ use Rattle.minimality.proofs.Numbering.{Leaders, number-is, numbering-o
 use Rattle.minimality.proofs.Blocks.{blocksAfter, IsBlocks, related-equal, blocks-right}
 use Rattle.minimality.proofs.Settle.{Settled, settle, settledAt, settleFrom, settle-right}
 use Rattle.minimality.proofs.Saturation.{saturated}
+use Rattle.minimality.proofs.GradeOutcomes.{grading}
 use Rattle.minimality.proofs.Reductions.{RuleNumbering, reduced-rule, reduction-right}
 
 -- s is the least element of its block
@@ -56,18 +56,18 @@ modelOf m acc blocks leaders =
     record { morphism = table; marks = saturated table (λ i j. acc (getD leaders i 0) (getD leaders j 0)) }
 
 -- the blocks after the last round that changes something
-unfoldable pub finalBlocks : Morphism → Pairs → List ℕ
-finalBlocks m P = settle m (acceptance m P) .blocks
+unfoldable pub finalBlocks : Morphism → Marking → List ℕ
+finalBlocks m marks = settle m (grading m marks) .blocks
 
--- the reduction of the table m with the marked pairs P
-unfoldable pub reduce-model : Morphism → Pairs → Model
-reduce-model m P =
-    let blocks : List ℕ = finalBlocks m P in
-    modelOf m (acceptance m P) blocks (headsOf (m .size) blocks)
+-- the reduction of the table m with its marks
+unfoldable pub reduce-model : Morphism → Marking → Model
+reduce-model m marks =
+    let blocks : List ℕ = finalBlocks m marks in
+    modelOf m (grading m marks) blocks (headsOf (m .size) blocks)
 
 -- its number of elements
-unfoldable pub reduced-size : Morphism → Pairs → ℕ
-reduced-size m P = length (headsOf (m .size) (finalBlocks m P))
+unfoldable pub reduced-size : Morphism → Marking → ℕ
+reduced-size m marks = length (headsOf (m .size) (finalBlocks m marks))
 
 -- the numbers and the leaders of a numbering may be given by other functions that agree with them
 unfoldable pub numbering-as : {m : Morphism} {acc : ℕ → ℕ → ℕ} {c : ℕ} → Lawful m → (b : Numbering m acc c) → (number leader : ℕ → ℕ)
@@ -179,14 +179,14 @@ module _ {m : Morphism} (law : Lawful m) (acc : ℕ → ℕ → ℕ) where
 -- the rule that the model computes, and that it is the reduction
 pub record ModelReduces (r : Rule) : Type 0 where
   pub reduced : Rule
-  pub table-is : reduced .morphism ≡ reduce-model (r .morphism) (marked (r .marks)) .morphism
-  pub marks-are : reduced .marks ≡ reduce-model (r .morphism) (marked (r .marks)) .marks
-  pub size-is : reduced .morphism .size ≡ reduced-size (r .morphism) (marked (r .marks))
+  pub table-is : reduced .morphism ≡ reduce-model (r .morphism) (r .marks) .morphism
+  pub marks-are : reduced .marks ≡ reduce-model (r .morphism) (r .marks) .marks
+  pub size-is : reduced .morphism .size ≡ reduced-size (r .morphism) (r .marks)
   pub reduction : Reduction r reduced
 
-module _ (r : Rule) (reached : AllReached (r .morphism)) (linked : LinkedOnly (r .morphism) (marked (r .marks))) (strong : RuleStrong r) where
+module _ (r : Rule) (reached : AllReached (r .morphism)) (good : GradedMarks (r .morphism) (r .marks)) (strong : RuleStrong r) where
   abbrev outcomes : ℕ → ℕ → ℕ
-  outcomes = acceptance (r .morphism) (marked (r .marks))
+  outcomes = grading (r .morphism) (r .marks)
 
   abbrev final : StableBlocks (r .morphism) outcomes (settle (r .morphism) outcomes .blocks)
   final = settle-stable (r .lawful) outcomes
@@ -195,7 +195,7 @@ module _ (r : Rule) (reached : AllReached (r .morphism)) (linked : LinkedOnly (r
   congruence = stable-congruence (r .lawful) outcomes (final .round) (final .stable) reached
 
   -- the computed blocks, numbered
-  unfoldable pub model-numbering : RuleNumbering r (reduced-size (r .morphism) (marked (r .marks)))
+  unfoldable pub model-numbering : RuleNumbering r (reduced-size (r .morphism) (r .marks))
   unfolding reduced-size finalBlocks numbering-of-blocks
   model-numbering = numbering-of-blocks (r .lawful) congruence (final .right)
 
@@ -209,5 +209,5 @@ module _ (r : Rule) (reached : AllReached (r .morphism)) (linked : LinkedOnly (r
         table-is = sym (ap (λ (k : Model). k .morphism) e);
         marks-are = sym (ap (λ (k : Model). k .marks) e);
         size-is = refl;
-        reduction = reduction-right r reached linked strong model-numbering;
+        reduction = reduction-right r reached good strong model-numbering;
       }

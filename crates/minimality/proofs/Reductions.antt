@@ -1,25 +1,26 @@
--- Reduction of a strong rule: whichever way its blocks are numbered, the rule whose elements are the blocks accepts the
--- same lassos, and is the smallest that does among the strong rules of any finite size. Assumes nothing.
+-- Reduction of a strong rule: whichever way its blocks are numbered, the rule whose elements are the blocks gives each lasso its grade,
+-- and is the smallest that does among the strong rules of any finite size. Assumes nothing.
 use Prim.Native.Nat.{ℕ, _≤_}
 use mathlib.Core.Path.{_≡_, refl, sym, subst, _∙_}
 use mathlib.Core.Logic.{_↔_}
 use mathlib.Core.List.{List}
+use Rattle.finite.proofs.Highest.{same-above}
 use Rattle.theory.specs.Words.{Lasso}
-use Rattle.theory.specs.Rules.{Morphism, Rule, value, marked, AllReached}
-use Rattle.theory.specs.Acceptance.{RuleAccepts, RuleStrong}
+use Rattle.theory.specs.Rules.{Morphism, Rule, value, level, AllReached}
 use Rattle.theory.specs.Pairs.{LinkedOnly}
-use Rattle.theory.specs.Smallest.{SameLassos, Smallest, Reduction}
-use Rattle.theory.proofs.Closure.{acceptance}
+use Rattle.theory.specs.Grades.{AtLeast, RuleStrong}
+use Rattle.theory.specs.Smallest.{SameGrades, Smallest, Reduction}
+use Rattle.theory.proofs.Gradings.{GradedMarks}
 use Rattle.minimality.proofs.Smallest.{outcome, Factors, smallest-size, smallest-copy}
 use Rattle.minimality.proofs.Quotient.{Numbering, quotient, quotient-acc, quotient-lawful, quotient-reached, quotient-outcome, quotient-syntactic}
 use Rattle.minimality.proofs.Saturation.{DependsOnWord, saturated, Saturates, saturates}
-use Rattle.minimality.proofs.Complements.{both-one, acceptance-outcome, acceptance-outcome-le, acceptance-depends}
+use Rattle.minimality.proofs.GradeOutcomes.{grading, grading-outcome, grading-depends}
 
--- c numbered blocks of the rule's elements, with acceptance for the outcome
+-- c numbered blocks of the rule's elements, with the grade for the outcome
 abbrev pub RuleNumbering : Rule → ℕ → Type 0
-RuleNumbering r c = Numbering (r .morphism) (acceptance (r .morphism) (marked (r .marks))) c
+RuleNumbering r c = Numbering (r .morphism) (grading (r .morphism) (r .marks)) c
 
--- the rule whose elements are the blocks, every linked pair of them marked whose lassos are accepted
+-- the rule whose elements are the blocks, every linked pair of them marked with the grade of its lassos
 unfoldable pub reduced-rule : {c : ℕ} (r : Rule) → RuleNumbering r c → Rule
 reduced-rule r b = record {
   morphism = quotient b;
@@ -27,34 +28,31 @@ reduced-rule r b = record {
   marks = saturated (quotient b) (quotient-acc b);
 }
 
--- a strong rule that accepts exactly the lassos of outcome 1, where no other outcome than 0 and 1 is, decides the outcomes
--- by its values
+-- a strong rule that has the outcomes for its grades decides them by its values; nothing is asked of the numbers that it marks with
 pub strong-factors : {m : Morphism} {acc : ℕ → ℕ → ℕ} (rival : Rule) → RuleStrong rival → m .letters ≡ rival .morphism .letters
-    → ((u v : List ℕ) → Lasso (m .letters) u v → outcome m acc u v ≤ 1)
-    → ((u v : List ℕ) → Lasso (m .letters) u v → (1 ≤ outcome m acc u v) ↔ RuleAccepts rival u v)
+    → ((g : ℕ) → 1 ≤ g → (u v : List ℕ) → Lasso (m .letters) u v → (g ≤ outcome m acc u v) ↔ AtLeast (rival .morphism) (rival .marks) g u v)
     → Factors m acc (rival .morphism)
-strong-factors {m} {acc} rival strong letters bounded accepted = record {
-  equal-outcomes = λ u v u′ v′ l l′ p q.
-      both-one (bounded u v l) (bounded u′ v′ l′) (moved u v u′ v′ l l′ p q) (moved u′ v′ u v l′ l (sym p) (sym q));
+strong-factors {m} {acc} rival strong letters accepted = record {
+  equal-outcomes = λ u v u′ v′ l l′ p q. same-above (λ g some. (moved g some u v u′ v′ l l′ p q, moved g some u′ v′ u v l′ l (sym p) (sym q)));
 }
   where
     for-rival : (u v : List ℕ) → Lasso (m .letters) u v → Lasso (rival .morphism .letters) u v
     for-rival u v l = subst (λ k. Lasso k u v) letters l
 
-    moved : (u v u′ v′ : List ℕ) → Lasso (m .letters) u v → Lasso (m .letters) u′ v′ → value (rival .morphism) u ≡ value (rival .morphism) u′
-        → value (rival .morphism) v ≡ value (rival .morphism) v′ → 1 ≤ outcome m acc u v → 1 ≤ outcome m acc u′ v′
-    moved u v u′ v′ l l′ p q h =
-        accepted u′ v′ l′ .1
-        (strong .both-or-neither u v u′ v′ (for-rival u v l) (for-rival u′ v′ l′) p q .0 (accepted u v l .0 h))
+    moved : (g : ℕ) → 1 ≤ g → (u v u′ v′ : List ℕ) → Lasso (m .letters) u v → Lasso (m .letters) u′ v′ → value (rival .morphism) u ≡ value (rival .morphism) u′
+        → value (rival .morphism) v ≡ value (rival .morphism) v′ → g ≤ outcome m acc u v → g ≤ outcome m acc u′ v′
+    moved g some u v u′ v′ l l′ p q h =
+        accepted g some u′ v′ l′ .1
+        (strong .at-each g some .both-or-neither u v u′ v′ (for-rival u v l) (for-rival u′ v′ l′) p q .0 (accepted g some u v l .0 h))
 
-module _ {c : ℕ} (r : Rule) (reached : AllReached (r .morphism)) (linked : LinkedOnly (r .morphism) (marked (r .marks))) (strong : RuleStrong r) (b : RuleNumbering r c) where
+module _ {c : ℕ} (r : Rule) (reached : AllReached (r .morphism)) (good : GradedMarks (r .morphism) (r .marks)) (strong : RuleStrong r) (b : RuleNumbering r c) where
   -- the blocks' outcome depends on the endless word only
   pub blocks-depend : DependsOnWord (quotient b) (quotient-acc b)
   unfolding quotient
   blocks-depend = record {
     same-outcome = λ u v u′ v′ l l′ same.
         quotient-outcome (r .lawful) b l
-        ∙ acceptance-depends (r .lawful) reached linked strong .same-outcome u v u′ v′ l l′ same
+        ∙ grading-depends (r .lawful) reached good strong .same-outcome u v u′ v′ l l′ same
         ∙ sym (quotient-outcome (r .lawful) b l′);
   }
 
@@ -66,7 +64,7 @@ module _ {c : ℕ} (r : Rule) (reached : AllReached (r .morphism)) (linked : Lin
   pub reduced-saturates : Saturates (quotient b) (quotient-acc b) (saturated (quotient b) (quotient-acc b))
   reduced-saturates = saturates (quotient-lawful (r .lawful) b) (quotient-reached (r .lawful) b reached) blocks-depend
 
-  pub reduced-linked : LinkedOnly (reduced-rule r b .morphism) (marked (reduced-rule r b .marks))
+  pub reduced-linked : LinkedOnly (reduced-rule r b .morphism) (level 1 (reduced-rule r b .marks))
   unfolding reduced-rule
   reduced-linked = reduced-saturates .linked-only
 
@@ -74,40 +72,32 @@ module _ {c : ℕ} (r : Rule) (reached : AllReached (r .morphism)) (linked : Lin
   unfolding reduced-rule
   reduced-strong = reduced-saturates .strong
 
-  -- it accepts the same lassos
-  pub reduced-same : SameLassos r (reduced-rule r b)
+  -- it gives each lasso the same grade
+  pub reduced-same : SameGrades r (reduced-rule r b)
   unfolding reduced-rule quotient
   reduced-same = record {
     same-letters = refl;
-    both-or-neither = λ u v l.
-        (let a = acceptance-outcome (r .lawful) reached linked strong l in
-        let q = reduced-saturates .accepts u v l in
-        let e : outcome (quotient b) (quotient-acc b) u v ≡ outcome (r .morphism) (acceptance (r .morphism) (marked (r .marks))) u v = quotient-outcome (r .lawful) b l in
-        (λ h. q .1 (subst (λ n. 1 ≤ n) (sym e) (a .0 h)), λ h. a .1 (subst (λ n. 1 ≤ n) e (q .0 h))));
+    both-or-neither = λ g some u v l.
+        (let a = grading-outcome (r .lawful) reached good strong g some l in
+        let q = reduced-saturates .accepts g some u v l in
+        let e : outcome (quotient b) (quotient-acc b) u v ≡ outcome (r .morphism) (grading (r .morphism) (r .marks)) u v = quotient-outcome (r .lawful) b l in
+        (λ h. q .1 (subst (λ n. g ≤ n) (sym e) (a .0 h)), λ h. a .1 (subst (λ n. g ≤ n) e (q .0 h))));
   }
 
-  module _ (rival : Rule) (rival-strong : RuleStrong rival) (same : SameLassos (reduced-rule r b) rival) where
+  module _ (rival : Rule) (rival-strong : RuleStrong rival) (same : SameGrades (reduced-rule r b) rival) where
     rival-letters : quotient b .letters ≡ rival .morphism .letters
     unfolding reduced-rule
     rival-letters = same .same-letters
 
-    rival-accepts : (u v : List ℕ) → Lasso (quotient b .letters) u v → (1 ≤ outcome (quotient b) (quotient-acc b) u v) ↔ RuleAccepts rival u v
-    unfolding reduced-rule
-    rival-accepts u v l =
-        let q = reduced-saturates .accepts u v l in
-        let s = same .both-or-neither u v l in
-        (λ h. s .0 (q .1 h), λ a. q .0 (s .1 a))
-
-    outcome-bounded : (u v : List ℕ) → Lasso (quotient b .letters) u v → outcome (quotient b) (quotient-acc b) u v ≤ 1
-    unfolding quotient
-    outcome-bounded u v l =
-        rw (quotient-outcome (r .lawful) b l) (acceptance-outcome-le (r .lawful) reached linked strong l)
-
     -- the rival's values decide the outcomes
     pub rival-factors : Factors (quotient b) (quotient-acc b) (rival .morphism)
-    rival-factors = strong-factors rival rival-strong rival-letters outcome-bounded rival-accepts
+    unfolding reduced-rule
+    rival-factors = strong-factors rival rival-strong rival-letters (λ g some u v l.
+        (let q = reduced-saturates .accepts g some u v l in
+        let s = same .both-or-neither g some u v l in
+        (λ h. s .0 (q .1 h), λ a. q .0 (s .1 a))))
 
-  -- no strong rule with the same lassos has fewer elements, and one with just as many is a renumbering
+  -- no strong rule with the same grades has fewer elements, and one with just as many is a renumbering
   pub reduced-smallest : Smallest (reduced-rule r b)
   unfolding reduced-rule
   reduced-smallest = record {
@@ -126,5 +116,5 @@ module _ {c : ℕ} (r : Rule) (reached : AllReached (r .morphism)) (linked : Lin
   reduction-right = record {
     same = reduced-same;
     smallest = reduced-smallest;
-    marks = reduced-saturates .marks-accepted;
+    marks = reduced-saturates .marks-grades;
   }

@@ -1,18 +1,23 @@
 -- Saturation: where an outcome that the values decide depends on the endless word only, the marking of the linked pairs by
--- their outcomes is strong and gives every lasso its outcome back. Assumes nothing.
+-- their outcomes is strong, gives every lasso its outcome for a grade, and marks each linked pair with the grade of its lassos. Assumes
+-- nothing.
 use Prim.Native.Nat.{ℕ, _≤_}
 use native.Mathlib.Omega.{arith}
-use mathlib.Core.Path.{_≡_, refl, sym, subst, ap₂, _∙_}
+use mathlib.Core.Path.{_≡_, sym, subst, ap₂, _∙_}
 use mathlib.Core.Bool.{Bool, true, false, cond}
-use mathlib.Core.Logic.{_↔_}
+use mathlib.Core.Logic.{_↔_, ⊎-elim}
 use mathlib.Core.List.{List}
 use lib.Dec.{T, leb, leb→le, le→leb}
+use Rattle.finite.proofs.Numbers.{le-or-lt}
+use Rattle.finite.proofs.Highest.{same-above}
 use Rattle.finite.proofs.Tests.{T-true}
 use Rattle.theory.specs.Words.{Lasso, endless}
-use Rattle.theory.specs.Rules.{Morphism, Lawful, Marking, level, marked, element, value, AllReached}
+use Rattle.theory.specs.Rules.{Morphism, Lawful, Marking, level, element, value, AllReached}
 use Rattle.theory.specs.Acceptance.{Accepts, Strong}
 use Rattle.theory.specs.Pairs.{Linked, LinkedOnly}
-use Rattle.theory.specs.Smallest.{LinkedAccepted, MarksAccepted}
+use Rattle.theory.specs.Grades.{AtLeast, Graded, StrongMarking}
+use Rattle.theory.specs.Smallest.{MarksGrades}
+use Rattle.theory.proofs.Gradings.{level-up, level-down, graded-by}
 use Rattle.theory.proofs.Starts.{start-or-turn, first-value, same-started}
 use Rattle.theory.proofs.Strength.{settled-cycle, settled-start, Settled, settled-linked, settle}
 use Rattle.theory.proofs.Closure.{linked-test, linked-intro, linked-elim}
@@ -29,11 +34,6 @@ unfoldable pub saturated : Morphism → (ℕ → ℕ → ℕ) → Marking
 saturated m acc s e =
     let number = acc s e in
     cond (linked-test m s e) number 0
-
--- the marked pairs are those of level 1
-pub marked-level : (marks : Marking) → marked marks ≡ level 1 marks
-unfolding marked
-marked-level marks = refl
 
 -- a number above 0 that is at most a choice between a and 0
 chosen-first : {g : ℕ} → 1 ≤ g → (b : Bool) (a : ℕ) → T (leb g (cond b a 0)) → T b × (g ≤ a)
@@ -103,48 +103,57 @@ module _ {m : Morphism} (acc : ℕ → ℕ → ℕ) {g : ℕ} (some : 1 ≤ g) w
       both-or-neither = λ u v u′ v′ l l′ eu ev. (one-way l l′ eu ev, one-way l′ l (sym eu) (sym ev));
     }
 
-    module _ (reached : AllReached m) where
-      marked-accepted : (s e : ℕ) → T (level g (saturated m acc) s e) → LinkedAccepted m (level g (saturated m acc)) s e
-      marked-accepted s e h =
-          let p = saturated-elim s e h in
-          record {
-            linked = p .0;
-            lassos = record {
-              start = reached .word-of s (p .0 .inside);
-              cycle = reached .word-of e (p .0 .idempotent .inside);
-              accepted = λ u v l eu ev.
-                  outcome-accepted l (rw (outcome-at acc (record { over = l .start-over; is = eu }) (record { over = l .cycle-over; is = ev })) (p .1));
-            };
-          }
-
-      accepted-marked : (s e : ℕ) → LinkedAccepted m (level g (saturated m acc)) s e → T (level g (saturated m acc) s e)
-      accepted-marked s e k =
-          let x = k .lassos .start in
-          let y = k .lassos .cycle in
-          let p : HasValue m (x .word) (element s) = record { over = x .over; is = x .its-value } in
-          let w : HasValue m (y .word) (element e) = record { over = y .over; is = y .its-value } in
-          let l : Lasso (m .letters) (x .word) (y .word) = elements-lasso p w in
-          saturated-intro (k .linked) (rw (outcome-at acc p w) at (accepted-outcome l (k .lassos .accepted _ _ l (p .is) (w .is))))
-
-      -- it marks exactly the linked pairs whose lassos are accepted
-      pub saturated-marks : MarksAccepted m (level g (saturated m acc))
-      saturated-marks = record { marks = λ s e hs he. (marked-accepted s e, accepted-marked s e) }
-
--- the same of the marked pairs, those of level 1
+-- the linked pairs marked with their outcomes give each lasso its outcome for a grade, are strong, and each linked pair has the grade of
+-- its lassos
 pub record Saturates (m : Morphism) (acc : ℕ → ℕ → ℕ) (marks : Marking) : Type 0 where
-  pub accepts : (u v : List ℕ) → Lasso (m .letters) u v → Accepts m (marked marks) u v ↔ (1 ≤ outcome m acc u v)
-  pub strong : Strong m (marked marks)
-  pub linked-only : LinkedOnly m (marked marks)
-  pub marks-accepted : MarksAccepted m (marked marks)
+  pub accepts : (g : ℕ) → 1 ≤ g → (u v : List ℕ) → Lasso (m .letters) u v → AtLeast m marks g u v ↔ (g ≤ outcome m acc u v)
+  pub strong : StrongMarking m marks
+  pub linked-only : LinkedOnly m (level 1 marks)
+  pub marks-grades : MarksGrades m marks
+
+-- each lasso has its outcome for a grade
+pub saturates-graded : {m : Morphism} {acc : ℕ → ℕ → ℕ} {marks : Marking} {u v : List ℕ} → Saturates m acc marks → Lasso (m .letters) u v → Graded m marks u v (outcome m acc u v)
+saturates-graded {u = u} {v = v} k l = graded-by (λ g some. k .accepts g some u v l)
+
+-- a linked pair's mark is its outcome, every other pair's is 0
+module _ {m : Morphism} (acc : ℕ → ℕ → ℕ) where
+  pub saturated-at : (s e : ℕ) → Linked m s e → saturated m acc s e ≡ acc s e
+  saturated-at s e l = same-above (λ g some. (
+    λ h. saturated-elim acc some s e (level-up (saturated m acc) g s e h) .1,
+    λ h. level-down (saturated m acc) g s e (saturated-intro acc some l h),
+  ))
+
+  pub saturated-other : (s e : ℕ) → (Linked m s e → ⊥) → saturated m acc s e ≡ 0
+  saturated-other s e f =
+      ⊎-elim (λ (h : 1 ≤ saturated m acc s e). absurd (f (saturated-elim acc (let z : 1 ≤ 1 = omega arith in z) s e (level-up (saturated m acc) 1 s e h) .0)))
+      (λ h. omega arith) (le-or-lt 1 (saturated m acc s e))
+
+-- no mark is above a bound of its outcome
+pub saturated-small : (m : Morphism) (acc : ℕ → ℕ → ℕ) (bound s e : ℕ) → acc s e ≤ bound → saturated m acc s e ≤ bound
+unfolding saturated
+saturated-small m acc bound s e h = go (linked-test m s e)
+  where
+    go : (b : Bool) → cond b (acc s e) 0 ≤ bound
+    go true = h
+    go false = omega arith
 
 pub saturates : {m : Morphism} {acc : ℕ → ℕ → ℕ} → Lawful m → AllReached m → DependsOnWord m acc → Saturates m acc (saturated m acc)
-unfolding marked
 saturates {m} {acc} law reached depends = record {
-  accepts = λ u v l. saturated-accepts acc one law depends l;
-  strong = saturated-strong acc one law depends;
-  linked-only = saturated-linked acc one;
-  marks-accepted = saturated-marks acc one law depends reached;
+  accepts = λ g some u v l. saturated-accepts acc some law depends l;
+  strong = record { at-each = λ g some. saturated-strong acc some law depends };
+  linked-only = saturated-linked acc (omega arith);
+  marks-grades = record {
+    of-linked = λ s e k. record {
+      linked = k;
+      lassos = record {
+        start = reached .word-of s (k .inside);
+        cycle = reached .word-of e (k .idempotent .inside);
+        graded = λ u v l eu ev.
+            subst (Graded m (saturated m acc) u v)
+            (outcome-at acc (record { over = l .start-over; is = eu }) (record { over = l .cycle-over; is = ev }) ∙ sym (saturated-at acc s e k))
+            (graded-by (λ g some. saturated-accepts acc some law depends l));
+      };
+    };
+    of-others = λ s e hs he f. saturated-other acc s e f;
+  };
 }
-  where
-    one : 1 ≤ 1
-    one = omega arith

@@ -4,9 +4,8 @@ use Prim.Native.Nat.{ℕ, _+_, _*_, _<_}
 use mathlib.Core.Path.{_≡_, ap, _∙_}
 use mathlib.Core.List.{List}
 use native.Mathlib.Omega.{arith}
-use lib.Dec.{ltb}
 use lib.ListN.{getD}
-use Rattle.theory.specs.Rules.{Lawful, level, marked}
+use Rattle.theory.specs.Rules.{Lawful}
 use Rattle.theory.specs.Pairs.{LeastPower}
 use Rattle.theory.proofs.IdempotentPowers.{least-power-is, least-power-idempotent}
 use Rattle.theory.proofs.Strength.{settled-start, settled-cycle}
@@ -23,9 +22,9 @@ module _ (bytes : List ℕ) (n k z : ℕ) {e exponent : ℕ} (law : Lawful (morp
 
   -- the byte that is read is that of the settled pair
   pub settled-byte : {s : ℕ} (before : ℕ) (scratch : List ℕ) → s ≡ productAt bytes n before e
-      → ltb 0 (getD scratch (4096 + (s * 64 + e)) 0) ≡ marked (marksFrom scratch 4096) (settled-start (morphismAt bytes n k) before z) (settled-cycle (morphismAt bytes n k) z)
-  unfolding marked level marksFrom
+      → getD scratch (4096 + (s * 64 + e)) 0 ≡ marksFrom scratch 4096 (settled-start (morphismAt bytes n k) before z) (settled-cycle (morphismAt bytes n k) z)
+  unfolding marksFrom
   settled-byte before scratch es =
       let settled = least-power-is law hz found .is-power in
-      ap (λ (x : ℕ). marked (marksFrom scratch 4096) x e) (es ∙ ap (productAt bytes n before) settled)
-      ∙ ap (marked (marksFrom scratch 4096) (settled-start (morphismAt bytes n k) before z)) settled
+      ap (λ (x : ℕ). marksFrom scratch 4096 x e) (es ∙ ap (productAt bytes n before) settled)
+      ∙ ap (marksFrom scratch 4096 (settled-start (morphismAt bytes n k) before z)) settled

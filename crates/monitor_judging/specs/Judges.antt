@@ -5,21 +5,20 @@ use mathlib.Core.List.{List}
 use lib.ListN.{length, replicate}
 use Rattle.answer.specs.declared.Refusal.the-variants.{NotStrong}
 use Rattle.answer.specs.Checks.{refused}
-use Rattle.theory.specs.Rules.{Morphism, Marking, Pairs, marked, element}
-use Rattle.theory.specs.Acceptance.{Strong}
+use Rattle.theory.specs.Rules.{Morphism, Marking, element}
 use Rattle.theory.specs.Pairs.{LeastExponent}
+use Rattle.theory.specs.Grades.{StrongMarking, LassosGraded}
 use Rattle.theory.proofs.Gradings.{GradedMarks}
 use Rattle.scratch.specs.Map.{MarkingAt}
 use Rattle.promises.specs.declared.MonitorVerdict.{MonitorVerdict}
 use Rattle.promises.specs.declared.MonitorVerdict.the-variants.{Decided, Refused}
-use Rattle.promises.specs.Verdict.{LassosDecided}
 
 -- a strong marking with the answer for the values (before, since), or one that is not strong and 12
-abbrev pub JudgedBy : Morphism → Pairs → ℕ → ℕ → MonitorVerdict → Type 0
-JudgedBy m P before since (Decided accepted turns) = Strong m P × (LassosDecided m P (element before) since accepted × LeastExponent m since turns)
-JudgedBy m P before since (Refused refusal input place) = (Strong m P → ⊥) × (refused refusal input place ≡ refused NotStrong 1 0)
+abbrev pub JudgedBy : Morphism → Marking → ℕ → ℕ → MonitorVerdict → Type 0
+JudgedBy m marks before since (Decided grade turns) = StrongMarking m marks × (LassosGraded m marks (element before) since grade × LeastExponent m since turns)
+JudgedBy m marks before since (Refused refusal input place) = (StrongMarking m marks → ⊥) × (refused refusal input place ≡ refused NotStrong 1 0)
 
 -- what the marks at the front of scratch say, and zeros are left
 pub record Judges (m : Morphism) (before since : ℕ) (entry exit : List ℕ) (answer : MonitorVerdict) : Type 0 where
   pub zeros : exit ≡ replicate (length entry) 0
-  pub says : (marks : Marking) → GradedMarks m marks → MarkingAt (m .size) marks entry 0 → JudgedBy m (marked marks) before since answer
+  pub says : (marks : Marking) → GradedMarks m marks → MarkingAt (m .size) marks entry 0 → JudgedBy m marks before since answer

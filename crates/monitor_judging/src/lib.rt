@@ -1,4 +1,4 @@
-// The verdict on two values of a strong rule, below the checks: whether the lassos with these values are accepted.
+// The verdict on two values of a strong rule, below the checks: the grade of the lassos with these values.
 use answer::Refusal;
 use mark_strong::decide;
 use promises::MonitorVerdict;
@@ -9,7 +9,7 @@ use sections::zero;
 ghost use mathlib.Core.Path.{_≡_};
 ghost use Prim.Native.Nat.{_≤_, _<_};
 ghost use lib.ListN.{length};
-ghost use Rattle.theory.specs.Rules.{Lawful, marked};
+ghost use Rattle.theory.specs.Rules.{Lawful};
 ghost use Rattle.theory.specs.Pairs.{LeastExponent};
 ghost use Rattle.theory.proofs.Strength.{settled-start, settled-cycle};
 ghost use Rattle.rule_table.specs.Table.{Table};
@@ -19,15 +19,15 @@ ghost use Rattle.mark_strong.specs.Deciding.{DecideNeeds};
 ghost use Rattle.monitor_judging.specs.Judges.{Judges};
 ghost use Rattle.formats.specs.RuleChecks.{scratchSize};
 
-// Whether the lassos with two values are accepted, and the turns that settle the cycle's.
+// The grade of the lassos with two values, and the turns that settle the cycle's.
 pub struct Looked {
-    pub accepted: bool,
+    pub grade: usize,
     pub turns: usize,
 }
 
-// Whether the second table of marks has the pair (before·f, f), f the idempotent power of since: the values of the same endless
+// The mark of the pair (before·f, f) in the second table of marks, f the idempotent power of since: the values of the same endless
 // words written with more turns in their start and their cycle. The exponent of f is the number of turns.
-pub fn accepted_values(
+pub fn values_grade(
     rule: &[u8],
     n: usize,
     k: usize,
@@ -39,15 +39,15 @@ pub fn accepted_values(
     requires { ⌜ Lawful (morphismAt (now rule) n k) ⌝ }
     requires { ⌜ (before < n) × (since < n) ⌝ }
     requires { ⌜ scratchSize ≤ length (now scratch) ⌝ }
-    ensures acceptance { λ r. ⌜ r .accepted ≡ marked (marksFrom (now (scratch .entry)) secondBase) (settled-start (morphismAt (now (rule .entry)) n k) before since) (settled-cycle (morphismAt (now (rule .entry)) n k) since) ⌝ }
+    ensures grade { λ r. ⌜ r .grade ≡ marksFrom (now (scratch .entry)) secondBase (settled-start (morphismAt (now (rule .entry)) n k) before since) (settled-cycle (morphismAt (now (rule .entry)) n k) since) ⌝ }
     ensures turns { λ r. ⌜ LeastExponent (morphismAt (now (rule .entry)) n k) since (r .turns) ⌝ }
 {
     let power = idempotent_power(rule, n, k, since);
     let f = power.element;
     let s = product(rule, n, before, f);
-    let accepted = 0 < scratch[SECOND_BASE + (s * 64 + f)];
+    let grade = scratch[SECOND_BASE + (s * 64 + f)] as usize;
     Looked {
-        accepted,
+        grade,
         turns: power.exponent,
     }
 }
@@ -67,7 +67,7 @@ pub fn judge(
     ensures { λ r. ⌜ Judges (morphismAt (now (rule .entry)) n k) before since (now (scratch .entry)) (now (scratch .exit)) r ⌝ }
 {
     let strong = decide(rule, n, k, scratch);
-    let looked = accepted_values(rule, n, k, scratch, before, since);
+    let looked = values_grade(rule, n, k, scratch, before, since);
     zero(scratch);
     if !strong {
         return MonitorVerdict::Refused {
@@ -77,7 +77,7 @@ pub fn judge(
         };
     }
     MonitorVerdict::Decided {
-        accepted: looked.accepted,
+        grade: looked.grade,
         turns: looked.turns,
     }
 }

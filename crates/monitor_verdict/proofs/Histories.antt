@@ -1,17 +1,16 @@
--- The verdict of a monitor that calls have led to, keeps and returns among them, is that of the lasso of its history: the letters before
--- the last mark, then those since for ever. Where no mark was made it is that of the letters for ever. Assumes nothing.
+-- The verdict of a monitor that calls have led to, keeps and returns among them, is the grade of the lasso of its history: the letters
+-- before the last mark, then those since for ever. Where no mark was made it is that of the letters for ever. Assumes nothing.
 use Prim.Native.Nat.{ℕ}
 use mathlib.Core.Path.{_≡_, refl, sym, _∙_, subst}
-use mathlib.Core.Bool.{Bool, true, false}
 use mathlib.Core.List.{List, [], _∷_, map}
 use Rattle.answer.specs.Checks.{passed, FirstFailure}
 use Rattle.answer.proofs.Order.{passed-last, passes-head}
 use Rattle.theory.specs.Words.{Lasso}
 use Rattle.theory.specs.Rules.{element, value}
-use Rattle.theory.specs.Acceptance.{Accepts}
+use Rattle.theory.specs.Grades.{Graded}
 use Rattle.theory.specs.Pairs.{TurnsOf}
 use Rattle.theory.proofs.Values.{value-some}
-use Rattle.formats.specs.RuleFile.{lettersOf, morphismOf, pairsOf}
+use Rattle.formats.specs.RuleFile.{lettersOf, morphismOf, markingOf}
 use Rattle.promises.specs.declared.Monitor.{Monitor}
 use Rattle.promises.specs.Monitor.{valueOf, monitorChecks}
 use Rattle.promises.specs.Histories.{Action, event, sinceWord, beforeWord, Run}
@@ -40,18 +39,13 @@ module _ {bytes : List ℕ} {f : Monitor} {history : List Action} (run : Run byt
   }
 
   module _ {entry exit : List ℕ} where
-    pub history-accepted : {turns : ℕ} → VerdictPromise bytes f entry exit (Decided true turns) → Accepts (morphismOf bytes) (pairsOf bytes) (beforeWord history) (sinceWord history)
-    history-accepted p =
+    pub history-graded : {grade turns : ℕ} → VerdictPromise bytes f entry exit (Decided grade turns) → Graded (morphismOf bytes) (markingOf bytes) (beforeWord history) (sinceWord history) grade
+    history-graded p =
         let e = history-cycle (p .refusal) in
-        p .answered .0 .accepted (beforeWord history) (sinceWord history) (history-lasso e) history-start e
-
-    pub history-not-accepted : {turns : ℕ} → VerdictPromise bytes f entry exit (Decided false turns) → Accepts (morphismOf bytes) (pairsOf bytes) (beforeWord history) (sinceWord history) → ⊥
-    history-not-accepted p =
-        let e = history-cycle (p .refusal) in
-        p .answered .0 .not-accepted (beforeWord history) (sinceWord history) (history-lasso e) history-start e
+        p .answered .0 .graded (beforeWord history) (sinceWord history) (history-lasso e) history-start e
 
     -- and the turns are those of its cycle
-    pub history-turns : {accepted : Bool} {turns : ℕ} → VerdictPromise bytes f entry exit (Decided accepted turns) → TurnsOf (morphismOf bytes) (sinceWord history) turns
+    pub history-turns : {grade turns : ℕ} → VerdictPromise bytes f entry exit (Decided grade turns) → TurnsOf (morphismOf bytes) (sinceWord history) turns
     history-turns p = record { cycle = f .since; cycle-value = history-cycle (p .refusal); turns-are = p .answered .1 }
 
 -- a history of events alone
@@ -65,22 +59,14 @@ events-before (a ∷ letters) = events-before letters
 
 -- where no mark was made, the verdict is that of the letters for ever
 module _ {bytes : List ℕ} {f : Monitor} (letters : List ℕ) (run : Run bytes f (events letters)) {entry exit : List ℕ} where
-  pub events-accepted : {turns : ℕ} → VerdictPromise bytes f entry exit (Decided true turns) → Accepts (morphismOf bytes) (pairsOf bytes) [] (sinceWord (events letters))
-  events-accepted p =
-      subst (λ (u : List ℕ). Accepts (morphismOf bytes) (pairsOf bytes) u (sinceWord (events letters))) (events-before letters) (history-accepted run p)
-
-  pub events-not-accepted : {turns : ℕ} → VerdictPromise bytes f entry exit (Decided false turns) → Accepts (morphismOf bytes) (pairsOf bytes) [] (sinceWord (events letters)) → ⊥
-  events-not-accepted p a =
-      history-not-accepted run p
-      (subst (λ (u : List ℕ). Accepts (morphismOf bytes) (pairsOf bytes) u (sinceWord (events letters))) (sym (events-before letters)) a)
+  pub events-graded : {grade turns : ℕ} → VerdictPromise bytes f entry exit (Decided grade turns) → Graded (morphismOf bytes) (markingOf bytes) [] (sinceWord (events letters)) grade
+  events-graded {grade} p =
+      subst (λ (u : List ℕ). Graded (morphismOf bytes) (markingOf bytes) u (sinceWord (events letters)) grade) (events-before letters) (history-graded run p)
 
 -- so it is for a monitor with points: the lasso is that of the history, which a return has made the stored one again
 module _ {bytes : List ℕ} {f : Monitor} {points : List ℕ} {history : List Action} {names : ℕ → Stored} (log : Log bytes f points history names) {entry exit : List ℕ} where
-  pub log-accepted : {turns : ℕ} → VerdictPromise bytes f entry exit (Decided true turns) → Accepts (morphismOf bytes) (pairsOf bytes) (beforeWord history) (sinceWord history)
-  log-accepted p = history-accepted (log-run bytes log) p
+  pub log-graded : {grade turns : ℕ} → VerdictPromise bytes f entry exit (Decided grade turns) → Graded (morphismOf bytes) (markingOf bytes) (beforeWord history) (sinceWord history) grade
+  log-graded p = history-graded (log-run bytes log) p
 
-  pub log-not-accepted : {turns : ℕ} → VerdictPromise bytes f entry exit (Decided false turns) → Accepts (morphismOf bytes) (pairsOf bytes) (beforeWord history) (sinceWord history) → ⊥
-  log-not-accepted p = history-not-accepted (log-run bytes log) p
-
-  pub log-turns : {accepted : Bool} {turns : ℕ} → VerdictPromise bytes f entry exit (Decided accepted turns) → TurnsOf (morphismOf bytes) (sinceWord history) turns
+  pub log-turns : {grade turns : ℕ} → VerdictPromise bytes f entry exit (Decided grade turns) → TurnsOf (morphismOf bytes) (sinceWord history) turns
   log-turns p = history-turns (log-run bytes log) p

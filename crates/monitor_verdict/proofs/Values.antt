@@ -1,13 +1,12 @@
 -- What the look at a monitor's two values shows, on each way. Assumes nothing.
 use Prim.Native.Nat.{ℕ, _<_}
 use mathlib.Core.Path.{_≡_, refl, subst}
-use mathlib.Core.Bool.{Bool, true, false}
 use mathlib.Core.Logic.{_⊎_, ⊎-elim, by-cases}
 use native.Mathlib.Decide.{ℕ-discrete}
 use borrow.Author.Tests.{eq-eqb, ne-eqb}
-use Rattle.theory.specs.Rules.{Morphism, Pairs, element}
-use Rattle.theory.specs.Smallest.{LassosAccepted, LassosNotAccepted}
-use Rattle.theory.proofs.EmptyStarts.{cycle-accepted, cycle-not-accepted}
+use Rattle.theory.specs.Rules.{Morphism, Marking, element}
+use Rattle.theory.specs.Grades.{LassosGraded}
+use Rattle.theory.proofs.EmptyStarts.{cycle-graded}
 use Rattle.answer.specs.declared.Refusal.{Refusal}
 use Rattle.answer.specs.declared.Refusal.the-variants.{EntryOutOfRange, WordLength}
 use Rattle.answer.specs.Checks.{refused, FirstFailure}
@@ -18,7 +17,7 @@ use Rattle.promises.specs.declared.Monitor.{Monitor}
 use Rattle.promises.specs.Monitor.{noValue, valueOf, ValueOutOfRange, monitorValueCheck}
 use Rattle.monitor_state.specs.Ready.{GoodNumber}
 use Rattle.monitor_state.proofs.Numbers.{value-none, value-element, good-not-stray, good-element}
-use Rattle.promises.specs.Verdict.{noneCheck, LassosDecided}
+use Rattle.promises.specs.Verdict.{noneCheck}
 use Rattle.monitor_verdict.specs.Judging.{valueChecks, startElement, Judgeable, ValuesAnswer}
 
 -- the element that the start is judged by
@@ -31,23 +30,12 @@ unfolding startElement
 start-some f b = simp (ne-eqb (f .before) noValue b)
 
 -- what is judged of it is so of the monitor's lassos: those whose start is empty are where a turn of the cycle stands for the start
-module _ {m : Morphism} {P : Pairs} (f : Monitor) where
-  start-accepted : LassosAccepted m P (element (startElement f)) (f .since) → LassosAccepted m P (valueOf (f .before)) (f .since)
-  start-accepted k =
-      by-cases (ℕ-discrete (f .before) noValue)
-      (λ e. rw (value-none e) (cycle-accepted (rw (start-none f e) at k)))
-      (λ b. rw (value-element b) (rw (start-some f b) at k))
-
-  start-not-accepted : LassosNotAccepted m P (element (startElement f)) (f .since) → LassosNotAccepted m P (valueOf (f .before)) (f .since)
-  start-not-accepted k =
-      by-cases (ℕ-discrete (f .before) noValue)
-      (λ e. rw (value-none e) (cycle-not-accepted (rw (start-none f e) at k)))
-      (λ b. rw (value-element b) (rw (start-some f b) at k))
-
-pub start-decided : (m : Morphism) (P : Pairs) (f : Monitor) (accepted : Bool) → LassosDecided m P (element (startElement f)) (f .since) accepted
-    → LassosDecided m P (valueOf (f .before)) (f .since) accepted
-start-decided m P f true k = start-accepted f k
-start-decided m P f false k = start-not-accepted f k
+pub start-graded : {m : Morphism} {marks : Marking} {g : ℕ} (f : Monitor) → LassosGraded m marks (element (startElement f)) (f .since) g
+    → LassosGraded m marks (valueOf (f .before)) (f .since) g
+start-graded f k =
+    by-cases (ℕ-discrete (f .before) noValue)
+    (λ e. rw (value-none e) (cycle-graded (rw (start-none f e) at k)))
+    (λ b. rw (value-element b) (rw (start-some f b) at k))
 
 module _ (n : ℕ) (f : Monitor) where
   -- a value is stray

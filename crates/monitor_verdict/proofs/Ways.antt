@@ -10,7 +10,7 @@ use Rattle.answer.specs.Checks.{Verdict, refused, FirstFailure}
 use Rattle.answer.proofs.Order.{first-passes, first-fails, none-left, refused-before, passed-before}
 use Rattle.theory.specs.Rules.{Morphism}
 use Rattle.formats.specs.Table.{morphismAt}
-use Rattle.formats.specs.RuleFile.{elementsOf, morphismOf, markingOf, pairsOf}
+use Rattle.formats.specs.RuleFile.{elementsOf, morphismOf, markingOf}
 use Rattle.rule_layout.specs.declared.Shape.{Shape}
 use Rattle.rule_check.specs.declared.Checked.the-variants.{Rule, Refused as Checked-refused}
 use Rattle.rule_check.specs.Answers.{CheckPromise}
@@ -25,7 +25,7 @@ use Rattle.promises.specs.declared.MonitorVerdict.the-variants.{Decided, Refuse
 use Rattle.promises.specs.Verdict.{verdictChecks, VerdictPromise}
 use Rattle.monitor_judging.specs.Judges.{JudgedBy, Judges}
 use Rattle.monitor_verdict.specs.Judging.{valueChecks, startElement, Judgeable}
-use Rattle.monitor_verdict.proofs.Values.{start-decided}
+use Rattle.monitor_verdict.proofs.Values.{start-graded}
 
 module _ (bytes : List ℕ) (f : Monitor) (entry : List ℕ) where
   -- the rule is refused
@@ -64,16 +64,16 @@ module _ (bytes : List ℕ) (f : Monitor) (entry : List ℕ) where
 
       -- what the marks of the file say
       file-says : {exit : List ℕ} {answer : MonitorVerdict} → Judges (morphismAt bytes (shape .elements) (shape .letters)) (startElement f) (f .since) mid exit answer
-          → JudgedBy (morphismOf bytes) (pairsOf bytes) (startElement f) (f .since) answer
+          → JudgedBy (morphismOf bytes) (markingOf bytes) (startElement f) (f .since) answer
       file-says {answer = answer} j =
-          subst (λ (m : Morphism). JudgedBy m (pairsOf bytes) (startElement f) (f .since) answer) (shape-morphism (p .scratch .shape-is))
+          subst (λ (m : Morphism). JudgedBy m (markingOf bytes) (startElement f) (f .since) answer) (shape-morphism (p .scratch .shape-is))
           (j .says (markingOf bytes) (checked-graded 1 bytes entry p) (marks-stand 1 bytes entry p))
 
-      says : {exit : List ℕ} (answer : MonitorVerdict) → exit ≡ afterCall entry → JudgedBy (morphismOf bytes) (pairsOf bytes) (startElement f) (f .since) answer
+      says : {exit : List ℕ} (answer : MonitorVerdict) → exit ≡ afterCall entry → JudgedBy (morphismOf bytes) (markingOf bytes) (startElement f) (f .since) answer
           → VerdictPromise bytes f entry exit answer
-      says (Decided accepted turns) z k = record {
+      says (Decided grade turns) z k = record {
         refusal = after-values (first-passes (record { nowhere = λ place t. t .weak (k .0) }) none-left);
-        answered = (start-decided (morphismOf bytes) (pairsOf bytes) f accepted (k .1 .0), k .1 .1);
+        answered = (start-graded f (k .1 .0), k .1 .1);
         scratch = z;
       }
       says (Refused r i place) z k = record {

@@ -1,6 +1,6 @@
-// The verdict of a monitor (document 01: follower's verdict): whether the rule accepts the lassos whose start has the value before
-// and whose cycle has the value since; where before is none, those that are their cycle alone. It is for strong rules only, where
-// those lassos are all accepted or all not.
+// The verdict of a monitor (document 01: follower's verdict): the grade of the lassos whose start has the value before and whose cycle
+// has the value since; where before is none, of those that are their cycle alone. It is for strong rules only, where those lassos all
+// have one grade.
 use answer::Refusal;
 use monitor_judging::judge;
 use promises::Monitor;
@@ -54,8 +54,8 @@ fn start_element(monitor: Monitor) -> usize
     monitor.before
 }
 
-// Checks a rule and a monitor's values, and says whether the lassos with those values are accepted. Scratch ends as zeros, but
-// where it is too short.
+// Checks a rule and a monitor's values, and says the grade of the lassos with those values. Scratch ends as zeros, but where it is
+// too short.
 pub fn verdict(rule: &[u8], monitor: Monitor, scratch: &mut [u8]) -> MonitorVerdict
     ensures { λ r. ⌜ VerdictPromise (now (rule .entry)) monitor (now (scratch .entry)) (now (scratch .exit)) r ⌝ }
 {

@@ -1,6 +1,5 @@
 -- What a number holds tells the answer: two answers that hold the same are one. Assumes nothing.
 use Prim.Native.Nat.{ℕ}
-use mathlib.Core.Bool.{true, false}
 use mathlib.Core.Path.{_≡_, refl, sym, ap, _∙_}
 use Rattle.answer.specs.Checks.{numbered}
 use Rattle.answer.proofs.Verdicts.{same-refusal}
@@ -48,14 +47,9 @@ strength-told (Not-decided r i p) Weak e = cc
 strength-told (Not-decided r i p) (Not-decided r′ i′ p′) e = same-refusal Not-decided r r′ i i′ p p′ (verdict-of e)
 
 pub membership-told : (x y : Membership) → membershipContents x ≡ membershipContents y → x ≡ y
-membership-told (Decided true t) (Decided true t′) e = cc
-membership-told (Decided true t) (Decided false t′) e = cc
-membership-told (Decided false t) (Decided true t′) e = cc
-membership-told (Decided false t) (Decided false t′) e = cc
-membership-told (Decided true t) (Not-a-member r′ i′ p′) e = cc
-membership-told (Decided false t) (Not-a-member r′ i′ p′) e = cc
-membership-told (Not-a-member r i p) (Decided true t′) e = cc
-membership-told (Not-a-member r i p) (Decided false t′) e = cc
+membership-told (Decided g t) (Decided g′ t′) e = cc
+membership-told (Decided g t) (Not-a-member r′ i′ p′) e = cc
+membership-told (Not-a-member r i p) (Decided g′ t′) e = cc
 membership-told (Not-a-member r i p) (Not-a-member r′ i′ p′) e = same-refusal Not-a-member r r′ i i′ p p′ (verdict-of e)
 
 pub complemented-told : (x y : Complemented) → complementedContents x ≡ complementedContents y → x ≡ y
@@ -88,14 +82,9 @@ inclusion-told (Not-compared r i p) (NotIncluded a′ b′) e = cc
 inclusion-told (Not-compared r i p) (Not-compared r′ i′ p′) e = same-refusal Not-compared r r′ i i′ p p′ (verdict-of e)
 
 pub judged-told : (x y : MonitorVerdict) → monitorVerdictContents x ≡ monitorVerdictContents y → x ≡ y
-judged-told (Judged true t) (Judged true t′) e = cc
-judged-told (Judged true t) (Judged false t′) e = cc
-judged-told (Judged false t) (Judged true t′) e = cc
-judged-told (Judged false t) (Judged false t′) e = cc
-judged-told (Judged true t) (Not-judged r′ i′ p′) e = cc
-judged-told (Judged false t) (Not-judged r′ i′ p′) e = cc
-judged-told (Not-judged r i p) (Judged true t′) e = cc
-judged-told (Not-judged r i p) (Judged false t′) e = cc
+judged-told (Judged g t) (Judged g′ t′) e = cc
+judged-told (Judged g t) (Not-judged r′ i′ p′) e = cc
+judged-told (Not-judged r i p) (Judged g′ t′) e = cc
 judged-told (Not-judged r i p) (Not-judged r′ i′ p′) e = same-refusal Not-judged r r′ i i′ p p′ (verdict-of e)
 
 monitor-told : (f g : Monitor) → monitorContents f ≡ monitorContents g → f ≡ g

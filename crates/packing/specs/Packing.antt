@@ -7,7 +7,6 @@ use Prim.Native.Nat.{ℕ, _+_, _*_, _/_, _%_}
 use mathlib.Core.Bool.{cond}
 use lib.Dec.{eqb}
 use Rattle.answer.specs.Refusals.{numberOf}
-use Rattle.formats.specs.RuleFile.{oneIf}
 use Rattle.promises.specs.declared.Translated.{Translated}
 use Rattle.promises.specs.declared.Translated.the-variants.{Rule as Automaton-rule, Refused as Not-translated}
 use Rattle.promises.specs.declared.Listed.{Listed}
@@ -68,9 +67,9 @@ strengthContents (Not-decided refusal input place) = refusal-at (numberOf refusa
 abbrev pub packStrength : Strength → ℕ
 packStrength answer = pack (strengthContents answer)
 
--- 1 where the lasso is accepted, and the turns that settle its cycle
+-- the lasso's grade, and the turns that settle its cycle
 abbrev pub membershipContents : Membership → Contents
-membershipContents (Decided accepted turns) = fields (oneIf accepted) turns 0
+membershipContents (Decided grade turns) = fields grade turns 0
 membershipContents (Not-a-member refusal input place) = refusal-at (numberOf refusal) input place
 
 abbrev pub packMembership : Membership → ℕ
@@ -123,9 +122,9 @@ movedContents (Not-moved m refusal input place) = refusal-at (numberOf refusal) 
 abbrev pub packMoved : Moved → ℕ
 packMoved answer = pack (movedContents answer)
 
--- 1 where the lassos with the monitor's values are accepted, and the turns that settle their cycles
+-- the grade of the lassos with the monitor's values, and the turns that settle their cycles
 abbrev pub monitorVerdictContents : MonitorVerdict → Contents
-monitorVerdictContents (Judged accepted turns) = fields (oneIf accepted) turns 0
+monitorVerdictContents (Judged grade turns) = fields grade turns 0
 monitorVerdictContents (Not-judged refusal input place) = refusal-at (numberOf refusal) input place
 
 abbrev pub packMonitorVerdict : MonitorVerdict → ℕ

@@ -12,7 +12,6 @@ use promises::Strength;
 use promises::Translated;
 ghost use mathlib.Core.Path.{_≡_};
 ghost use Rattle.answer.specs.Refusals.{numberOf};
-ghost use Rattle.formats.specs.RuleFile.{oneIf};
 ghost use Rattle.packing.specs.Packing.{packRefusal, packFields, packListed, packStrength, packMembership, packComplemented, packInclusion, packMoved, packReduced, packTranslated, packMonitorVerdict};
 
 pub fn pack_refusal(refusal: Refusal, input: usize, place: usize) -> u64
@@ -64,21 +63,12 @@ pub fn pack_strength(answer: Strength) -> u64
     }
 }
 
-// A lasso accepted or not, and the turns that settle its cycle.
-fn pack_decided(accepted: bool, turns: usize) -> u64
-    ensures { λ r. ⌜ r ≡ packFields (oneIf accepted) turns 0 ⌝ }
-{
-    if accepted {
-        return pack_fields(1, turns, 0);
-    }
-    pack_fields(0, turns, 0)
-}
-
+// The grade of a lasso, and the turns that settle its cycle.
 pub fn pack_membership(answer: Membership) -> u64
     ensures { λ r. ⌜ r ≡ packMembership answer ⌝ }
 {
     match answer {
-        Membership::Decided { accepted, turns } => pack_decided(accepted, turns),
+        Membership::Decided { grade, turns } => pack_fields(grade, turns, 0),
         Membership::Refused {
             refusal,
             input,
@@ -158,7 +148,7 @@ pub fn pack_monitor_verdict(answer: MonitorVerdict) -> u64
     ensures { λ r. ⌜ r ≡ packMonitorVerdict answer ⌝ }
 {
     match answer {
-        MonitorVerdict::Decided { accepted, turns } => pack_decided(accepted, turns),
+        MonitorVerdict::Decided { grade, turns } => pack_fields(grade, turns, 0),
         MonitorVerdict::Refused {
             refusal,
             input,

@@ -1,13 +1,14 @@
 -- Two answers of the call for the same rule and buffers are one, and leave out and scratch alike: the complement's marks are
 -- fixed, and so is its file. Assumes nothing.
-use Prim.Native.Nat.{ℕ}
+use Prim.Native.Nat.{ℕ, _-_, _<_}
 use mathlib.Core.Path.{_≡_, refl, sym, ap, _∙_}
 use mathlib.Core.List.{List}
-use lib.Dec.{ltb}
-use Rattle.finite.proofs.Tests.{tests-equal}
+use mathlib.Core.Logic.{⊎-elim}
+use Rattle.finite.proofs.Tests.{T-dec}
 use Rattle.answer.proofs.Order.{one-verdict}
 use Rattle.answer.proofs.Verdicts.{same-refusal, not-passed}
-use Rattle.theory.specs.Rules.{level, marked}
+use Rattle.theory.proofs.Closure.{linked-test, linked-intro, linked-elim}
+use Rattle.theory.proofs.Gradings.{one-lassos-grade}
 use Rattle.formats.specs.RuleFile.{morphismOf}
 use Rattle.promises.proofs.OneStrength.{strong-rule-single}
 use Rattle.formats.specs.WrittenFile.{fileOf}
@@ -24,13 +25,17 @@ module _ {bytes before after after′ : List ℕ} {r r′ : ℕ} (a : Complement
   same-table = record { same-size = refl; same-letters = refl; same-product = λ x y hx hy. refl; same-image = λ x h. refl }
 
   same-marks : SameMarks (morphismOf bytes .size) (a .marks) (b .marks)
-  unfolding marked level
-  same-marks = record {
-    same = λ s e hs he.
-        let left = a .is-complement .complement .marks s e hs he in
-        let right = b .is-complement .complement .marks s e hs he in
-        tests-equal (ltb 0 (b .marks s e)) (ltb 0 (a .marks s e)) (λ t. left .1 (right .0 t)) (λ t. right .1 (left .0 t));
-  }
+  same-marks = record { same = λ s e hs he. go s e hs he }
+    where
+      go : (s e : ℕ) → s < morphismOf bytes .size → e < morphismOf bytes .size → b .marks s e ≡ a .marks s e
+      go s e hs he =
+          ⊎-elim (λ t.
+          let left = a .is-complement .complement .of-linked s e (linked-elim (morphismOf bytes) s e t) in
+          let right = b .is-complement .complement .of-linked s e (linked-elim (morphismOf bytes) s e t) in
+          right .turned ∙ ap (λ (g : ℕ). 3 - g) (one-lassos-grade (right .graded .lassos) (left .graded .lassos)) ∙ sym (left .turned))
+          (λ f.
+          b .is-complement .complement .of-others s e hs he (λ l. f (linked-intro l))
+          ∙ sym (a .is-complement .complement .of-others s e hs he (λ l. f (linked-intro l)))) (T-dec (linked-test (morphismOf bytes) s e))
 
   one-file : fileOf (morphismOf bytes) (b .marks) ≡ fileOf (morphismOf bytes) (a .marks)
   one-file = file-same same-table same-marks

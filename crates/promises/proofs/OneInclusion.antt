@@ -5,16 +5,16 @@ use mathlib.Core.Path.{_≡_, refl, sym, _∙_}
 use mathlib.Core.List.{List}
 use Rattle.answer.proofs.Order.{AllSingle, single-at, single-cons, single-append, one-verdict}
 use Rattle.answer.proofs.Verdicts.{same-refusal, not-passed}
-use Rattle.theory.specs.Rules.{Morphism, Pairs}
-use Rattle.theory.specs.Inclusion.{Included, Witness}
+use Rattle.theory.specs.Rules.{Morphism, Marking}
+use Rattle.theory.specs.Inclusion.{IncludedGrades, HigherGraded}
 use Rattle.formats.proofs.Sections.{section-single}
-use Rattle.formats.specs.RuleFile.{morphismOf, pairsOf}
+use Rattle.formats.specs.RuleFile.{morphismOf, markingOf}
 use Rattle.formats.proofs.Buffers.{buffer-single}
 use Rattle.formats.specs.RuleChecks.{TrailingAt, secondMarksChecks}
 use Rattle.formats.proofs.OneVerdict.{marks-single, checked-single}
 use Rattle.promises.specs.declared.Inclusion.{Inclusion}
 use Rattle.promises.specs.declared.Inclusion.the-variants.{Included as Is-included, NotIncluded, Refused}
-use Rattle.promises.specs.Inclusion.{InclusionAnswer, inclusionChecks, secondPairs, inclusionVerdict, InclusionPromise}
+use Rattle.promises.specs.Inclusion.{InclusionAnswer, inclusionChecks, secondMarking, inclusionVerdict, InclusionPromise}
 
 -- each check of a second marks section fails at one place at most
 second-single : (input : ℕ) (rule bytes : List ℕ) → AllSingle (secondMarksChecks input rule bytes)
@@ -28,9 +28,11 @@ inclusion-single bytes second u v entry =
     buffer-single
     (buffer-single (single-append (checked-single 1 bytes entry) (second-single 2 bytes second)))
 
--- no lasso tells apart markings of which one includes the other
-pub included-or-not : {m : Morphism} {P P′ : Pairs} {u v : List ℕ} → Included m P P′ → Witness m P P′ u v → ⊥
-included-or-not {u = u} {v = v} a w = w .refused-second (a .accepted-too u v (w .lasso) (w .accepted-first))
+-- no lasso is graded higher by a marking that the other includes
+pub included-or-not : {m : Morphism} {marks marks′ : Marking} {u v : List ℕ} → IncludedGrades m marks marks′ → HigherGraded m marks marks′ u v → ⊥
+included-or-not {u = u} {v = v} a h =
+    let w = h .witness in
+    w .refused-second (a .at-each (h .least) (h .some) .accepted-too u v (w .lasso) (w .accepted-first))
 
 -- two answers with the bytes that u and v are left with: equal, or a witness each
 pub data Agree (u-exit u-exit′ v-exit v-exit′ : List ℕ) : Inclusion → Inclusion → Type 0 where
@@ -43,8 +45,8 @@ module _ {bytes second u-entry u-exit u-exit′ v-entry v-exit v-exit′ entry e
   one-answer answer answer′ p q =
       same answer answer′ (p .answered) (q .answered) (one-verdict (inclusion-single bytes second u-entry v-entry entry) (p .refusal) (q .refusal))
     where
-      same : (a b : Inclusion) → InclusionAnswer (morphismOf bytes) (pairsOf bytes) (secondPairs second) u-entry u-exit v-entry v-exit a
-          → InclusionAnswer (morphismOf bytes) (pairsOf bytes) (secondPairs second) u-entry u-exit′ v-entry v-exit′ b
+      same : (a b : Inclusion) → InclusionAnswer (morphismOf bytes) (markingOf bytes) (secondMarking second) u-entry u-exit v-entry v-exit a
+          → InclusionAnswer (morphismOf bytes) (markingOf bytes) (secondMarking second) u-entry u-exit′ v-entry v-exit′ b
           → inclusionVerdict a ≡ inclusionVerdict b → Agree u-exit u-exit′ v-exit v-exit′ a b
       same Is-included Is-included p q e = agree refl (p .start-kept ∙ sym (q .start-kept)) (p .cycle-kept ∙ sym (q .cycle-kept))
       same (NotIncluded u v) (NotIncluded u′ v′) p q e = both-apart

@@ -2,7 +2,7 @@
 use Prim.Native.Nat.{ℕ}
 use mathlib.Core.Path.{_≡_, sym, ap₂, _∙_}
 use mathlib.Core.List.{List}
-use Rattle.finite.proofs.Tells.{one-telling}
+use Rattle.theory.proofs.Gradings.{one-grade}
 use Rattle.theory.proofs.IdempotentPowers.{one-turns}
 use Rattle.answer.proofs.Order.{single-append, one-verdict}
 use Rattle.answer.proofs.Verdicts.{same-refusal, not-passed}
@@ -19,10 +19,10 @@ module _ {bytes u v entry exit exit′ : List ℕ} where
       same answer answer′ p q (one-verdict (single-append (checked-single 1 bytes entry) (lasso-single (lettersOf bytes) u v)) (p .refusal) (q .refusal))
     where
       same : (a b : Membership) → MemberPromise bytes u v entry exit a → MemberPromise bytes u v entry exit′ b → memberVerdict a ≡ memberVerdict b → a ≡ b
-      same (Decided a turns) (Decided a′ turns′) p q e =
-          ap₂ Decided (one-telling a a′ (p .answered .0) (q .answered .0)) (one-turns (p .answered .1) (q .answered .1))
-      same (Decided a turns) (Refused r i place) p q e = absurd (not-passed (sym e))
-      same (Refused r i place) (Decided a turns) p q e = absurd (not-passed e)
+      same (Decided grade turns) (Decided grade′ turns′) p q e =
+          ap₂ Decided (one-grade (p .answered .0) (q .answered .0)) (one-turns (p .answered .1) (q .answered .1))
+      same (Decided grade turns) (Refused r i place) p q e = absurd (not-passed (sym e))
+      same (Refused r i place) (Decided grade turns) p q e = absurd (not-passed e)
       same (Refused r i place) (Refused r′ i′ place′) p q e = same-refusal Refused r r′ i i′ place place′ e
 
   pub one-scratch : {answer answer′ : Membership} → MemberPromise bytes u v entry exit answer → MemberPromise bytes u v entry exit′ answer′ → exit ≡ exit′

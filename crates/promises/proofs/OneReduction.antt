@@ -1,26 +1,21 @@
 -- Two answers of the call for the same rule and buffers are one, and leave out and scratch alike: of the reductions of a rule only
 -- one is numbered by first words. Assumes nothing.
 use Prim.Native.Nat.{ℕ}
-use mathlib.Core.Path.{_≡_, refl, sym, ap, _∙_}
+use mathlib.Core.Path.{_≡_, sym, ap, _∙_}
 use mathlib.Core.List.{List}
 use Rattle.answer.proofs.Order.{one-verdict}
 use Rattle.answer.proofs.Verdicts.{same-refusal, not-passed}
-use Rattle.theory.specs.Smallest.{SameLassos}
 use Rattle.promises.proofs.OneStrength.{strong-rule-single}
 use Rattle.formats.specs.WrittenFile.{fileOf}
 use Rattle.formats.proofs.Front.{one-length, one-buffer}
 use Rattle.promises.specs.declared.Reduced.{Reduced}
 use Rattle.promises.specs.declared.Reduced.the-variants.{Rule as Is-rule, Refused}
-use Rattle.promises.specs.Reduce.{reducedVerdict, ruleOf, ReducedTo, ReducedAnswer, ReducePromise}
-use Rattle.promises.proofs.SameReductions.{reductions-file}
+use Rattle.promises.specs.Reduce.{reducedVerdict, ReducedTo, ReducedAnswer, ReducePromise}
+use Rattle.promises.proofs.SameReductions.{same-rule, reductions-file}
 
 module _ {bytes before after after′ : List ℕ} {r r′ : ℕ} (a : ReducedTo bytes before after r) (b : ReducedTo bytes before after′ r′) where
-  -- the rule of the file is the same for either proof that its table is lawful
-  same-rule : SameLassos (ruleOf bytes (a .lawful)) (ruleOf bytes (b .lawful))
-  same-rule = record { same-letters = refl; both-or-neither = λ u v l. (λ k. k, λ k. k) }
-
   same-file : fileOf (b .reduced .morphism) (b .reduced .marks) ≡ fileOf (a .reduced .morphism) (a .reduced .marks)
-  same-file = reductions-file same-rule (a .reduction) (b .reduction) (a .numbered) (b .numbered)
+  same-file = reductions-file (same-rule bytes) (a .reduction) (b .reduction) (a .numbered) (b .numbered)
 
 module _ (bytes before : List ℕ) {after after′ : List ℕ} where
   same-answer : (a b : Reduced) → ReducedAnswer bytes before after a → ReducedAnswer bytes before after′ b → reducedVerdict a ≡ reducedVerdict b

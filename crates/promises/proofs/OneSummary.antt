@@ -1,19 +1,15 @@
 -- Two answers of the call for the same rule and buffers are one, and leave work and scratch alike. Assumes nothing.
 use Prim.Native.Nat.{ℕ, _≤_}
 use native.Mathlib.Omega.{arith}
-use mathlib.Core.Path.{_≡_, refl, sym, ap, _∙_, subst}
+use mathlib.Core.Path.{_≡_, refl, sym, ap, _∙_}
 use mathlib.Core.Bool.{Bool, true, false}
 use mathlib.Core.List.{List}
 use Rattle.answer.proofs.Order.{AllSingle, one-verdict}
 use Rattle.answer.proofs.Verdicts.{same-refusal, not-passed}
-use Rattle.theory.specs.Words.{Lasso}
-use Rattle.theory.specs.Rules.{Rule, Lawful}
-use Rattle.theory.specs.Smallest.{SameLassos, Reduction}
 use Rattle.theory.proofs.TableTests.{counts-same}
-use Rattle.formats.specs.RuleFile.{morphismOf}
 use Rattle.formats.proofs.Buffers.{buffer-single}
 use Rattle.formats.proofs.OneVerdict.{checked-single}
-use Rattle.promises.specs.Reduce.{ruleOf}
+use Rattle.promises.proofs.SameReductions.{same-rule, reductions-grades}
 use Rattle.promises.specs.declared.Summary.{Summary}
 use Rattle.promises.specs.declared.Summary.the-variants.{Counts, Refused}
 use Rattle.promises.specs.Summary.{summaryChecks, summaryVerdict, StrongReduced, ReducesTo, SummaryCounts, SummaryAnswer, workAfter, SummaryPromise}
@@ -21,21 +17,10 @@ use Rattle.promises.specs.Summary.{summaryChecks, summaryVerdict, Strong
 summary-single : (bytes work scratch : List ℕ) → AllSingle (summaryChecks bytes work scratch)
 summary-single bytes work scratch = buffer-single (checked-single 1 bytes scratch)
 
--- two reductions of a file's rule have the same lassos, whatever shows its table lawful
-same-reductions : (bytes : List ℕ) {l l′ : Lawful (morphismOf bytes)} {a b : Rule} → Reduction (ruleOf bytes l) a → Reduction (ruleOf bytes l′) b → SameLassos a b
-same-reductions bytes p q = record {
-  same-letters = sym (p .same .same-letters) ∙ q .same .same-letters;
-  both-or-neither = λ u v h.
-      let here = subst (λ (k : ℕ). Lasso k u v) (sym (p .same .same-letters)) h in
-      let to-a = p .same .both-or-neither u v here in
-      let to-b = q .same .both-or-neither u v here in
-      (λ x. to-b .0 (to-a .1 x), λ x. to-a .0 (to-b .1 x));
-}
-
 -- each is the smallest, so they have as many elements
 size-below : {bytes : List ℕ} {n n′ : ℕ} → StrongReduced bytes n → StrongReduced bytes n′ → n ≤ n′
 size-below {bytes} p q =
-    let h = p .reduction .smallest .at-least (q .rule) (q .reduction .smallest .strong) (same-reductions bytes (p .reduction) (q .reduction)) in
+    let h = p .reduction .smallest .at-least (q .rule) (q .reduction .smallest .strong) (reductions-grades (same-rule bytes) (p .reduction) (q .reduction)) in
     omega (arith, h, p .size, q .size)
 
 -- strength and the reduced size are the rule's

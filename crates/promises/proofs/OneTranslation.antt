@@ -1,6 +1,6 @@
 -- Two answers of the call for the same automaton and buffers are one, and leave out and scratch alike: of the rules of an automaton
 -- only one is numbered by first words. Assumes nothing.
-use Prim.Native.Nat.{ℕ}
+use Prim.Native.Nat.{ℕ, _≤_}
 use native.Mathlib.Omega.{arith}
 use mathlib.Core.Path.{_≡_, sym, ap, _∙_, subst}
 use mathlib.Core.Logic.{_↔_}
@@ -9,16 +9,19 @@ use Rattle.finite.proofs.Pigeonhole.{injection-le}
 use Rattle.answer.proofs.Order.{AllSingle, single-nil, single-at, single-cons, single-append, one-verdict}
 use Rattle.answer.proofs.Verdicts.{same-refusal, not-passed}
 use Rattle.theory.specs.Words.{Lasso}
-use Rattle.theory.specs.Rules.{marked, Rule as Any-rule}
-use Rattle.theory.specs.Acceptance.{Accepts}
-use Rattle.theory.specs.Smallest.{Renumbered}
+use Rattle.theory.specs.Rules.{Rule as Any-rule}
+use Rattle.theory.specs.Grades.{AtLeast}
+use Rattle.theory.specs.Smallest.{SameGrades, Renumbered}
+use Rattle.theory.proofs.Values.{inside-of}
+use Rattle.theory.proofs.Gradings.{level-down}
+use Rattle.buchi.specs.Automata.{AcceptedBy}
 use Rattle.buchi.proofs.Numberings.{matrices-renumbered}
 use Rattle.formats.proofs.Buffers.{buffer-single}
 use Rattle.formats.proofs.AutomatonVerdict.{read-single}
 use Rattle.formats.specs.WrittenFile.{fileOf}
 use Rattle.formats.proofs.Front.{one-length, one-buffer}
 use Rattle.formats.proofs.OneFile.{one-file}
-use Rattle.promises.specs.Automaton.{RuleOf, RuleAnswer, ruleVerdict, translateChecks, RulePromise, TooManyMatricesAt}
+use Rattle.promises.specs.Automaton.{automatonOf, RuleOf, RuleAnswer, ruleVerdict, translateChecks, RulePromise, TooManyMatricesAt}
 use Rattle.promises.specs.declared.Translated.{Translated}
 use Rattle.promises.specs.declared.Translated.the-variants.{Rule, Refused}
 
@@ -41,6 +44,13 @@ one-scratch p q = p .scratch ∙ sym (q .scratch)
 abbrev rule-of : {bytes before after : List ℕ} {r : ℕ} → RuleOf bytes before after r → Any-rule
 rule-of a = record { morphism = a .morphism; lawful = a .lawful; marks = a .marks }
 
+-- no lasso is graded above 3
+marked-small : {bytes before after : List ℕ} {r g : ℕ} {u v : List ℕ} (a : RuleOf bytes before after r) → 1 ≤ g → AtLeast (a .morphism) (a .marks) g u v → g ≤ 3
+marked-small {g = g} a some t =
+    let h = level-down (a .marks) g (t .start-element) (t .cycle-element) (t .is-marked) in
+    let e = a .threes (t .start-element) (t .cycle-element) (inside-of (a .lawful) (t .start-over) (t .start-value)) (inside-of (a .lawful) (t .cycle-over) (t .cycle-value)) (omega (arith, h)) in
+    omega (arith, h, e)
+
 -- two rules of one automaton have one table, elements renumbered, and so, both being numbered by first words, one file
 module _ {bytes before after after′ : List ℕ} {r r′ : ℕ} (a : RuleOf bytes before after r) (b : RuleOf bytes before after′ r′) where
   renumbered : Renumbered (a .morphism) (b .morphism)
@@ -55,14 +65,20 @@ module _ {bytes before after after′ : List ℕ} {r r′ : ℕ} (a : RuleOf byt
       let back = injection-le (record { maps = renumbered-back .inside; apart = renumbered-back .one-to-one }) in
       omega (arith, to, back)
 
-  same-lassos : (u v : List ℕ) → Lasso (a .morphism .letters) u v → Accepts (a .morphism) (marked (a .marks)) u v ↔ Accepts (b .morphism) (marked (b .marks)) u v
-  same-lassos u v l =
-      let k = a .accepts .accepts u v l in
-      let k′ = b .accepts .accepts u v (subst (λ n. Lasso n u v) (renumbered .same-letters) l) in
-      (λ t. k′ .1 (k .0 t), λ t. k .1 (k′ .0 t))
+  same-grades : SameGrades (rule-of a) (rule-of b)
+  same-grades = record {
+    same-letters = renumbered .same-letters;
+    both-or-neither = λ g some u v l. (
+      λ t. (let small = marked-small a some t in there g some small u v l .1 (a .accepts g some small .accepts u v l .0 t)),
+      λ t. (let small = marked-small b some t in a .accepts g some small .accepts u v l .1 (there g some small u v l .0 t)),
+    );
+  }
+    where
+      there : (g : ℕ) → 1 ≤ g → g ≤ 3 → (u v : List ℕ) → Lasso (a .morphism .letters) u v → AtLeast (b .morphism) (b .marks) g u v ↔ AcceptedBy (automatonOf bytes) u v
+      there g some small u v l = b .accepts g some small .accepts u v (subst (λ n. Lasso n u v) (renumbered .same-letters) l)
 
   same-file : fileOf (b .morphism) (b .marks) ≡ fileOf (a .morphism) (a .marks)
-  same-file = one-file (rule-of a) (rule-of b) renumbered same-size (a .numbered) (b .numbered) (a .all-marked) (b .all-marked) same-lassos
+  same-file = one-file (rule-of a) (rule-of b) renumbered same-size (a .numbered) (b .numbered) (a .all-marked) (b .all-marked) same-grades
 
 module _ (bytes before : List ℕ) {after after′ : List ℕ} where
   same-answer : (a b : Translated) → RuleAnswer bytes before after a → RuleAnswer bytes before after′ b → ruleVerdict a ≡ ruleVerdict b

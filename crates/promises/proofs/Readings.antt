@@ -2,26 +2,28 @@
 use Prim.Native.Nat.{ℕ, _≤_, _<_}
 use mathlib.Core.Path.{_≡_, refl}
 use mathlib.Core.Bool.{true, false}
+use mathlib.Core.Logic.{_↔_}
 use mathlib.Core.List.{List, [], _∷_}
 use native.Mathlib.Omega.{arith}
 use Rattle.answer.specs.declared.Refusal.{Refusal}
 use Rattle.finite.specs.Search.{anyBelow}
 use Rattle.theory.specs.Words.{Lasso}
-use Rattle.theory.specs.Rules.{Morphism, Lawful, Pairs, element, value}
-use Rattle.theory.specs.Acceptance.{Accepts}
-use Rattle.theory.specs.Inclusion.{Included}
+use Rattle.theory.specs.Rules.{Morphism, Lawful, Marking, element, value}
+use Rattle.theory.specs.Grades.{AtLeast, Graded}
+use Rattle.theory.proofs.Gradings.{higher-graded}
 use Rattle.buchi.specs.Matrices.{Matrix}
 use Rattle.buchi.specs.Rule.{MatricesOf}
 use Rattle.buchi.proofs.Numberings.{matrices-size}
 use Rattle.formats.specs.Sections.{twoBytes}
 use Rattle.formats.specs.AutomatonFile.{lettersAt, transitionsAt, transitionsOf, kindAt, transitionAt, fromOf, letterOf, toOf, isInitial, isTransition, hasTransition}
-use Rattle.formats.specs.RuleFile.{lettersOf, morphismOf, pairsOf}
+use Rattle.formats.specs.RuleFile.{lettersOf, morphismOf, markingOf}
 use Rattle.promises.specs.declared.Monitor.{Monitor}
 use Rattle.promises.specs.declared.Moved.the-variants.{Refused}
 use Rattle.promises.specs.declared.InPlaceAnswer.the-variants.{Done}
 use Rattle.promises.specs.declared.MonitorVerdict.the-variants.{Decided}
 use Rattle.promises.specs.Stretch.{unread, stretchOf}
 use Rattle.promises.specs.Automaton.{automatonOf, TooManyMatricesAt}
+use Rattle.promises.specs.Complement.{ComplementMarks}
 use Rattle.promises.specs.Inclusion.{Apart, Within}
 use Rattle.promises.specs.Monitor.{valueOf, freshMonitor}
 use Rattle.promises.specs.Moves.{afterEvent, afterMark, EventPromise}
@@ -81,14 +83,22 @@ sixty-four-pass law elements few rich =
 
 -- ---- inclusion
 
--- yes says that what the first marking accepts the second does
-yes-says : {m : Morphism} {P P′ : Pairs} {u u′ v v′ : List ℕ} → Within m P P′ u u′ v v′ → Included m P P′
-yes-says answer = answer .included
+-- yes says that a lasso of a grade or more under the first marking is one under the second
+yes-says : {m : Morphism} {marks marks′ : Marking} {u u′ v v′ : List ℕ} → Within m marks marks′ u u′ v v′ → (start cycle : List ℕ) → Lasso (m .letters) start cycle
+    → AtLeast m marks 2 start cycle → AtLeast m marks′ 2 start cycle
+yes-says answer start cycle l a = answer .included .at-each 2 (omega arith) .accepted-too start cycle l a
 
--- the lasso has its start in u and its cycle in v; the first marking accepts it and the second does not
-no-shows : {m : Morphism} {P P′ : Pairs} {u u′ v v′ : List ℕ} {a b : ℕ} (answer : Apart m P P′ u u′ v v′ a b)
-    → Accepts m P (answer .start) (answer .cycle) × (Accepts m P′ (answer .start) (answer .cycle) → ⊥)
-no-shows answer = (answer .witness .accepted-first, answer .witness .refused-second)
+-- the lasso has its start in u and its cycle in v; its grade is higher under the first marking
+no-shows : {m : Morphism} {marks marks′ : Marking} {u u′ v v′ : List ℕ} {a b g g′ : ℕ} (answer : Apart m marks marks′ u u′ v v′ a b)
+    → Graded m marks (answer .start) (answer .cycle) g → Graded m marks′ (answer .start) (answer .cycle) g′ → g′ < g
+no-shows answer k k′ = higher-graded (answer .witness) k k′
+
+-- ---- the complement
+
+-- what the rule grades 1 or more the complement does not grade 3
+rest-of-one : {m : Morphism} {marks marks′ : Marking} (u v : List ℕ) → ComplementMarks m marks marks′ → Lasso (m .letters) u v
+    → AtLeast m marks′ 3 u v ↔ (AtLeast m marks 1 u v → ⊥)
+rest-of-one u v k l = k .rest 1 (omega arith) (omega arith) u v l
 
 -- ---- the monitor
 
@@ -120,10 +130,10 @@ before-none : {place : ℕ} → NoneAt (record { before = 64; since = 0 }) place
 before-none k = omega (arith, k .none)
 
 -- it is that of the cycle for ever
-cycle-for-ever : (bytes v : List ℕ) (turns : ℕ) → VerdictAnswer bytes (record { before = 64; since = 0 }) (Decided true turns) → Lasso (lettersOf bytes) [] v
-    → value (morphismOf bytes) v ≡ element 0 → Accepts (morphismOf bytes) (pairsOf bytes) [] v
+cycle-for-ever : (bytes v : List ℕ) (grade turns : ℕ) → VerdictAnswer bytes (record { before = 64; since = 0 }) (Decided grade turns) → Lasso (lettersOf bytes) [] v
+    → value (morphismOf bytes) v ≡ element 0 → Graded (morphismOf bytes) (markingOf bytes) [] v grade
 unfolding value valueOf
-cycle-for-ever bytes v turns answer lasso e = answer .0 .accepted [] v lasso refl e
+cycle-for-ever bytes v grade turns answer lasso e = answer .0 .graded [] v lasso refl e
 
 -- ---- histories: letters 0 and 1, a mark, letter 2; the latest action first
 

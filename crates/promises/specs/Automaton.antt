@@ -1,6 +1,6 @@
 -- What `automaton_rule` promises: the automaton that a file means, and the rule that is written for it. Document 01, "Automaton to
--- rule". Assumes nothing.
-use Prim.Native.Nat.{ℕ}
+-- rule"; document 02, Job 12. Assumes nothing.
+use Prim.Native.Nat.{ℕ, _≤_, _<_}
 use mathlib.Core.Path.{_≡_}
 use mathlib.Core.List.{List, [], _∷_, _++_}
 use lib.ListN.{length}
@@ -9,9 +9,9 @@ use Rattle.answer.specs.Checks.{Check, Verdict, passed, refused, FirstFailure}
 use Rattle.formats.specs.AutomatonFile.{statesOf, lettersOf, isInitial, isFinal, hasTransition}
 use Rattle.buchi.specs.Automata.{Automaton}
 use Rattle.buchi.specs.Rule.{MoreMatrices, MatricesOf, MarkedBy, AcceptsRuns}
-use Rattle.theory.specs.Rules.{Morphism, Lawful, Marking, marked}
-use Rattle.theory.specs.Acceptance.{Strong}
-use Rattle.theory.specs.Smallest.{MarksAccepted}
+use Rattle.theory.specs.Rules.{Morphism, Lawful, Marking, level}
+use Rattle.theory.specs.Grades.{StrongMarking}
+use Rattle.theory.specs.Smallest.{MarksGrades}
 use Rattle.formats.specs.FirstWords.{ByFirstWords}
 use Rattle.formats.specs.RuleChecks.{ruleSize, bufferCheck}
 use Rattle.formats.specs.Calls.{scratchLeft}
@@ -41,8 +41,8 @@ abbrev pub matricesCheck : List ℕ → Check
 matricesCheck bytes = record { refusal = TooManyMatrices; input = 1; Fails = TooManyMatricesAt bytes }
 
 -- "The elements are the matrices of all non-empty words. The rule accepts exactly the lassos on which some run from an initial
--- state meets a final state again and again. A linked pair (R, E) is marked if .."; elements are numbered by first words; the file
--- of that rule was written, its marks by s, then by e
+-- state meets a final state again and again. A linked pair (R, E) is marked if .."; "Automata mark with 3" (Job 12), so that this holds
+-- for each least grade from 1 to 3; elements are numbered by first words; the file of that rule was written, its marks by s, then by e
 pub record RuleOf (bytes entry exit : List ℕ) (r : ℕ) : Type 0 where
   pub morphism : Morphism
   pub matrix : ℕ → Matrix
@@ -50,10 +50,11 @@ pub record RuleOf (bytes entry exit : List ℕ) (r : ℕ) : Type 0 where
   pub lawful : Lawful morphism
   pub elements : MatricesOf (automatonOf bytes) morphism matrix
   pub numbered : ByFirstWords morphism
-  pub marking : MarkedBy (automatonOf bytes) morphism matrix (marked marks)
-  pub accepts : AcceptsRuns (automatonOf bytes) morphism (marked marks)
-  pub strong : Strong morphism (marked marks)
-  pub all-marked : MarksAccepted morphism (marked marks)
+  pub marking : MarkedBy (automatonOf bytes) morphism matrix (level 1 marks)
+  pub threes : (s e : ℕ) → s < morphism .size → e < morphism .size → 1 ≤ marks s e → marks s e ≡ 3
+  pub accepts : (g : ℕ) → 1 ≤ g → g ≤ 3 → AcceptsRuns (automatonOf bytes) morphism (level g marks)
+  pub strong : StrongMarking morphism marks
+  pub all-marked : MarksGrades morphism marks
   pub written : WrittenRule morphism marks entry exit r
 
 -- document 01's number, input and place of an answer

@@ -1,16 +1,16 @@
--- What `complement` promises. Document 01, "Complement of a strong rule". Assumes nothing.
-use Prim.Native.Nat.{ℕ}
+-- What `complement` promises. Document 01, "Complement of a strong rule"; document 02, Job 12. Assumes nothing.
+use Prim.Native.Nat.{ℕ, _-_, _≤_}
 use mathlib.Core.Logic.{_↔_}
 use mathlib.Core.List.{List, [], _∷_, _++_}
 use mathlib.Core.Path.{_≡_}
 use lib.ListN.{length}
 use Rattle.theory.specs.Words.{Lasso}
-use Rattle.theory.specs.Rules.{Morphism, Pairs, Marking, marked}
-use Rattle.theory.specs.Acceptance.{Accepts, Strong}
+use Rattle.theory.specs.Rules.{Morphism, Marking, level}
 use Rattle.theory.specs.Pairs.{LinkedOnly}
+use Rattle.theory.specs.Grades.{AtLeast, StrongMarking}
 use Rattle.theory.specs.Smallest.{Complement}
 use Rattle.answer.specs.Checks.{Check, Verdict, passed, refused, FirstFailure}
-use Rattle.formats.specs.RuleFile.{morphismOf, pairsOf}
+use Rattle.formats.specs.RuleFile.{morphismOf, markingOf}
 use Rattle.formats.specs.RuleChecks.{ruleSize, bufferCheck}
 use Rattle.formats.specs.Calls.{checkedChecks, scratchLeft}
 use Rattle.formats.specs.ReadBack.{WrittenRule}
@@ -18,12 +18,13 @@ use Rattle.promises.specs.Weak.{weakCheck}
 use Rattle.promises.specs.declared.Complemented.{Complemented}
 use Rattle.promises.specs.declared.Complemented.the-variants.{Rule, Refused}
 
--- marks of the complement: they accept a lasso exactly if P does not, and are strong, and linked
-pub record ComplementMarks (m : Morphism) (P P′ : Pairs) : Type 0 where
-  pub complement : Complement m P P′
-  pub strong : Strong m P′
-  pub linked : LinkedOnly m P′
-  pub accepts : (u v : List ℕ) → Lasso (m .letters) u v → Accepts m P′ u v ↔ (Accepts m P u v → ⊥)
+-- marks of the complement: they are strong, on linked pairs only, and, for each least grade g from 1 to 3, "in the complement, those of
+-- 4 − g or more are the rest"
+pub record ComplementMarks (m : Morphism) (marks marks′ : Marking) : Type 0 where
+  pub complement : Complement m marks marks′
+  pub strong : StrongMarking m marks′
+  pub linked : LinkedOnly m (level 1 marks′)
+  pub rest : (g : ℕ) → 1 ≤ g → g ≤ 3 → (u v : List ℕ) → Lasso (m .letters) u v → AtLeast m marks′ (4 - g) u v ↔ (AtLeast m marks g u v → ⊥)
 
 -- "First 13", of both buffers; then the rule's own checks; then 12
 abbrev pub complementChecks : List ℕ → List ℕ → List ℕ → List Check
@@ -34,11 +35,10 @@ abbrev pub complementVerdict : Complemented → Verdict
 complementVerdict (Rule length) = passed
 complementVerdict (Refused refusal input place) = refused refusal input place
 
--- "same elements and numbering; it marks every linked pair whose lassos are not accepted", and the file of that rule was written,
--- its marks by s, then by e
+-- "same elements and numbering"; "Complement turns g into 3 − g", and the file of that rule was written, its marks by s, then by e
 pub record ComplementWritten (bytes entry exit : List ℕ) (r : ℕ) : Type 0 where
   pub marks : Marking
-  pub is-complement : ComplementMarks (morphismOf bytes) (pairsOf bytes) (marked marks)
+  pub is-complement : ComplementMarks (morphismOf bytes) (markingOf bytes) marks
   pub written : WrittenRule (morphismOf bytes) marks entry exit r
 
 -- a refusal keeps every byte of out

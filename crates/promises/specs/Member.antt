@@ -1,12 +1,11 @@
--- What `member` promises. Document 01, "What a rule means" and "Order of the checks". Assumes nothing.
+-- What `member` promises. Document 01, "What a rule means" and "Order of the checks"; document 02, Jobs 6 and 12. Assumes nothing.
 use Prim.Native.Nat.{ℕ}
 use mathlib.Core.Path.{_≡_}
 use mathlib.Core.List.{List, _++_}
 use Rattle.answer.specs.Checks.{Check, Verdict, passed, refused, FirstFailure}
-use Rattle.finite.specs.Tells.{Tells}
-use Rattle.theory.specs.Acceptance.{Accepts}
+use Rattle.theory.specs.Grades.{Graded}
 use Rattle.theory.specs.Pairs.{TurnsOf}
-use Rattle.formats.specs.RuleFile.{lettersOf, morphismOf, pairsOf}
+use Rattle.formats.specs.RuleFile.{lettersOf, morphismOf, markingOf}
 use Rattle.formats.specs.Calls.{checkedChecks, afterCall}
 use Rattle.formats.specs.WordChecks.{lassoChecks}
 use Rattle.promises.specs.declared.Membership.{Membership}
@@ -18,14 +17,14 @@ memberChecks bytes u v scratch = checkedChecks 1 bytes scratch ++ lassoChecks (l
 
 -- document 01's number, input and place of an answer
 abbrev pub memberVerdict : Membership → Verdict
-memberVerdict (Decided accepted turns) = passed
+memberVerdict (Decided grade turns) = passed
 memberVerdict (Refused refusal input place) = refused refusal input place
 
--- yes exactly if the rule accepts the lasso, no exactly if it does not; and "how many turns of a cycle together have a value that repeating
--- no longer changes", for v, "whether or not the lasso is accepted, weak rules included" (document 02, Job 6)
+-- "Lasso and follower verdicts give the grade" (Job 12); and "how many turns of a cycle together have a value that repeating no longer
+-- changes", for v, "whether or not the lasso is accepted, weak rules included" (Job 6)
 abbrev pub MemberAnswer : List ℕ → List ℕ → List ℕ → Membership → Type 0
-MemberAnswer bytes u v (Decided accepted turns) =
-    Tells (Accepts (morphismOf bytes) (pairsOf bytes) u v) accepted × TurnsOf (morphismOf bytes) v turns
+MemberAnswer bytes u v (Decided grade turns) =
+    Graded (morphismOf bytes) (markingOf bytes) u v grade × TurnsOf (morphismOf bytes) v turns
 MemberAnswer bytes u v (Refused refusal input place) = Unit {0}
 
 pub record MemberPromise (bytes u v entry exit : List ℕ) (answer : Membership) : Type 0 where

@@ -1,4 +1,4 @@
--- What `reduce` promises. Document 01, "Reduction of a strong rule" and demand 3. Assumes nothing.
+-- What `reduce` promises. Document 01, "Reduction of a strong rule" and demand 3; document 02, Job 12. Assumes nothing.
 use Prim.Native.Nat.{ℕ}
 use mathlib.Core.Path.{_≡_}
 use mathlib.Core.List.{List, [], _∷_, _++_}

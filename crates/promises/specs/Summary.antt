@@ -6,9 +6,9 @@ use mathlib.Core.List.{List, _∷_}
 use lib.ListN.{length, replicate}
 use Rattle.answer.specs.Checks.{Check, Verdict, passed, refused, FirstFailure}
 use Rattle.theory.specs.Rules.{Rule, Lawful}
-use Rattle.theory.specs.Acceptance.{Strong}
+use Rattle.theory.specs.Grades.{StrongMarking}
 use Rattle.theory.specs.Smallest.{Reduction}
-use Rattle.formats.specs.RuleFile.{morphismOf, pairsOf}
+use Rattle.formats.specs.RuleFile.{morphismOf, markingOf}
 use Rattle.formats.specs.RuleChecks.{ruleSize, bufferCheck}
 use Rattle.promises.specs.Inspect.{RuleCounts}
 use Rattle.formats.specs.Calls.{checkedChecks, scratchLeft}
@@ -28,7 +28,7 @@ summaryVerdict (Refused refusal input place) = refused refusal input place
 
 -- the rule is strong, and a reduction of it has so many elements
 pub record StrongReduced (bytes : List ℕ) (reduced : ℕ) : Type 0 where
-  pub strong : Strong (morphismOf bytes) (pairsOf bytes)
+  pub strong : StrongMarking (morphismOf bytes) (markingOf bytes)
   pub lawful : Lawful (morphismOf bytes)
   pub rule : Rule
   pub reduction : Reduction (ruleOf bytes lawful) rule
@@ -37,7 +37,7 @@ pub record StrongReduced (bytes : List ℕ) (reduced : ℕ) : Type 0 where
 -- "Strong is 0 or 1; reduced is the reduced element count, 0 where weak."
 abbrev pub ReducesTo : List ℕ → Bool → ℕ → Type 0
 ReducesTo bytes true reduced = StrongReduced bytes reduced
-ReducesTo bytes false reduced = (Strong (morphismOf bytes) (pairsOf bytes) → ⊥) × (reduced ≡ 0)
+ReducesTo bytes false reduced = (StrongMarking (morphismOf bytes) (markingOf bytes) → ⊥) × (reduced ≡ 0)
 
 -- each number is the rule's own; the joins are the linked pairs less the classes
 pub record SummaryCounts (bytes : List ℕ) (elements letters marks linked classes : ℕ) (strong : Bool) (reduced : ℕ) : Type 0 where

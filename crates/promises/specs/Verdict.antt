@@ -1,15 +1,13 @@
--- What `verdict` promises: whether the lassos with the values of a monitor are accepted. Document 01, "Follower"; document 02, Job 4.
--- Assumes nothing.
+-- What `verdict` promises: the grade of the lassos with the values of a monitor. Document 01, "Follower"; document 02, Jobs 4, 6 and
+-- 12. Assumes nothing.
 use Prim.Native.Nat.{ℕ}
 use mathlib.Core.Path.{_≡_}
-use mathlib.Core.Bool.{Bool, true, false}
 use mathlib.Core.List.{List, [], _∷_, _++_}
-use Rattle.theory.specs.Rules.{Morphism, Pairs, Value}
 use Rattle.theory.specs.Pairs.{LeastExponent}
-use Rattle.theory.specs.Smallest.{LassosAccepted, LassosNotAccepted}
+use Rattle.theory.specs.Grades.{LassosGraded}
 use Rattle.answer.specs.declared.Refusal.the-variants.{WordLength}
 use Rattle.answer.specs.Checks.{Check, Verdict, passed, refused, FirstFailure}
-use Rattle.formats.specs.RuleFile.{morphismOf, pairsOf}
+use Rattle.formats.specs.RuleFile.{morphismOf, markingOf}
 use Rattle.formats.specs.Calls.{afterCall}
 use Rattle.promises.specs.declared.Monitor.{Monitor}
 use Rattle.promises.specs.Monitor.{noValue, valueOf, monitorChecks}
@@ -31,20 +29,15 @@ verdictChecks bytes f scratch = monitorChecks bytes f scratch ++ noneCheck f ∷
 
 -- document 01's number, input and place of an answer
 abbrev pub monitorVerdictRefusal : MonitorVerdict → Verdict
-monitorVerdictRefusal (Decided accepted turns) = passed
+monitorVerdictRefusal (Decided grade turns) = passed
 monitorVerdictRefusal (Refused refusal input place) = refused refusal input place
-
--- the lassos with two values are accepted, or they are not
-abbrev pub LassosDecided : Morphism → Pairs → Value → ℕ → Bool → Type 0
-LassosDecided m P before since true = LassosAccepted m P before since
-LassosDecided m P before since false = LassosNotAccepted m P before since
 
 -- "that of the lasso whose start has value before and whose cycle has value since"; "A follower with before none and since not none
 -- gets a verdict, that of its cycle alone" (Job 4): the start with the value none is the empty one. And how many turns settle the value of
--- since, accepted or not (Job 6)
+-- since, whatever the grade (Job 6)
 abbrev pub VerdictAnswer : List ℕ → Monitor → MonitorVerdict → Type 0
-VerdictAnswer bytes f (Decided accepted turns) =
-    LassosDecided (morphismOf bytes) (pairsOf bytes) (valueOf (f .before)) (f .since) accepted × LeastExponent (morphismOf bytes) (f .since) turns
+VerdictAnswer bytes f (Decided grade turns) =
+    LassosGraded (morphismOf bytes) (markingOf bytes) (valueOf (f .before)) (f .since) grade × LeastExponent (morphismOf bytes) (f .since) turns
 VerdictAnswer bytes f (Refused refusal input place) = Unit {0}
 
 pub record VerdictPromise (bytes : List ℕ) (f : Monitor) (entry exit : List ℕ) (answer : MonitorVerdict) : Type 0 where

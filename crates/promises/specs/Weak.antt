@@ -4,12 +4,12 @@ use mathlib.Core.Path.{_≡_}
 use mathlib.Core.List.{List}
 use Rattle.answer.specs.declared.Refusal.the-variants.{NotStrong}
 use Rattle.answer.specs.Checks.{Check}
-use Rattle.theory.specs.Acceptance.{Strong}
-use Rattle.formats.specs.RuleFile.{morphismOf, pairsOf}
+use Rattle.theory.specs.Grades.{StrongMarking}
+use Rattle.formats.specs.RuleFile.{morphismOf, markingOf}
 
 -- 12 "reduction, complement or follower's verdict of a rule not strong"; place 0
 pub record WeakAt (bytes : List ℕ) (place : ℕ) : Type 0 where
-  pub weak : Strong (morphismOf bytes) (pairsOf bytes) → ⊥
+  pub weak : StrongMarking (morphismOf bytes) (markingOf bytes) → ⊥
   pub is-place : place ≡ 0
 
 -- of the rule that is the input of the given number

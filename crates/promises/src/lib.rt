@@ -92,10 +92,10 @@ pub enum Translated {
     },
 }
 
-// Whether the lasso is accepted, and how many turns of v together have a value that repeating no longer changes.
+// The grade of the lasso, 0 to 3, and how many turns of v together have a value that repeating no longer changes.
 pub enum Membership {
     Decided {
-        accepted: bool,
+        grade: usize,
         turns: usize,
     },
     Refused {
@@ -132,10 +132,10 @@ pub enum InPlaceAnswer {
     },
 }
 
-// Whether the lassos with a monitor's values are accepted, and the same number of turns for the value of since.
+// The grade of the lassos with a monitor's values, and the same number of turns for the value of since.
 pub enum MonitorVerdict {
     Decided {
-        accepted: bool,
+        grade: usize,
         turns: usize,
     },
     Refused {

@@ -6,15 +6,15 @@ use mathlib.Core.Bool.{Bool, true, false}
 use mathlib.Core.List.{List, [], _∷_}
 use native.Mathlib.Omega.{arith}
 use lib.ListN.{length, replicate}
-use Rattle.scratch.specs.Map.{secondBase, marksFrom}
+use Rattle.scratch.specs.Map.{secondBase, MarkingAt}
 use Rattle.answer.specs.declared.Refusal.{Refusal}
 use Rattle.answer.specs.declared.Refusal.the-variants.{NotStrong, BufferTooShort}
 use Rattle.answer.proofs.Order.{first-passes, first-fails, none-left, passed-before, refused-before}
-use Rattle.theory.specs.Rules.{Morphism, marked}
-use Rattle.theory.specs.Acceptance.{Strong}
-use Rattle.theory.proofs.Closure.{closure-test}
+use Rattle.theory.specs.Rules.{Morphism}
+use Rattle.theory.specs.Grades.{StrongMarking}
+use Rattle.theory.proofs.ClosureGrades.{closure-grade}
 use Rattle.formats.specs.Table.{morphismAt}
-use Rattle.formats.specs.RuleFile.{elementsOf, morphismOf, markingOf, pairsOf}
+use Rattle.formats.specs.RuleFile.{elementsOf, morphismOf, markingOf}
 use Rattle.formats.specs.RuleChecks.{ruleSize}
 use Rattle.formats.proofs.Buffers.{buffer-short, buffer-long}
 use Rattle.rule_layout.specs.declared.Shape.{Shape}
@@ -23,9 +23,9 @@ use Rattle.rule_check.specs.Answers.{CheckPromise}
 use Rattle.formats.specs.Calls.{checkedChecks}
 use Rattle.rule_check.specs.GoodRule.{GoodRule}
 use Rattle.rule_check.proofs.Left.{short-left, long-left}
+use Rattle.rule_check.proofs.CheckedRule.{graded-marks}
 use Rattle.rule_check.proofs.Calls.{called-good, shape-morphism}
 use Rattle.mark_strong.specs.Deciding.{StrongIf, Decided}
-use Rattle.mark_strong.proofs.Deciding.{closure-marked}
 use Rattle.mark_strong.proofs.Calling.{checked-lawful, checked-reached, checked-graded, checked-room, marks-stand, decided-file, decided-left}
 use Rattle.promises.specs.declared.Reduced.the-variants.{Rule as Is-rule, Refused}
 use Rattle.reduce_rule.specs.Steps.{ReduceNeeds, ReducedWritten}
@@ -73,7 +73,7 @@ module _ (bytes out entry : List ℕ) (long : ruleSize ≤ length out) where
     pub reduce-weak : (end : List ℕ) → end ≡ replicate (length decided) 0 → answer ≡ false → ReducePromise bytes out out entry end (Refused NotStrong 1 0)
     reduce-weak end z e = record {
       refusal = buffer-long long (passed-before (checkedChecks 1 bytes entry) (weakCheck 1 bytes ∷ []) (p .refusal)
-          (first-fails (weakCheck 1 bytes) (record { weak = subst (StrongIf (morphismOf bytes) (pairsOf bytes)) e (decided-file 1 bytes entry p d); is-place = refl })));
+          (first-fails (weakCheck 1 bytes) (record { weak = subst (StrongIf (morphismOf bytes) (markingOf bytes)) e (decided-file 1 bytes entry p d); is-place = refl })));
       answered = refl;
       scratch = long-left ruleSize out entry long (decided-left 1 bytes entry p d decided end refl z);
     }
@@ -81,14 +81,13 @@ module _ (bytes out entry : List ℕ) (long : ruleSize ≤ length out) where
     -- of a strong rule the reduction was written
     module _ {exit after : List ℕ} {length-of : ℕ} (w : ReducedWritten (morphismAt bytes (shape .elements) (shape .letters)) decided exit out after length-of)
         (e : answer ≡ true) where
-      strong : Strong (morphismOf bytes) (pairsOf bytes)
-      strong = subst (StrongIf (morphismOf bytes) (pairsOf bytes)) e (decided-file 1 bytes entry p d)
+      strong : StrongMarking (morphismOf bytes) (markingOf bytes)
+      strong = subst (StrongIf (morphismOf bytes) (markingOf bytes)) e (decided-file 1 bytes entry p d)
 
-      closure-stands : (s e : ℕ) → s < elementsOf bytes → e < elementsOf bytes
-          → closure-test (morphismOf bytes) (pairsOf bytes) s e ≡ marked (marksFrom decided secondBase) s e
+      closure-stands : MarkingAt (elementsOf bytes) (closure-grade (morphismOf bytes) (markingOf bytes)) decided secondBase
       closure-stands =
-          subst (λ (m : Morphism). (s e : ℕ) → s < m .size → e < m .size → closure-test m (pairsOf bytes) s e ≡ marked (marksFrom decided secondBase) s e) same
-          (closure-marked (checked-lawful 1 bytes entry p) d (markingOf bytes) (checked-graded 1 bytes entry p) (marks-stand 1 bytes entry p))
+          subst (λ (m : Morphism). MarkingAt (m .size) (closure-grade m (markingOf bytes)) decided secondBase) same
+          (d .closure (markingOf bytes) (checked-graded 1 bytes entry p) (marks-stand 1 bytes entry p))
 
       written : ReducedWritten (morphismOf bytes) decided exit out after length-of
       written = subst (λ (m : Morphism). ReducedWritten m decided exit out after length-of) same w
@@ -96,7 +95,7 @@ module _ (bytes out entry : List ℕ) (long : ruleSize ≤ length out) where
       reduced-to : ReducedTo bytes out after length-of
       reduced-to =
           let t = good .table in
-          let q = reduces (ruleOf bytes (good .lawful)) (t .small) (good .letters-some) (t .letters-small) (good .reached) (good .linked) strong closure-stands written in
+          let q = reduces (ruleOf bytes (good .lawful)) (t .small) (good .letters-some) (t .letters-small) (good .reached) (graded-marks good) strong closure-stands written in
           record { lawful = good .lawful; reduced = q .reduced; reduction = q .reduction; numbered = q .numbered; written = q .written }
 
       pub reduce-strong : (end : List ℕ) → end ≡ replicate (length exit) 0 → ReducePromise bytes out after entry end (Is-rule length-of)

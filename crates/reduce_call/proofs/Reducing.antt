@@ -1,29 +1,31 @@
 -- The blocks that the rounds leave are numbered and written; where the second table of marks holds the closure of a strong
 -- rule's marks, what was written is the reduction of that rule, whole. Assumes nothing.
 use Prim.Native.Nat.{ℕ, _≤_, _<_}
-use mathlib.Core.Path.{_≡_, refl, sym, ap, _∙_}
+use mathlib.Core.Path.{_≡_, refl, ap, _∙_}
 use mathlib.Core.List.{List}
 use native.Mathlib.Omega.{arith}
-use lib.Dec.{ltb}
-use Rattle.scratch.specs.Map.{secondBase, marksFrom}
-use Rattle.theory.specs.Rules.{Morphism, Lawful, Rule, AllReached, marked}
-use Rattle.theory.specs.Pairs.{LinkedOnly}
-use Rattle.theory.specs.Acceptance.{RuleStrong}
+use Rattle.scratch.specs.Map.{secondBase, MarkingAt}
+use Rattle.theory.specs.Rules.{Morphism, Lawful, Rule, AllReached}
+use Rattle.theory.specs.Grades.{RuleStrong}
 use Rattle.theory.specs.Smallest.{Reduction}
-use Rattle.theory.proofs.Closure.{acceptance, closure-test, linked-test}
+use Rattle.theory.proofs.Closure.{linked-test}
+use Rattle.theory.proofs.Gradings.{GradedMarks}
+use Rattle.theory.proofs.ClosureGrades.{closure-grade}
 use Rattle.minimality.proofs.Contexts.{Indistinct, around-inside}
 use Rattle.minimality.proofs.Quotient.{Numbering, quotient, quotient-acc, quotient-lawful, quotient-reached}
 use Rattle.minimality.proofs.Saturation.{saturated}
+use Rattle.minimality.proofs.GradeOutcomes.{grading, grading-small}
+use Rattle.minimality.proofs.Saturation.{saturated-small}
 use Rattle.minimality.proofs.Reductions.{RuleNumbering, reduced-rule, reduction-right, reduced-linked}
 use Rattle.reduce_first_round.specs.Map.{outcomeOf, outcomeAt}
 use Rattle.reduce_rounds.specs.Rounds.{RoundsSettled}
 use Rattle.scratch.proofs.Unchanged.{unchanged-room}
-use Rattle.reduce_first_round.proofs.OutcomeBytes.{outcome-below, outcome-acceptance}
+use Rattle.reduce_first_round.proofs.OutcomeBytes.{outcome-below, outcome-grading}
 use Rattle.reduce_first_round.proofs.Comparing.{same-outcomes-carry}
 use Rattle.reduce_numbering.specs.Steps.{leaderAt}
 use Rattle.formats.specs.FirstWords.{ByFirstWords}
 use Rattle.reduce_numbering.specs.Numbering.{NumberedAs, BlocksNumbered}
-use Rattle.formats.specs.WrittenFile.{FitsFormat}
+use Rattle.formats.specs.WrittenFile.{FitsFormat, FitsGrades}
 use Rattle.formats.proofs.Agree.{Agree}
 use Rattle.formats.proofs.Same.{SameMarks, file-same}
 use Rattle.formats.proofs.ReadBack.{written-rule}
@@ -97,7 +99,7 @@ module _ {m : Morphism} (law : Lawful m) {f g : ℕ → ℕ → ℕ} (agree : (s
   carried-marks : {c : ℕ} (b : Numbering m f c)
       → SameMarks c (saturated (quotient (numbering-carry b)) (quotient-acc (numbering-carry b))) (saturated (quotient b) (quotient-acc b))
   unfolding numbering-carry saturated linked-test quotient
-  carried-marks b = record { same = λ i j hi hj. ap (λ (x : ℕ). ltb 0 (saturated (quotient b) (λ (u v : ℕ). x) i j)) (carried-acc b i j hi hj) }
+  carried-marks b = record { same = λ i j hi hj. ap (λ (x : ℕ). saturated (quotient b) (λ (u v : ℕ). x) i j) (carried-acc b i j hi hj) }
 
   pub carried-written : {c : ℕ} (b : Numbering m f c) {before after : List ℕ} {end : ℕ}
       → AtFront (fileOf (quotient b) (saturated (quotient b) (quotient-acc b))) before after end
@@ -119,32 +121,37 @@ pub record Reduces (r : Rule) (before after : List ℕ) (end : ℕ) : Type 0 whe
 
 -- a strong rule whose closure stands in the second table of marks
 module _ (r : Rule) (small : r .morphism .size ≤ 64) (letters-some : 1 ≤ r .morphism .letters) (letters-small : r .morphism .letters ≤ 16)
-    (reached : AllReached (r .morphism)) (linked : LinkedOnly (r .morphism) (marked (r .marks))) (strong : RuleStrong r)
-    {entry exit before after : List ℕ} {end : ℕ}
-    (stands : (s e : ℕ) → s < r .morphism .size → e < r .morphism .size
-    → closure-test (r .morphism) (marked (r .marks)) s e ≡ marked (marksFrom entry secondBase) s e)
+    (reached : AllReached (r .morphism)) (good : GradedMarks (r .morphism) (r .marks)) (strong : RuleStrong r)
+    {entry exit before after : List ℕ} {end : ℕ} (stands : MarkingAt (r .morphism .size) (closure-grade (r .morphism) (r .marks)) entry secondBase)
     (w : ReducedWritten (r .morphism) entry exit before after end) where
   outcomes-agree : (s z : ℕ) → s < r .morphism .size → z < r .morphism .size
-      → outcomeOf (r .morphism) entry s z ≡ acceptance (r .morphism) (marked (r .marks)) s z
-  outcomes-agree = outcome-acceptance (r .lawful) small (marked (r .marks)) entry (λ s e hs he. sym (stands s e hs he))
+      → outcomeOf (r .morphism) entry s z ≡ grading (r .morphism) (r .marks) s z
+  outcomes-agree = outcome-grading (r .lawful) small (r .marks) entry stands
 
-  -- the blocks numbered, with acceptance for the outcome
-  abbrev by-acceptance : RuleNumbering r (w .count)
-  by-acceptance = numbering-carry (r .lawful) outcomes-agree (w .numbering)
+  -- the blocks numbered, with the grade for the outcome
+  abbrev by-grade : RuleNumbering r (w .count)
+  by-grade = numbering-carry (r .lawful) outcomes-agree (w .numbering)
 
-  fits : FitsFormat (quotient by-acceptance)
+  fits : FitsFormat (quotient by-grade)
   unfolding quotient
   fits = record { some = w .some; small = omega (arith, w .few); letters-some = letters-some; letters-small = letters-small }
+
+  -- no grade is above 3
+  grades-fit : FitsGrades (quotient by-grade) (saturated (quotient by-grade) (quotient-acc by-grade))
+  unfolding quotient-acc
+  grades-fit = record {
+    grades = λ s e hs he. saturated-small (quotient by-grade) (quotient-acc by-grade) 3 s e (grading-small (r .morphism) (r .marks) (by-grade .leader s) (by-grade .leader e));
+  }
 
   -- what was written is its file
   pub reduces : Reduces r before after end
   unfolding reduced-rule
   reduces = record {
-    reduced = reduced-rule r by-acceptance;
-    reduction = reduction-right r reached linked strong by-acceptance;
+    reduced = reduced-rule r by-grade;
+    reduction = reduction-right r reached good strong by-grade;
     numbered = carried-order (r .lawful) outcomes-agree (w .numbering) (w .in-order);
     written =
         let f = carried-written (r .lawful) outcomes-agree (w .numbering) (w .written) in
-        written-rule (quotient by-acceptance) _ fits (quotient-lawful (r .lawful) by-acceptance)
-        (reduced-linked r reached linked strong by-acceptance) (quotient-reached (r .lawful) by-acceptance reached) f;
+        written-rule (quotient by-grade) _ fits grades-fit (quotient-lawful (r .lawful) by-grade)
+        (reduced-linked r reached good strong by-grade) (quotient-reached (r .lawful) by-grade reached) f;
   }

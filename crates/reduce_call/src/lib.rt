@@ -1,7 +1,6 @@
 // Reduction of a strong rule: the elements that no context tells apart are put into one block, the blocks are numbered in the
-// order of their first words, and the rule whose elements are the blocks is written, with every linked pair marked whose lassos
-// are accepted. All stands in one lent slice, as reduce_table/specs/Layout
-// says.
+// order of their first words, and the rule whose elements are the blocks is written, every linked pair marked with the grade of its
+// lassos. All stands in one lent slice, as reduce_table/specs/Layout says.
 use answer::Refusal;
 use formats::RULE_SIZE;
 use mark_strong::decide;

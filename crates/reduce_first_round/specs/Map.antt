@@ -1,22 +1,21 @@
 -- The map of scratch while a rule is reduced: where the marks, the outcomes and the blocks stand. Assumes nothing.
 --
---    4096  the closure of the rule's marks, a byte for each pair (s, e), at s·64 + e; read only here
---    8192  the outcomes, a byte for each pair of values (s, z), at s·64 + z: 1 for accepted, else 0
+--    4096  the closure of the rule's marks, a byte for each pair (s, e), at s·64 + e; only read here
+--    8192  the outcomes, a byte for each pair of values (s, z), at s·64 + z: the grade of the lassos with those values
 --   12288  the blocks, a byte for each element: the least element of its block
 --   12352  the blocks after the round that is being worked out, laid out alike; they end at 12416
 use Prim.Native.Nat.{ℕ, _+_, _*_, _≤_, _<_}
 use mathlib.Core.Path.{_≡_}
 use mathlib.Core.List.{List}
 use lib.ListN.{getD}
-use Rattle.finite.proofs.Search.{bit}
-use Rattle.theory.specs.Rules.{Morphism, marked}
+use Rattle.theory.specs.Rules.{Morphism}
 use Rattle.theory.proofs.Strength.{settled-start, settled-cycle}
 use Rattle.scratch.specs.Map.{blocksBase, outcomesBase, secondBase, marksFrom}
 
--- what lassos with the values (s, z) come to, by a table of marks from 4096 on: 1 if it has the pair (s·f, f), f the
--- idempotent power of z, else 0
+-- what lassos with the values (s, z) come to, by a table of marks from 4096 on: its mark of the pair (s·f, f), f the idempotent power
+-- of z
 unfoldable pub outcomeOf : Morphism → List ℕ → ℕ → ℕ → ℕ
-outcomeOf m scratch s z = bit (marked (marksFrom scratch secondBase) (settled-start m s z) (settled-cycle m z))
+outcomeOf m scratch s z = marksFrom scratch secondBase (settled-start m s z) (settled-cycle m z)
 
 -- the byte of the outcome of (s, z)
 unfoldable pub outcomeAt : List ℕ → ℕ → ℕ → ℕ

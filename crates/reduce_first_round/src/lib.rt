@@ -9,8 +9,7 @@ ghost use mathlib.Core.Path.{_≡_};
 ghost use Prim.Native.Nat.{_≤_, _<_};
 ghost use lib.ListN.{length};
 ghost use Rattle.finite.specs.Tells.{Tells};
-ghost use Rattle.finite.proofs.Search.{bit};
-ghost use Rattle.theory.specs.Rules.{Lawful, marked};
+ghost use Rattle.theory.specs.Rules.{Lawful};
 ghost use Rattle.rule_table.specs.Table.{Table};
 ghost use Rattle.formats.specs.Table.{productAt, morphismAt};
 ghost use Rattle.scratch.specs.Map.{blocksBase, secondBase, marksFrom};
@@ -19,18 +18,15 @@ ghost use Rattle.reduce_first_round.specs.Map.{outcomeAt};
 ghost use Rattle.reduce_first_round.specs.Steps.{LeastRelated, ColumnWritten, OutcomesWritten, BlocksWritten};
 ghost use Rattle.formats.specs.RuleChecks.{scratchSize};
 
-// Whether the table of marks has the pair (s·f, f), as a number.
+// The mark of the pair (s·f, f) in the table of marks.
 pub fn outcome(rule: &[u8], n: usize, k: usize, scratch: &[u8], s: usize, f: usize) -> u8
     requires { ⌜ Table (now rule) n k ⌝ }
     requires { ⌜ (s < n) × (f < n) ⌝ }
     requires { ⌜ scratchSize ≤ length (now scratch) ⌝ }
-    ensures { λ r. ⌜ r ≡ bit (marked (marksFrom (now (scratch .entry)) secondBase) (productAt (now (rule .entry)) n s f) f) ⌝ }
+    ensures { λ r. ⌜ r ≡ marksFrom (now (scratch .entry)) secondBase (productAt (now (rule .entry)) n s f) f ⌝ }
 {
     let t = product(rule, n, s, f);
-    if 0 < scratch[SECOND_BASE + (t * 64 + f)] {
-        return 1;
-    }
-    0
+    scratch[SECOND_BASE + (t * 64 + f)]
 }
 
 // The outcomes of all values with z for the cycle.

@@ -1,4 +1,4 @@
-// The rule of the blocks, its marks: every linked pair of blocks whose leaders' outcome is not 0. All stands in one lent slice, as
+// The rule of the blocks, its marks: every linked pair of blocks has its leaders' outcome. All stands in one lent slice, as
 // reduce_table/specs/Layout says.
 use scratch::LAID_MARKS_BASE;
 use scratch::LAID_PRODUCTS_BASE;
@@ -29,7 +29,7 @@ pub fn block_outcome(c: usize, scratch: &[u8], i: usize, j: usize) -> u8
     scratch[OUTCOMES_BASE + (a * 64 + b)]
 }
 
-// 1 where the pair of blocks is linked and its lassos are accepted, else 0.
+// The outcome of the pair of blocks where it is linked, else 0.
 pub fn mark_byte(c: usize, scratch: &[u8], i: usize, j: usize) -> u8
     requires { ⌜ BlocksNeeds 64 c (now scratch) ⌝ }
     requires { ⌜ (i < c) × (j < c) ⌝ }
@@ -43,11 +43,7 @@ pub fn mark_byte(c: usize, scratch: &[u8], i: usize, j: usize) -> u8
     if kept != i {
         return 0;
     }
-    let outcome = block_outcome(c, scratch, i, j);
-    if outcome == 0 {
-        return 0;
-    }
-    1
+    block_outcome(c, scratch, i, j)
 }
 
 // The marks of the pairs that begin with block i.

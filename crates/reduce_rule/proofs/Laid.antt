@@ -7,7 +7,6 @@ use native.Mathlib.Omega.{arith}
 use lib.Dec.{eqb, ltb}
 use lib.ListN.{getD}
 use borrow.Author.Tests.{lt-ltb}
-use Rattle.finite.proofs.Search.{bit}
 use Rattle.theory.specs.Rules.{Morphism}
 use Rattle.theory.proofs.Closure.{linked-test}
 use Rattle.rule_table.specs.Table.{Table}
@@ -24,29 +23,19 @@ use Rattle.reduce_rule.specs.Steps.{QuotientNeeds, QuotientWritten}
 use Rattle.scratch.proofs.Rows.{pair-small}
 use Rattle.reduce_table.proofs.Blocks.{image-kept}
 
--- a number that says whether a test is passed
-bit-above : (b : Bool) → ltb 0 (bit b) ≡ b
-bit-above true = refl
-bit-above false = refl
-
-chosen-above : (b : Bool) (x : ℕ) → ltb 0 (cond b x 0) ≡ (b && ltb 0 x)
-chosen-above true x = refl
-chosen-above false x = refl
-
 -- two tests that are passed take nothing away
-and-after : (a b c d e : Bool) → a ≡ true → b ≡ true → (a && (b && (c && d))) && e ≡ c && (d && e)
-and-after true true true d e p q = refl
-and-after true true false d e p q = refl
-and-after true false c d e p q = absurd (let z : _≡_ {A = ℕ} 0 1 = cc in omega arith)
-and-after false b c d e p q = absurd (let z : _≡_ {A = ℕ} 0 1 = cc in omega arith)
+and-after : (a b c : Bool) → a ≡ true → b ≡ true → a && (b && c) ≡ c
+and-after true true c p q = refl
+and-after true false c p q = absurd (let z : _≡_ {A = ℕ} 0 1 = cc in omega arith)
+and-after false b c p q = absurd (let z : _≡_ {A = ℕ} 0 1 = cc in omega arith)
 
--- the pairs that saturated marks have: linked, and their outcome is not 0
-saturated-above : (q : Morphism) (acc : ℕ → ℕ → ℕ) (i j : ℕ) → i < q .size → j < q .size
-    → ltb 0 (saturated q acc i j) ≡ eqb (q .product j j) j && (eqb (q .product i j) i && ltb 0 (acc i j))
+-- the numbers of saturated marks: the outcomes of linked pairs
+saturated-is : (q : Morphism) (acc : ℕ → ℕ → ℕ) (i j : ℕ) → i < q .size → j < q .size
+    → saturated q acc i j ≡ cond (eqb (q .product j j) j && eqb (q .product i j) i) (acc i j) 0
 unfolding saturated linked-test
-saturated-above q acc i j hi hj =
-    chosen-above (linked-test q i j) (acc i j)
-    ∙ and-after (ltb i (q .size)) (ltb j (q .size)) (eqb (q .product j j) j) (eqb (q .product i j) i) (ltb 0 (acc i j)) (lt-ltb i (q .size) hi) (lt-ltb j (q .size) hj)
+saturated-is q acc i j hi hj =
+    ap (λ (b : Bool). cond b (acc i j) 0)
+    (and-after (ltb i (q .size)) (ltb j (q .size)) (eqb (q .product j j) j && eqb (q .product i j) i) (lt-ltb i (q .size) hi) (lt-ltb j (q .size) hj))
 
 module _ {bytes : List ℕ} {n k c : ℕ} (t : Table bytes n k) {entry table images out : List ℕ}
     (p : QuotientNeeds n k c entry out) (g : Grid (blockProduct bytes n entry) laidProductsBase c c c entry table)
@@ -107,14 +96,12 @@ module _ {bytes : List ℕ} {n k c : ℕ} (t : Table bytes n k) {entry table ima
           ∙ same (leaderAt entry i) (leaderAt entry j) (p .blocks .leaders i hi) (p .blocks .leaders j hj)
           ∙ sym (ap₂ acc (b .leaders i) (b .leaders j))
 
-      mark-is : (i j : ℕ) → i < c → j < c
-          → ltb 0 (blockMark c images i j) ≡ ltb 0 (saturated (quotient (b .numbering)) (quotient-acc (b .numbering)) i j)
+      mark-is : (i j : ℕ) → i < c → j < c → blockMark c images i j ≡ saturated (quotient (b .numbering)) (quotient-acc (b .numbering)) i j
       unfolding blockMark laidProduct quotient
       mark-is i j hi hj =
-          bit-above _
-          ∙ ap₂ (λ (x : ℕ) (d : Bool). eqb x j && d) (laid-product j j hj hj ∙ product-is j j)
-          (ap₂ (λ (x y : ℕ). eqb x i && ltb 0 y) (laid-product i j hi hj ∙ product-is i j) (outcome-is i j hi hj))
-          ∙ sym (saturated-above (quotient (b .numbering)) (quotient-acc (b .numbering)) i j hi hj)
+          ap₂ (λ (d : Bool) (y : ℕ). cond d y 0)
+          (ap₂ (λ (x y : ℕ). eqb x j && eqb y i) (laid-product j j hj hj ∙ product-is j j) (laid-product i j hi hj ∙ product-is i j)) (outcome-is i j hi hj)
+          ∙ sym (saturated-is (quotient (b .numbering)) (quotient-acc (b .numbering)) i j hi hj)
 
       pub laid-as : LaidAs (quotient (b .numbering)) (saturated (quotient (b .numbering)) (quotient-acc (b .numbering))) laidImagesBase c k marks
       unfolding quotient
@@ -125,7 +112,7 @@ module _ {bytes : List ℕ} {n k c : ℕ} (t : Table bytes n k) {entry table ima
             h .kept .before (laidProductsBase + (i * c + j)) (omega (arith, pair-small c i j (p .blocks .small) hi hj)) ∙ laid-product i j hi hj ∙ product-is i j;
         elements = λ a ha.
             h .kept .before (laidImagesBase + a) (omega (arith, t .letters-small)) ∙ f .filled a ha ∙ image-kept (g .kept) (omega arith) t a ha ∙ image-is a;
-        marked = λ i j hi hj. ap (ltb 0) (h .filled i j hi hj) ∙ mark-is i j hi hj;
+        grades = λ i j hi hj. h .filled i j hi hj ∙ mark-is i j hi hj;
       }
 
     pub quotient-written : {after : List ℕ} {end : ℕ} → LaidWritten laidImagesBase c k marks out after end → QuotientWritten m c entry marks out after end

@@ -2,15 +2,13 @@
 -- through its tests. Assumes nothing.
 use Prim.Native.Nat.{ℕ, _+_, _*_, _≤_, _<_}
 use mathlib.Core.Path.{_≡_, sym, ap₂, _∙_}
-use mathlib.Core.Bool.{Bool, _&&_}
-use mathlib.Core.Logic.{_≢_}
+use mathlib.Core.Bool.{Bool, cond, _&&_}
 use mathlib.Core.List.{List}
 use native.Mathlib.Omega.{arith}
-use borrow.Author.Tests.{eq-eqb, ne-eqb, lt-ltb, le-ltb}
-use lib.Dec.{eqb, ltb}
+use borrow.Author.Tests.{eq-eqb, ne-eqb}
+use lib.Dec.{eqb}
 use lib.ListN.{length, getD}
 use Rattle.scratch.specs.Map.{laidMarksBase, laidProductsBase, leadersBase, numbersBase, outcomesBase}
-use Rattle.finite.proofs.Search.{bit}
 use Rattle.rule_table.specs.Table.{Table}
 use Rattle.formats.specs.Table.{productAt, imageAt}
 use Rattle.reduce_first_round.specs.Map.{outcomeAt}
@@ -73,11 +71,10 @@ module _ {from to : ℕ} {entry now : List ℕ} (k : UnchangedOutside from to en
       let ej : leaderAt now j ≡ leaderAt entry j = leader-kept j (omega (arith, p .small)) in
       let square : laidProduct c now j j ≡ laidProduct c entry j j = k .before (laidProductsBase + (j * c + j)) (omega (arith, pair-small c j j (p .small) hj hj)) in
       let stays : laidProduct c now i j ≡ laidProduct c entry i j = k .before (laidProductsBase + (i * c + j)) (omega (arith, pair-small c i j (p .small) hi hj)) in
-      let accepted : blockOutcome now i j ≡ blockOutcome entry i j =
+      let outcome : blockOutcome now i j ≡ blockOutcome entry i j =
       ap₂ (λ (a b : ℕ). getD now (outcomesBase + (a * 64 + b)) 0) ei ej
       ∙ k .before (outcomesBase + (leaderAt entry i * 64 + leaderAt entry j)) (omega (arith, p .leaders i hi, p .leaders j hj)) in
-      ap₂ (λ (x : ℕ) (b : Bool). bit (eqb x j && b)) square
-      (ap₂ (λ (x y : ℕ). eqb x i && ltb 0 y) stays accepted)
+      ap₂ (λ (b : Bool) (y : ℕ). cond b y 0) (ap₂ (λ (x y : ℕ). eqb x j && eqb y i) square stays) outcome
 
 -- the ways through the code for the byte of a mark, from what was read
 module _ (c : ℕ) (scratch : List ℕ) (i j : ℕ) {square : ℕ} (e : square ≡ laidProduct c scratch j j) where
@@ -92,21 +89,7 @@ module _ (c : ℕ) (scratch : List ℕ) (i j : ℕ) {square : ℕ} (e : square �
         sym (simp (eq-eqb (laidProduct c scratch j j) j (sym e ∙ s), ne-eqb (laidProduct c scratch i j) i (λ q. g (e′ ∙ q))))
 
     module _ (t : kept ≡ i) {outcome : ℕ} (o : outcome ≡ blockOutcome scratch i j) where
-      pub mark-refused : outcome ≡ 0 → 0 ≡ blockMark c scratch i j
+      pub mark-linked : outcome ≡ blockMark c scratch i j
       unfolding blockMark
-      mark-refused z =
-          sym (simp (
-            eq-eqb (laidProduct c scratch j j) j (sym e ∙ s),
-            eq-eqb (laidProduct c scratch i j) i (sym e′ ∙ t),
-            le-ltb 0 (blockOutcome scratch i j) (omega arith),
-          ))
-
-      pub mark-set : (outcome ≡ 0 → ⊥) → 1 ≡ blockMark c scratch i j
-      unfolding blockMark
-      mark-set g =
-          let d : outcome ≢ 0 = g in
-          sym (simp (
-            eq-eqb (laidProduct c scratch j j) j (sym e ∙ s),
-            eq-eqb (laidProduct c scratch i j) i (sym e′ ∙ t),
-            lt-ltb 0 (blockOutcome scratch i j) (omega arith),
-          ))
+      mark-linked =
+          o ∙ sym (simp (eq-eqb (laidProduct c scratch j j) j (sym e ∙ s), eq-eqb (laidProduct c scratch i j) i (sym e′ ∙ t)))

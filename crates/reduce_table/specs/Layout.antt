@@ -7,11 +7,10 @@
 --   24576  the marks, a byte for each pair (i, j), at i·64 + j; they end at 28672
 use Prim.Native.Nat.{ℕ, _+_, _*_, _≤_, _<_}
 use mathlib.Core.Path.{_≡_}
-use mathlib.Core.Bool.{_&&_}
+use mathlib.Core.Bool.{cond, _&&_}
 use mathlib.Core.List.{List}
 use lib.ListN.{length, getD}
-use lib.Dec.{eqb, ltb}
-use Rattle.finite.proofs.Search.{bit}
+use lib.Dec.{eqb}
 use Rattle.formats.specs.Table.{productAt, imageAt}
 use Rattle.reduce_first_round.specs.Map.{outcomeAt}
 use Rattle.scratch.specs.Rows.{RowFilled, RowsFilled}
@@ -41,12 +40,12 @@ laidProduct c scratch i j = getD scratch (laidProductsBase + (i * c + j)) 0
 unfoldable pub blockOutcome : List ℕ → ℕ → ℕ → ℕ
 blockOutcome scratch i j = outcomeAt scratch (leaderAt scratch i) (leaderAt scratch j)
 
--- 1 where the pair of blocks is linked and its outcome is not 0, else 0
+-- the outcome of the pair of blocks where it is linked, else 0
 unfoldable pub blockMark : ℕ → List ℕ → ℕ → ℕ → ℕ
 blockMark c scratch i j =
     let stays = eqb (laidProduct c scratch i j) i in
-    let accepted = ltb 0 (blockOutcome scratch i j) in
-    bit (eqb (laidProduct c scratch j j) j && (stays && accepted))
+    let outcome = blockOutcome scratch i j in
+    cond (eqb (laidProduct c scratch j j) j && stays) outcome 0
 
 -- the bytes from a base on are the values of f, and every other byte is as it was
 abbrev pub Filled : (ℕ → ℕ) → ℕ → ℕ → List ℕ → List ℕ → Type 0

@@ -1,20 +1,21 @@
 -- What a rule file is once every check passes, for the calls that get one: a lawful table whose elements are all reached, and
--- marks that are linked and differ. Assumes nothing.
-use Prim.Native.Nat.{ℕ, _<_}
+-- marks that are linked, differ and have grades. Assumes nothing.
+use Prim.Native.Nat.{ℕ, _≤_, _<_}
 use mathlib.Core.Path.{refl}
 use mathlib.Core.List.{List}
 use native.Mathlib.Omega.{arith}
 use lib.ListN.{length}
 use Rattle.answer.specs.Checks.{passed, FirstFailure}
 use Rattle.answer.proofs.Order.{passed-first, passed-last, passes-head, passes-tail}
+use Rattle.theory.proofs.Gradings.{GradedMarks}
 use Rattle.rule_table.proofs.Facts.{table-lawful}
-use Rattle.formats.specs.RuleFile.{marksAt, marksOf, ruleEnd, morphismOf}
+use Rattle.formats.specs.RuleFile.{marksAt, marksOf, ruleEnd, morphismOf, markingOf}
 use Rattle.formats.specs.RuleChecks.{layoutChecks, tableChecks, contentChecks, ruleChecks}
 use Rattle.rule_check.specs.GoodRule.{GoodRule}
 use Rattle.formats.proofs.RuleSections.{rule-in-any}
-use Rattle.rule_check.proofs.Passed.{letters-some, marks-small, end-inside, table-of}
+use Rattle.rule_check.proofs.Passed.{letters-some, marks-small, end-inside, table-of, grades-within}
 use Rattle.rule_check.proofs.TablePassed.{table-associates, table-reached}
-use Rattle.rule_check.proofs.MarksPassed.{passed-marks, marking-linked, marking-small}
+use Rattle.rule_check.proofs.MarksPassed.{passed-marks, marking-linked, marking-at-most}
 use Rattle.rule_marks.proofs.MarkOrder.{GoodMarks}
 
 module _ (input : ℕ) (bytes : List ℕ) (all : FirstFailure (ruleChecks input bytes) passed) where
@@ -45,11 +46,20 @@ module _ (input : ℕ) (bytes : List ℕ) (all : FirstFailure (ruleChecks input 
         table = t;
         letters-some = letters-some bytes layout-passed;
         marks-small = marks-small bytes layout-passed;
+        grades = grades-within bytes layout-passed;
         end = omega (arith, end-inside bytes layout-passed);
         lawful = law;
         reached = table-reached table-passed law;
         each-linked = λ i l. marks-passed .good i l .linked;
         distinct = λ i j l b p q. marks-passed .good j b .fresh i l p q;
         linked = marking-linked bytes (marksAt bytes) marks-passed;
-        grades-small = λ s e hs he. marking-small bytes (marksAt bytes) s e;
       }
+
+-- no pair of a good rule has a grade above the highest
+pub marking-small : {bytes : List ℕ} → GoodRule bytes → (s e : ℕ) → markingOf bytes s e ≤ 3
+unfolding marksOf
+marking-small {bytes} good s e = marking-at-most bytes (marksAt bytes) (good .grades) s e
+
+-- its marks are at most 3, and on linked pairs only
+pub graded-marks : {bytes : List ℕ} → GoodRule bytes → GradedMarks (morphismOf bytes) (markingOf bytes)
+graded-marks good = record { small = λ s e hs he. marking-small good s e; linked = good .linked }

@@ -10,15 +10,16 @@ use Rattle.answer.specs.Checks.{passed, FirstFailure}
 use Rattle.theory.specs.Rules.{Morphism}
 use Rattle.rule_table.specs.Table.{Table}
 use Rattle.formats.specs.Table.{morphismAt}
-use Rattle.formats.specs.RuleFile.{elementsOf, lettersAt, marksAt, marksOf, ruleEnd, morphismOf, markWidth, markStart, markCycle, marksIn, markingOf}
+use Rattle.formats.specs.Sections.{InRange}
+use Rattle.formats.specs.RuleFile.{elementsOf, lettersAt, marksAt, marksOf, ruleEnd, morphismOf, markWidth, markStart, markCycle, markGrade, gradeAmong, marksIn, markingOf}
 use Rattle.formats.specs.RuleChecks.{layoutChecks, tableChecks, markChecks}
 use Rattle.rule_layout.specs.declared.Shape.{Shape}
 use Rattle.rule_layout.specs.Answers.{LayoutPassed}
 use Rattle.rule_marks.specs.declared.Fault.{Fault}
 use Rattle.rule_marks.specs.declared.Fault.the-variants.{Nothing, Refused}
-use Rattle.rule_marks.specs.Faults.{FaultAnswer, MarksRoom, MarksLaid, marksAmong, MarksAnswer}
+use Rattle.rule_marks.specs.Faults.{FaultAnswer, MarksRoom, MarksLaid, MarksAnswer}
 use Rattle.rule_check.specs.Answers.{ContentAnswer, BlankMarks}
-use Rattle.rule_check.proofs.Passed.{size-small, letters-small, marks-small, end-inside, table-of, starts-below, cycles-below}
+use Rattle.rule_check.proofs.Passed.{size-small, letters-small, marks-small, end-inside, table-of, starts-below, cycles-below, grades-within}
 
 module _ (bytes : List ℕ) (shape : Shape) (p : LayoutPassed bytes shape) where
   abbrev n : ℕ
@@ -75,6 +76,8 @@ module _ (bytes : List ℕ) (shape : Shape) (p : LayoutPassed bytes shape) where
     long = end-in;
     starts = λ i h. here (λ (at m : ℕ). markStart bytes at i < m) (starts-below bytes all i (omega (arith, p .shape-is .marks)));
     cycles = λ i h. here (λ (at m : ℕ). markCycle bytes at i < m) (cycles-below bytes all i (omega (arith, p .shape-is .marks)));
+    grades = λ i h.
+        subst (λ (at : ℕ). InRange 1 4 (markGrade bytes at i)) (sym marks-at-is) (grades-within bytes all i (omega (arith, p .shape-is .marks)));
     room = b .room;
     blank = b .blank;
   }
@@ -93,16 +96,16 @@ module _ (bytes : List ℕ) (shape : Shape) (p : LayoutPassed bytes shape) where
       (subst (λ (x : ℕ). FaultAnswer (λ input. markChecks input (morphismAt bytes n k) bytes x 0 (marksOf bytes)) answer) marks-at-is
       (subst (λ (x : ℕ). FaultAnswer (λ input. markChecks input (morphismAt bytes n k) bytes (1 + n * n + (1 + k)) 0 x) answer) (p .shape-is .marks) f))
 
-  pub of-laid : {entry exit : List ℕ} → MarksLaid (marksAmong bytes (1 + n * n + (1 + k)) count) n entry exit → MarksLaid (markingOf bytes) (elementsOf bytes) entry exit
-  unfolding marksAmong marksIn marksOf
+  pub of-laid : {entry exit : List ℕ} → MarksLaid (gradeAmong bytes (1 + n * n + (1 + k)) count) n entry exit → MarksLaid (markingOf bytes) (elementsOf bytes) entry exit
+  unfolding marksIn marksOf
   of-laid {entry} {exit} l =
       subst (λ (x : ℕ). MarksLaid (markingOf bytes) x entry exit) (p .shape-is .elements)
-      (subst (λ (x : ℕ). MarksLaid (marksAmong bytes (marksAt bytes) x) n entry exit) (p .shape-is .marks)
-      (subst (λ (x : ℕ). MarksLaid (marksAmong bytes x count) n entry exit) marks-at-is l))
+      (subst (λ (x : ℕ). MarksLaid (gradeAmong bytes (marksAt bytes) x) n entry exit) (p .shape-is .marks)
+      (subst (λ (x : ℕ). MarksLaid (gradeAmong bytes x count) n entry exit) marks-at-is l))
 
 -- what going through the marks leaves, known by its case
 module _ (m : Morphism) (bytes : List ℕ) (at count : ℕ) (entry exit : List ℕ) (answer : Fault) (known : MarksAnswer m bytes at count entry exit answer) where
-  pub laid-said : answer ≡ Nothing → MarksLaid (marksAmong bytes at count) (m .size) entry exit
+  pub laid-said : answer ≡ Nothing → MarksLaid (gradeAmong bytes at count) (m .size) entry exit
   laid-said e = subst (MarksAnswer m bytes at count entry exit) e known
 
   pub kept-said : {r : Refusal} {place : ℕ} → answer ≡ Refused r place → length exit ≡ length entry

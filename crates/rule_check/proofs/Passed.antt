@@ -1,4 +1,4 @@
--- What a rule file whose three sections pass is known to be: a table, and marks that name elements, all within the bytes.
+-- What a rule file whose three sections pass is known to be: a table, and marks that name elements and have grades, all within the bytes.
 -- Assumes nothing.
 use Prim.Native.Nat.{ℕ, _+_, _*_, _≤_, _<_}
 use mathlib.Core.Path.{_≡_, subst}
@@ -10,7 +10,8 @@ use lib.ListN.{length, getD}
 use Rattle.answer.specs.Checks.{passed, FirstFailure}
 use Rattle.rule_table.specs.Table.{Table}
 use Rattle.formats.specs.Table.{productAt, imageAt}
-use Rattle.formats.specs.RuleFile.{elementsOf, lettersAt, lettersOf, marksAt, marksOf, ruleEnd, markStart, markCycle}
+use Rattle.formats.specs.Sections.{InRange}
+use Rattle.formats.specs.RuleFile.{elementsOf, lettersAt, lettersOf, marksAt, marksOf, ruleEnd, markStart, markCycle, markGrade}
 use Rattle.formats.specs.RuleChecks.{layoutChecks}
 use Rattle.formats.proofs.RuleSections.{elements-good, letters-good, marks-good}
 use Rattle.formats.proofs.MarkEntries as marks
@@ -43,8 +44,8 @@ module _ (bytes : List ℕ) (all : FirstFailure (layoutChecks 1 bytes) passed) w
     small = size-small;
     letters-small = letters-small;
     long = omega (arith, letters-good 1 bytes all .inside);
-    products = λ a b ha hb. there (zero-add _) (elements-good 1 bytes all .entries-below (a * elementsOf bytes + b) (digits-lt ha hb));
-    images = λ a h. there (let e : lettersAt bytes + (1 + a) ≡ 2 + elementsOf bytes * elementsOf bytes + a = omega arith in e) (letters-good 1 bytes all .entries-below a h);
+    products = λ a b ha hb. there (zero-add _) (elements-good 1 bytes all .entries-good (a * elementsOf bytes + b) (digits-lt ha hb) .below);
+    images = λ a h. there (let e : lettersAt bytes + (1 + a) ≡ 2 + elementsOf bytes * elementsOf bytes + a = omega arith in e) (letters-good 1 bytes all .entries-good a h .below);
   }
     where
       there : {at at′ : ℕ} → at ≡ at′ → getD bytes at 0 < elementsOf bytes → getD bytes at′ 0 < elementsOf bytes
@@ -57,3 +58,7 @@ module _ (bytes : List ℕ) (all : FirstFailure (layoutChecks 1 bytes) passed) w
   pub cycles-below : (i : ℕ) → i < marksOf bytes → markCycle bytes (marksAt bytes) i < elementsOf bytes
   unfolding marksOf
   cycles-below = marks.cycles-below (marks-good 1 bytes all)
+
+  pub grades-within : (i : ℕ) → i < marksOf bytes → InRange 1 4 (markGrade bytes (marksAt bytes) i)
+  unfolding marksOf
+  grades-within = marks.grades-within (elementsOf bytes) (marks-good 1 bytes all)

@@ -98,7 +98,7 @@ fn content_fault(rule: &[u8], shape: Shape, scratch: &mut [u8]) -> Fault
     let k = shape.letters;
     let count = shape.marks;
     let marks_at = 1 + n * n + (1 + k);
-    let end = marks_at + (2 + 2 * count);
+    let end = marks_at + (2 + 3 * count);
     let rest = rest_after(rule, end);
     if 0 < rest.len() {
         return Fault::Refused {

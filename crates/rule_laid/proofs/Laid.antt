@@ -1,10 +1,9 @@
 -- What stands in parts of scratch is written as the file of every rule that it agrees with. Assumes nothing.
 use Prim.Native.Nat.{ℕ, _+_, _*_, _-_, _<_}
-use mathlib.Core.Path.{_≡_, sym, ap, subst, _∙_}
+use mathlib.Core.Path.{_≡_, sym, subst, _∙_}
 use mathlib.Core.List.{List}
 use native.Mathlib.Omega.{arith}
 use native.Mathlib.Nat.{mul-le-mul}
-use lib.Dec.{ltb}
 use lib.ListN.{length, getD, take, drop, length-drop}
 use lib.Seq.{getD-drop}
 use Rattle.theory.specs.Rules.{Morphism, Marking}
@@ -47,7 +46,7 @@ pub laid-written : {images count k : ℕ} {scratch before after : List ℕ} {end
     → AtFront (tableFile (part scratch laidProductsBase) (part scratch images) (part scratch laidMarksBase) count k) before after end → LaidWritten images count k scratch before after end
 unfolding tableMarks
 laid-written {images} {count} {k} {scratch} {before} {after} {end} w = record {
-  written = λ m marks l. front-same (file-same (agree m marks l) (marked m marks l)) w;
+  written = λ m marks l. front-same (file-same (agree m marks l) (graded m marks l)) w;
 }
   where
     agree : (m : Morphism) (marks : Marking) → LaidAs m marks images count k scratch → Agree m (tableMorphism (part scratch laidProductsBase) (part scratch images) count k)
@@ -59,9 +58,9 @@ laid-written {images} {count} {k} {scratch} {before} {after} {end} w = record {
       same-image = λ a ha. part-byte scratch images a ∙ l .elements a (subst (λ (x : ℕ). a < x) (l .letters-are) ha);
     }
 
-    marked : (m : Morphism) (marks : Marking) → LaidAs m marks images count k scratch → SameMarks (m .size) marks (tableMarks (part scratch laidMarksBase))
-    marked m marks l = record {
+    graded : (m : Morphism) (marks : Marking) → LaidAs m marks images count k scratch → SameMarks (m .size) marks (tableMarks (part scratch laidMarksBase))
+    graded m marks l = record {
       same = λ s e hs he.
-          ap (ltb 0) (part-byte scratch laidMarksBase (s * 64 + e))
-          ∙ l .marked s e (subst (λ (x : ℕ). s < x) (l .size-is) hs) (subst (λ (x : ℕ). e < x) (l .size-is) he);
+          part-byte scratch laidMarksBase (s * 64 + e)
+          ∙ l .grades s e (subst (λ (x : ℕ). s < x) (l .size-is) hs) (subst (λ (x : ℕ). e < x) (l .size-is) he);
     }

@@ -3,7 +3,6 @@ use Prim.Native.Nat.{ℕ, _+_, _*_, _≤_, _<_}
 use mathlib.Core.Path.{_≡_}
 use mathlib.Core.List.{List}
 use lib.ListN.{length, getD}
-use lib.Dec.{ltb}
 use Rattle.theory.specs.Rules.{Morphism, Marking}
 use Rattle.formats.specs.RuleChecks.{ruleSize, scratchSize}
 use Rattle.formats.specs.WrittenFile.{fileOf}
@@ -27,7 +26,7 @@ pub record LaidAs (m : Morphism) (marks : Marking) (images count k : ℕ) (scrat
   pub letters-are : m .letters ≡ k
   pub products : (i j : ℕ) → i < count → j < count → getD scratch (laidProductsBase + (i * count + j)) 0 ≡ m .product i j
   pub elements : (a : ℕ) → a < k → getD scratch (images + a) 0 ≡ m .image a
-  pub marked : (i j : ℕ) → i < count → j < count → ltb 0 (getD scratch (laidMarksBase + (i * 64 + j)) 0) ≡ ltb 0 (marks i j)
+  pub grades : (i j : ℕ) → i < count → j < count → getD scratch (laidMarksBase + (i * 64 + j)) 0 ≡ marks i j
 
 -- the rule of the tables was written; "bytes past the result keep what they had"
 pub record LaidWritten (images count k : ℕ) (scratch before after : List ℕ) (end : ℕ) : Type 0 where

@@ -1,1 +1,2 @@
 pub mod CountsRead
+pub mod MarkRanges

@@ -1,5 +1,6 @@
 // The three sections of a rule file in a row: each is read from the rest of the file that the one before leaves.
 use answer::Refusal;
+use section_triples::triples;
 use sections::Counted;
 use sections::byte_count;
 use sections::entries;
@@ -31,13 +32,13 @@ fn letters_section(rest: &[u8], at: usize, n: usize) -> Counted
     }
 }
 
-// The marks' section of a rule of n elements.
+// The marks' section of a rule of n elements: a mark is a pair of elements and a grade, 1 to 3.
 pub fn marks_section(rest: &[u8], at: usize, n: usize) -> Counted
     requires { ⌜ at + length (now rest) < 2 ^ 64 ⌝ }
     ensures { λ r. ⌜ SectionAnswer (marksSection n) at (now (rest .entry)) r ⌝ }
 {
     match wide_count(rest, at, 4096) {
-        Counted::Read(c) => entries(rest, at, 2, 2 * c, n, c),
+        Counted::Read(c) => triples(rest, at, c, n, n, 4, 1),
         Counted::Refused { refusal, place } => Counted::Refused { refusal, place },
     }
 }

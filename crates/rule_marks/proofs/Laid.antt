@@ -1,20 +1,14 @@
 -- Marks laid out in a table of bytes, one for each pair, while the marks of a section are gone through. Assumes nothing.
 use Prim.Native.Nat.{ℕ, _+_, _*_, _≤_, _<_}
 use mathlib.Core.Path.{_≡_, refl, sym, ap, _∙_, subst}
-use mathlib.Core.Bool.{Bool, _||_}
-use mathlib.Core.Logic.{⊎-elim}
 use mathlib.Core.List.{List}
 use native.Mathlib.Omega.{arith}
 use native.Mathlib.Decide.{ℕ-discrete}
 use lib.ListN.{length, getD, set, length-set}
 use lib.Seq.{getD-set-same, getD-set-other}
-use lib.Dec.{T, eqb}
-use mir.Facts.{eqb-yes, yes-eqb}
-use Rattle.finite.proofs.Tests.{T-and, T-and-left, T-and-right, T-dec, T-true, T-false}
-use Rattle.finite.specs.Search.{anyBelow}
-use Rattle.finite.proofs.Search.{any-zero, any-add-one, any-intro, any-elim, Found}
-use Rattle.formats.specs.RuleFile.{markStart, markCycle, isMark, oneIf}
-use Rattle.rule_marks.specs.Faults.{MarksRoom, MarksLaid, marksAmong}
+use Rattle.formats.specs.RuleFile.{markStart, markCycle, markGrade, gradeAmong}
+use Rattle.formats.proofs.Grades.{is-mark-elim, is-mark-intro, grade-none, grade-this, grade-other, grade-mark, grade-some}
+use Rattle.rule_marks.specs.Faults.{MarksRoom, MarksLaid}
 
 -- a pair's place tells the pair
 pub pair-apart : (s e s′ e′ : ℕ) → e < 64 → e′ < 64 → s * 64 + e ≡ s′ * 64 + e′ → (s ≡ s′) × (e ≡ e′)
@@ -31,81 +25,53 @@ pub record Stood (bytes : List ℕ) (at i : ℕ) : Type 0 where
   pub same-cycle : markCycle bytes at earlier ≡ markCycle bytes at i
 
 module _ (bytes : List ℕ) (at : ℕ) where
-  pub is-mark-elim : (s e i : ℕ) → T (isMark bytes at s e i) → (markStart bytes at i ≡ s) × (markCycle bytes at i ≡ e)
-  unfolding isMark
-  is-mark-elim s e i t = (
-    eqb-yes (T-and-left (eqb (markStart bytes at i) s) (eqb (markCycle bytes at i) e) t),
-    eqb-yes (T-and-right (eqb (markStart bytes at i) s) (eqb (markCycle bytes at i) e) t),
-  )
-
-  is-mark-intro : (s e i : ℕ) → markStart bytes at i ≡ s → markCycle bytes at i ≡ e → T (isMark bytes at s e i)
-  unfolding isMark
-  is-mark-intro s e i p q = T-and (eqb (markStart bytes at i) s) (eqb (markCycle bytes at i) e) (yes-eqb p) (yes-eqb q)
-
-  -- one mark more
-  among-more : (s e i : ℕ) → marksAmong bytes at (i + 1) s e ≡ oneIf (isMark bytes at s e i || anyBelow i (isMark bytes at s e))
-  unfolding marksAmong
-  among-more s e i = ap oneIf (any-add-one i (isMark bytes at s e))
-
-  among-this : (s e i : ℕ) → markStart bytes at i ≡ s → markCycle bytes at i ≡ e → marksAmong bytes at (i + 1) s e ≡ 1
-  among-this s e i p q =
-      among-more s e i ∙ ap (λ (b : Bool). oneIf (b || anyBelow i (isMark bytes at s e))) (T-true (isMark bytes at s e i) (is-mark-intro s e i p q))
-
-  among-other : (s e i : ℕ) → ((markStart bytes at i ≡ s) × (markCycle bytes at i ≡ e) → ⊥) → marksAmong bytes at (i + 1) s e ≡ marksAmong bytes at i s e
-  unfolding marksAmong
-  among-other s e i f =
-      among-more s e i
-      ∙ ap (λ (b : Bool). oneIf (b || anyBelow i (isMark bytes at s e))) (T-false (isMark bytes at s e i) (λ t. f (is-mark-elim s e i t)))
-
   -- no mark stands among none
-  pub laid-start : {count n : ℕ} {table : List ℕ} → n ≤ 64 → MarksRoom bytes at count n table → MarksLaid (marksAmong bytes at 0) n table table
-  unfolding marksAmong
+  pub laid-start : {count n : ℕ} {table : List ℕ} → n ≤ 64 → MarksRoom bytes at count n table → MarksLaid (gradeAmong bytes at 0) n table table
   laid-start small r = record {
     same-length = refl;
-    mark = λ s e hs he. r .blank (s * 64 + e) (pair-below small hs he) ∙ ap oneIf (sym (any-zero (isMark bytes at s e)));
+    mark = λ s e hs he. r .blank (s * 64 + e) (pair-below small hs he) ∙ sym (grade-none bytes at s e);
     other = λ i f. refl;
   }
 
-  module _ {n : ℕ} (i : ℕ) {entry now : List ℕ} (small : n ≤ 64) (l : MarksLaid (marksAmong bytes at i) n entry now)
+  module _ {n : ℕ} (i : ℕ) {entry now : List ℕ} (small : n ≤ 64) (l : MarksLaid (gradeAmong bytes at i) n entry now)
       (hs : markStart bytes at i < n) (he : markCycle bytes at i < n) where
+    abbrev sᵢ : ℕ
+    sᵢ = markStart bytes at i
+
+    abbrev eᵢ : ℕ
+    eᵢ = markCycle bytes at i
+
     abbrev spot : ℕ
-    spot = markStart bytes at i * 64 + markCycle bytes at i
+    spot = sᵢ * 64 + eᵢ
 
     -- the byte of a pair that stood before is not 0
-    seen : (getD now spot 0 ≡ 0 → ⊥) → Found i (isMark bytes at (markStart bytes at i) (markCycle bytes at i))
-    unfolding marksAmong
-    seen f =
-        any-elim i (isMark bytes at (markStart bytes at i) (markCycle bytes at i))
-        (⊎-elim (λ t. t) (λ g. absurd (f (l .mark (markStart bytes at i) (markCycle bytes at i) hs he ∙ ap oneIf (T-false (anyBelow i (isMark bytes at (markStart bytes at i) (markCycle bytes at i))) g))))
-        (T-dec (anyBelow i (isMark bytes at (markStart bytes at i) (markCycle bytes at i)))))
-
     pub mark-seen : (getD now spot 0 ≡ 0 → ⊥) → Stood bytes at i
     mark-seen f =
-        let g = seen f in
-        let e = is-mark-elim (markStart bytes at i) (markCycle bytes at i) (g .at) (g .holds) in
-        record { earlier = g .at; before = g .below; same-start = e .0; same-cycle = e .1 }
+        let same = l .mark sᵢ eᵢ hs he in
+        let k = grade-mark bytes at sᵢ eᵢ i (let z : gradeAmong bytes at i sᵢ eᵢ ≡ 0 → ⊥ = λ q. f (same ∙ q) in omega arith) in
+        let e = is-mark-elim bytes at sᵢ eᵢ (k .index) (k .is-mark) in
+        record { earlier = k .index; before = k .below; same-start = e .0; same-cycle = e .1 }
 
-    -- and that of a new pair is 0
-    pub mark-new : getD now spot 0 ≡ 0 → (j : ℕ) → j < i → markStart bytes at j ≡ markStart bytes at i → markCycle bytes at j ≡ markCycle bytes at i → ⊥
-    unfolding marksAmong
-    mark-new z j h p q =
-        let t = any-intro i (isMark bytes at (markStart bytes at i) (markCycle bytes at i)) j h (is-mark-intro (markStart bytes at i) (markCycle bytes at i) j p q) in
-        let e : _≡_ {A = ℕ} 0 1 =
-        sym z ∙ l .mark (markStart bytes at i) (markCycle bytes at i) hs he ∙ ap oneIf (T-true (anyBelow i (isMark bytes at (markStart bytes at i) (markCycle bytes at i))) t) in
-        omega arith
+    -- and that of a new pair is 0, for no grade is
+    pub mark-new : ((j : ℕ) → j < i → 1 ≤ markGrade bytes at j) → getD now spot 0 ≡ 0
+        → (j : ℕ) → j < i → markStart bytes at j ≡ markStart bytes at i → markCycle bytes at j ≡ markCycle bytes at i → ⊥
+    mark-new some z j h p q =
+        omega (arith, l .mark sᵢ eᵢ hs he, grade-some bytes at sᵢ eᵢ i j some h (is-mark-intro bytes at sᵢ eᵢ j p q))
 
-    laid-at : (s e : ℕ) → s < n → e < n → Dec (spot ≡ s * 64 + e) → spot < length now → getD (set now spot 1) (s * 64 + e) 0 ≡ marksAmong bytes at (i + 1) s e
+    laid-at : (s e : ℕ) → s < n → e < n → Dec (spot ≡ s * 64 + e) → spot < length now
+        → getD (set now spot (markGrade bytes at i)) (s * 64 + e) 0 ≡ gradeAmong bytes at (i + 1) s e
     laid-at s e a b (yes p) h =
-        let (ps, pe) = pair-apart (markStart bytes at i) (markCycle bytes at i) s e (omega arith) (omega arith) p in
-        subst (λ (x : ℕ). getD (set now spot 1) x 0 ≡ 1) p (getD-set-same now spot 1 0 h) ∙ sym (among-this s e i ps pe)
+        let (ps, pe) = pair-apart sᵢ eᵢ s e (omega arith) (omega arith) p in
+        subst (λ (x : ℕ). getD (set now spot (markGrade bytes at i)) x 0 ≡ markGrade bytes at i) p (getD-set-same now spot (markGrade bytes at i) 0 h)
+        ∙ sym (grade-this bytes at s e i (is-mark-intro bytes at s e i ps pe))
     laid-at s e a b (no f) h =
-        getD-set-other now spot (s * 64 + e) 1 0 (λ g. f (sym g)) ∙ l .mark s e a b
-        ∙ sym (among-other s e i (λ g. f (ap (λ (x : ℕ). x * 64 + markCycle bytes at i) (g .0) ∙ ap (λ (x : ℕ). s * 64 + x) (g .1))))
+        getD-set-other now spot (s * 64 + e) (markGrade bytes at i) 0 (λ g. f (sym g)) ∙ l .mark s e a b
+        ∙ sym (grade-other bytes at s e i (λ t. let g = is-mark-elim bytes at s e i t in f (ap (λ (x : ℕ). x * 64 + eᵢ) (g .0) ∙ ap (λ (x : ℕ). s * 64 + x) (g .1))))
 
     -- the i-th mark is laid out
-    pub laid-next : spot < length now → MarksLaid (marksAmong bytes at (i + 1)) n entry (set now spot 1)
+    pub laid-next : spot < length now → MarksLaid (gradeAmong bytes at (i + 1)) n entry (set now spot (markGrade bytes at i))
     laid-next h = record {
-      same-length = length-set now spot 1 ∙ l .same-length;
+      same-length = length-set now spot (markGrade bytes at i) ∙ l .same-length;
       mark = λ s e a b. laid-at s e a b (ℕ-discrete spot (s * 64 + e)) h;
-      other = λ j f. getD-set-other now spot j 1 0 (λ g. f (markStart bytes at i) (markCycle bytes at i) hs he g) ∙ l .other j f;
+      other = λ j f. getD-set-other now spot j (markGrade bytes at i) 0 (λ g. f sᵢ eᵢ hs he g) ∙ l .other j f;
     }

@@ -1,5 +1,5 @@
 // The checks 7 and 8 of a marks section, mark by mark: each is linked and none stands twice. The marks that pass are laid out in a
-// lent table, a byte for each pair.
+// lent table, a byte for each pair: its grade.
 use answer::Refusal;
 use rule_table::product;
 ghost use Prim.Native.Nat.{_<_};
@@ -32,7 +32,7 @@ pub fn linked(rule: &[u8], n: usize, k: usize, s: usize, e: usize) -> bool
 }
 
 // Goes through the marks of the section at byte `at`, in file order: each is linked and new. A byte of the table for each pair
-// remembers which pairs have stood.
+// gets its grade, which is not 0, and so remembers which pairs have stood.
 pub fn mark_fault(
     rule: &[u8],
     n: usize,
@@ -48,9 +48,10 @@ pub fn mark_fault(
     ensures laid { λ r. ⌜ MarksAnswer (morphismAt (now (rule .entry)) n k) (now (bytes .entry)) at count (now (table .entry)) (now (table .exit)) r ⌝ }
 {
     for i in 0..count {
-        let place = at + (2 + 2 * i);
+        let place = at + (2 + 3 * i);
         let s = bytes[place] as usize;
         let e = bytes[place + 1] as usize;
+        let grade = bytes[place + 2];
         if !linked(rule, n, k, s, e) {
             return Fault::Refused {
                 refusal: Refusal::NotLinked,
@@ -63,7 +64,7 @@ pub fn mark_fault(
                 place,
             };
         }
-        table[s * 64 + e] = 1;
+        table[s * 64 + e] = grade;
     }
     Fault::Nothing
 }

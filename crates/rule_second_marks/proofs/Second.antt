@@ -10,17 +10,17 @@ use Rattle.answer.proofs.Order.{first-passes, first-fails, refused-before, pass
 use Rattle.formats.specs.Sections.{twoBytes, sectionChecks}
 use Rattle.sections.specs.Answers.{SectionPassed}
 use Rattle.formats.proofs.SectionList.{GoodAt, good-at}
-use Rattle.formats.proofs.MarkEntries.{starts-below, cycles-below}
+use Rattle.formats.proofs.MarkEntries.{starts-below, cycles-below, grades-within}
 use Rattle.theory.specs.Rules.{Morphism}
 use Rattle.formats.specs.Table.{morphismAt}
-use Rattle.formats.specs.RuleFile.{elementsOf, lettersOf, morphismOf, markWidth, marksSection, marksIn}
+use Rattle.formats.specs.RuleFile.{elementsOf, lettersOf, morphismOf, markWidth, marksSection, gradeAmong, marksIn}
 use Rattle.formats.specs.RuleChecks.{trailingCheck, markChecks, secondMarksChecks}
 use Rattle.rule_marks.specs.declared.Fault.{Fault}
 use Rattle.rule_marks.specs.declared.Fault.the-variants.{Nothing, Refused}
-use Rattle.rule_marks.specs.Faults.{FaultAnswer, MarksRoom, MarksLaid, MarksAnswer, marksAmong}
+use Rattle.rule_marks.specs.Faults.{FaultAnswer, MarksRoom, MarksLaid, MarksAnswer}
 use Rattle.rule_second_marks.specs.SecondMarks.{MarksSpace, SecondAnswer}
 
-module _ {n c : ℕ} {bytes : List ℕ} (p : SectionPassed (marksSection n) 0 bytes c) where
+module _ (n : ℕ) {c : ℕ} {bytes : List ℕ} (p : SectionPassed (marksSection n) 0 bytes c) where
   good : GoodAt (marksSection n) bytes 0
   good = good-at (marksSection n) 1 0 bytes (p .refusal 1)
 
@@ -36,6 +36,7 @@ module _ {n c : ℕ} {bytes : List ℕ} (p : SectionPassed (marksSection n) 0 by
     long = omega (arith, end-inside);
     starts = λ i h. starts-below good i (omega (arith, p .is-count));
     cycles = λ i h. cycles-below good i (omega (arith, p .is-count));
+    grades = λ i h. grades-within n good i (omega (arith, p .is-count));
     room = s .room;
     blank = s .blank;
   }
@@ -81,6 +82,6 @@ module _ (rule bytes : List ℕ) {n k : ℕ} (en : n ≡ elementsOf rule) (ek : 
 
     -- and are laid out
     pub second-laid : (entry exit : List ℕ) (answer : Fault) → MarksAnswer (morphismAt rule n k) bytes 0 c entry exit answer → SecondAnswer bytes n entry exit answer
-    unfolding marksAmong marksIn
-    second-laid entry exit Nothing l = subst (λ (x : ℕ). MarksLaid (marksAmong bytes 0 x) n entry exit) (p .is-count) l
+    unfolding marksIn
+    second-laid entry exit Nothing l = subst (λ (x : ℕ). MarksLaid (gradeAmong bytes 0 x) n entry exit) (p .is-count) l
     second-laid entry exit (Refused r place) l = l

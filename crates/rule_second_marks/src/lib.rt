@@ -13,7 +13,7 @@ ghost use Rattle.formats.specs.RuleChecks.{secondMarksChecks};
 ghost use Rattle.rule_marks.specs.Faults.{FaultAnswer};
 ghost use Rattle.rule_second_marks.specs.SecondMarks.{MarksSpace, SecondAnswer};
 
-// Checks the section, and lays its marks out in the blank table, a byte for each pair.
+// Checks the section, and lays its marks out in the blank table, the grade of each pair in its byte.
 pub fn second_marks(rule: &[u8], n: usize, k: usize, bytes: &[u8], table: &mut [u8]) -> Fault
     requires { ⌜ Table (now rule) n k ⌝ }
     requires { ⌜ (n ≡ elementsOf (now rule)) × (k ≡ lettersOf (now rule)) ⌝ }
@@ -27,7 +27,7 @@ pub fn second_marks(rule: &[u8], n: usize, k: usize, bytes: &[u8], table: &mut [
             return Fault::Refused { refusal, place };
         }
     };
-    let end = 2 + 2 * count;
+    let end = 2 + 3 * count;
     let rest = rest_after(bytes, end);
     if 0 < rest.len() {
         return Fault::Refused {

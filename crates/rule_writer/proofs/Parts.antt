@@ -1,4 +1,4 @@
--- From the parts of a file to the whole: a count before its entries, the marks' count before the pairs, and the three sections
+-- From the parts of a file to the whole: a count before its entries, the marks' count before the marks, and the three sections
 -- of a rule one after the other. Assumes nothing.
 use Prim.Native.Nat.{ℕ, _+_, _*_, _-_, _/_, _%_, _≤_}
 use mathlib.Core.Path.{_≡_, refl, ap, _∙_}
@@ -8,11 +8,12 @@ use native.Mathlib.Nat.{zero-add, mul-le-mul, div-add-mod'}
 use lib.ListN.{length, getD, take, drop, set, length-set, length-append}
 use lib.Seq.{length-take-le}
 use Rattle.theory.specs.Rules.{Morphism}
+use Rattle.formats.specs.RuleFile.{markWidth}
 use Rattle.formats.specs.RuleChecks.{ruleSize}
 use Rattle.formats.specs.WrittenFile.{elementsBytes, lettersBytes, marksBytes, fileOf}
 use Rattle.formats.specs.Front.{AtFront}
-use Rattle.rule_writer.specs.Writing.{placed, Written, tableMorphism, tableMarks, CopyNeeds, CountedNeeds, PairsNeeds, MarksNeeds, MarksWritten, RuleNeeds, tableFile}
-use Rattle.formats.proofs.Rows.{pairsFrom, section-is}
+use Rattle.rule_writer.specs.Writing.{placed, Written, tableMorphism, tableMarks, CopyNeeds, CountedNeeds, AllNeeds, MarksNeeds, MarksWritten, RuleNeeds, tableFile}
+use Rattle.formats.proofs.Rows.{marksFrom, section-is}
 use Rattle.formats.proofs.Tabulated.{tabulate-take}
 use Rattle.rule_writer.proofs.Placed.{written-store, written-length, written-more, written-front}
 use Rattle.formats.proofs.GoodSections.{file-short}
@@ -37,28 +38,28 @@ module _ {entries : List ℕ} {count size : ℕ} {before : List ℕ} {at : ℕ} 
     counted-end w = omega (arith, w .ends, length-take-le size entries (p .enough))
 
 module _ {marks : List ℕ} {n : ℕ} {before : List ℕ} {at : ℕ} (p : MarksNeeds marks n before at) where
-  -- where the pairs go, two bytes on
-  pub marks-place : PairsNeeds marks n before (at + 2)
+  -- where the marks go, two bytes on
+  pub marks-place : AllNeeds marks n before (at + 2)
   marks-place = record { table = p .table; room = omega (arith, p .room) }
 
-  module _ {after : List ℕ} {end : ℕ} (w : Written before (at + 2) (pairsFrom n (tableMarks marks) 0 (n * n)) after end) where
-    short : length (pairsFrom n (tableMarks marks) 0 (n * n)) ≤ 2 * (n * n)
+  module _ {after : List ℕ} {end : ℕ} (w : Written before (at + 2) (marksFrom n (tableMarks marks) 0 (n * n)) after end) where
+    short : length (marksFrom n (tableMarks marks) 0 (n * n)) ≤ markWidth * (n * n)
     short = stretch-short n (tableMarks marks) 0 (n * n)
 
     -- the buffer has kept its length
     pub marks-kept : length after ≡ length before
     marks-kept = written-length w (omega (arith, p .room, short))
 
-    -- half of what was written is as many as the pairs
-    pub marks-count : (end - (at + 2)) / 2 ≡ length (pairsFrom n (tableMarks marks) 0 (n * n)) / 2
-    marks-count = ap (λ (c : ℕ). c / 2) (let e : end - (at + 2) ≡ length (pairsFrom n (tableMarks marks) 0 (n * n)) = omega (arith, w .ends) in e)
+    -- a third of what was written is as many as the marks
+    pub marks-count : (end - (at + 2)) / markWidth ≡ length (marksFrom n (tableMarks marks) 0 (n * n)) / markWidth
+    marks-count = ap (λ (c : ℕ). c / markWidth) (let e : end - (at + 2) ≡ length (marksFrom n (tableMarks marks) 0 (n * n)) = omega (arith, w .ends) in e)
 
-    pub marks-count-small : (end - (at + 2)) / 2 ≤ 4096
+    pub marks-count-small : (end - (at + 2)) / markWidth ≤ 4096
     marks-count-small = omega (arith, w .ends, short, mul-le-mul (p .table .small) (p .table .small))
 
-    -- the count before the pairs
+    -- the count before the marks
     pub marks-written : MarksWritten marks n before at
-        (set (set after at ((end - (at + 2)) / 2 % 256)) (at + 1) ((end - (at + 2)) / 2 / 256)) end
+        (set (set after at ((end - (at + 2)) / markWidth % 256)) (at + 1) ((end - (at + 2)) / markWidth / 256)) end
     marks-written = record {
       section = λ m e.
           rw (section-is m (tableMarks marks) n e, marks-count)

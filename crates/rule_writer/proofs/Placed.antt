@@ -104,6 +104,13 @@ written-two d at a b h =
     in
     record { holds = w .holds; ends = refl }
 
+pub written-three : (d : List ℕ) (at a b c : ℕ) → at + 3 ≤ length d → Written d at (a ∷ b ∷ c ∷ []) (set (set (set d at a) (at + 1) b) (at + 2) c) (at + 3)
+written-three d at a b c h =
+    let w =
+    written-more (written-two d at a b (omega arith)) (written-store (set (set d at a) (at + 1) b) (at + 2) c (simp length-set (omega arith))) (omega arith)
+    in
+    record { holds = w .holds; ends = refl }
+
 -- two bytes were written before y
 pub written-front : {d e : List ℕ} {at end : ℕ} {y : List ℕ} → Written d (at + 2) y e end → at + (2 + length y) ≤ length d
     → (a b : ℕ) → Written d at (a ∷ b ∷ y) (set (set e at a) (at + 1) b) end

@@ -1,19 +1,19 @@
--- The marked pairs as far as they are written: of one row, pair by pair, and of all rows, row by row. Assumes nothing.
+-- The marks as far as they are written: of one row, pair by pair, and of all rows, row by row. Assumes nothing.
 use Prim.Native.Nat.{ℕ, _+_, _*_, _≤_, _<_}
 use mathlib.Core.Path.{_≡_, subst}
 use mathlib.Core.List.{List}
 use native.Mathlib.Omega.{arith}
 use native.Mathlib.Nat.{zero-add, zero-mul, mul-le-mul-right}
 use lib.ListN.{length}
-use Rattle.rule_writer.specs.Writing.{Written, tableMarks, pairIfMarked, PairNeeds, RowNeeds, PairsNeeds}
-use Rattle.formats.proofs.Rows.{pairsFrom}
+use Rattle.rule_writer.specs.Writing.{Written, tableMarks, markIfAny, MarkNeeds, RowNeeds, AllNeeds}
+use Rattle.formats.proofs.Rows.{marksFrom}
 use Rattle.rule_writer.proofs.Rows.{stretch-one, rows-start, rows-length, rows-room, rows-more}
 
 -- the first i pairs of the row s
 pub record RowSoFar (marks : List ℕ) (n s : ℕ) (before : List ℕ) (at : ℕ) (now : List ℕ) (next i : ℕ) : Type 0 where
   pub place : RowNeeds marks n s before at
   pub within : i ≤ n
-  pub written : Written before at (pairsFrom n (tableMarks marks) (s * n) i) now next
+  pub written : Written before at (marksFrom n (tableMarks marks) (s * n) i) now next
 
 pub row-start : {marks before : List ℕ} {n s at : ℕ} → RowNeeds marks n s before at → RowSoFar marks n s before at before at 0
 row-start {marks} {n = n} {s = s} p = record { place = p; within = omega arith; written = rows-start n (tableMarks marks) (s * n) }
@@ -23,7 +23,7 @@ module _ {marks before now : List ℕ} {n s at next i : ℕ} (r : RowSoFar marks
   row-length = rows-length n (tableMarks marks) (s * n) i (r .written) (omega (arith, r .place .room, r .within))
 
   -- where the next pair goes
-  pub row-place : i < n → PairNeeds marks s i now next
+  pub row-place : i < n → MarkNeeds marks s i now next
   row-place l = record {
     long = r .place .table .long;
     start-inside = omega (arith, r .place .inside, r .place .table .small);
@@ -32,7 +32,7 @@ module _ {marks before now : List ℕ} {n s at next i : ℕ} (r : RowSoFar marks
   }
 
   -- one pair more
-  pub row-next : i < n → {after : List ℕ} {end : ℕ} → Written now next (pairIfMarked (tableMarks marks) s i) after end
+  pub row-next : i < n → {after : List ℕ} {end : ℕ} → Written now next (markIfAny (tableMarks marks) s i) after end
       → RowSoFar marks n s before at after end (i + 1)
   row-next l v = record {
     place = r .place;
@@ -41,17 +41,17 @@ module _ {marks before now : List ℕ} {n s at next i : ℕ} (r : RowSoFar marks
   }
 
   -- the whole row
-  pub row-all : n ≤ i → Written before at (pairsFrom n (tableMarks marks) (s * n) n) now next
+  pub row-all : n ≤ i → Written before at (marksFrom n (tableMarks marks) (s * n) n) now next
   row-all l =
-      subst (λ (k : ℕ). Written before at (pairsFrom n (tableMarks marks) (s * n) k) now next) (let e : i ≡ n = omega (arith, r .within) in e) (r .written)
+      subst (λ (k : ℕ). Written before at (marksFrom n (tableMarks marks) (s * n) k) now next) (let e : i ≡ n = omega (arith, r .within) in e) (r .written)
 
 -- the first s rows
 pub record RowsSoFar (marks : List ℕ) (n : ℕ) (before : List ℕ) (at : ℕ) (now : List ℕ) (next s : ℕ) : Type 0 where
-  pub place : PairsNeeds marks n before at
+  pub place : AllNeeds marks n before at
   pub within : s ≤ n
-  pub written : Written before at (pairsFrom n (tableMarks marks) 0 (s * n)) now next
+  pub written : Written before at (marksFrom n (tableMarks marks) 0 (s * n)) now next
 
-pub rows-begin : {marks before : List ℕ} {n at : ℕ} → PairsNeeds marks n before at → RowsSoFar marks n before at before at 0
+pub rows-begin : {marks before : List ℕ} {n at : ℕ} → AllNeeds marks n before at → RowsSoFar marks n before at before at 0
 rows-begin {marks} {n = n} p = record { place = p; within = omega arith; written = rw (zero-mul n) (rows-start n (tableMarks marks) 0) }
 
 -- a row among n rows
@@ -73,7 +73,7 @@ module _ {marks before now : List ℕ} {n at next s : ℕ} (r : RowsSoFar marks 
   }
 
   -- one row more
-  pub rows-add : s < n → {after : List ℕ} {end : ℕ} → Written now next (pairsFrom n (tableMarks marks) (s * n) n) after end
+  pub rows-add : s < n → {after : List ℕ} {end : ℕ} → Written now next (marksFrom n (tableMarks marks) (s * n) n) after end
       → RowsSoFar marks n before at after end (s + 1)
   rows-add l v = record {
     place = r .place;
@@ -84,6 +84,6 @@ module _ {marks before now : List ℕ} {n at next s : ℕ} (r : RowsSoFar marks 
   }
 
   -- all rows
-  pub rows-all : n ≤ s → Written before at (pairsFrom n (tableMarks marks) 0 (n * n)) now next
+  pub rows-all : n ≤ s → Written before at (marksFrom n (tableMarks marks) 0 (n * n)) now next
   rows-all l =
-      subst (λ (k : ℕ). Written before at (pairsFrom n (tableMarks marks) 0 (k * n)) now next) (let e : s ≡ n = omega (arith, r .within) in e) (r .written)
+      subst (λ (k : ℕ). Written before at (marksFrom n (tableMarks marks) 0 (k * n)) now next) (let e : s ≡ n = omega (arith, r .within) in e) (r .written)

@@ -31,9 +31,9 @@ tableMorphism table images n k =
 unfoldable pub tableMarks : List ℕ → Marking
 tableMarks marks s e = getD marks (s * 64 + e) 0
 
--- the bytes of a pair where it is marked, and none where it is not
-unfoldable pub pairIfMarked : Marking → ℕ → ℕ → List ℕ
-pairIfMarked marks s e = cond (ltb 0 (marks s e)) (s ∷ e ∷ []) []
+-- the bytes of a pair and its grade where it is marked, and none where it is not
+unfoldable pub markIfAny : Marking → ℕ → ℕ → List ℕ
+markIfAny marks s e = cond (ltb 0 (marks s e)) (s ∷ e ∷ marks s e ∷ []) []
 
 -- `count` bytes to copy, and room for them at a place
 pub record CopyNeeds (from : List ℕ) (count : ℕ) (out : List ℕ) (at : ℕ) : Type 0 where
@@ -51,23 +51,23 @@ pub record MarksTable (marks : List ℕ) (n : ℕ) : Type 0 where
   pub small : n ≤ 64
   pub long : markTableSize ≤ length marks
 
--- a pair of elements in a table of marks, and room for its two bytes
-pub record PairNeeds (marks : List ℕ) (s e : ℕ) (out : List ℕ) (at : ℕ) : Type 0 where
+-- a pair of elements in a table of marks, and room for its bytes
+pub record MarkNeeds (marks : List ℕ) (s e : ℕ) (out : List ℕ) (at : ℕ) : Type 0 where
   pub long : markTableSize ≤ length marks
   pub start-inside : s < 64
   pub cycle-inside : e < 64
-  pub room : at + 2 ≤ length out
+  pub room : at + markWidth ≤ length out
 
--- a row of a table of marks, and room for all of its pairs
+-- a row of a table of marks, and room for all of its marks
 pub record RowNeeds (marks : List ℕ) (n s : ℕ) (out : List ℕ) (at : ℕ) : Type 0 where
   pub table : MarksTable marks n
   pub inside : s < n
-  pub room : at + 2 * n ≤ length out
+  pub room : at + markWidth * n ≤ length out
 
--- a table of marks, and room for all of its pairs
-pub record PairsNeeds (marks : List ℕ) (n : ℕ) (out : List ℕ) (at : ℕ) : Type 0 where
+-- a table of marks, and room for all of its marks
+pub record AllNeeds (marks : List ℕ) (n : ℕ) (out : List ℕ) (at : ℕ) : Type 0 where
   pub table : MarksTable marks n
-  pub room : at + 2 * (n * n) ≤ length out
+  pub room : at + markWidth * (n * n) ≤ length out
 
 -- a table of marks, and room for the longest marks' section of n elements
 pub record MarksNeeds (marks : List ℕ) (n : ℕ) (out : List ℕ) (at : ℕ) : Type 0 where

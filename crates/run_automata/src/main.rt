@@ -46,7 +46,7 @@ fn reduced_line(answer: Reduced, out: &[u8]) {
 
 fn member_line(answer: Membership) {
     match answer {
-        Membership::Decided { accepted, turns } => example_text::decided_line(accepted, turns),
+        Membership::Decided { grade, turns } => example_text::graded_line(grade, turns),
         Membership::Refused {
             refusal,
             input,
@@ -107,6 +107,7 @@ fn main() {
     run_all(
         b"M10: translate: 2 1 2 2 4 0 0 0 1 0 1 0 1 0 1 1 1 0\n\
         M10 reduced: reduce: 2 1 2 2 4 0 0 0 1 0 1 0 1 0 1 1 1 0\n\
+        M10, u 0, v 0: member: 2 1 2 2 4 0 0 0 1 0 1 0 1 0 1 1 1 0\n\
         M10, states exchanged: translate: 2 2 1 2 4 0 0 1 1 1 0 0 1 1 1 0 0 0\n\
         M10, states exchanged, reduced: reduce: 2 2 1 2 4 0 0 1 1 1 0 0 1 1 1 0 0 0\n\
         M10, letters exchanged: translate: 2 1 2 2 4 0 0 1 1 1 0 0 1 1 1 0 0 0\n\

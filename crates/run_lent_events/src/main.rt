@@ -89,26 +89,26 @@ fn main() {
     let mut scratch = [7u8; SCRATCH_SIZE];
     run_all(
         b"# Events of W from a fresh monitor on, a letter that is none of W's, and a rule that does not associate.\n\
-        W, 1: event: 2 0 0 0 1 2 0 1 1 0 0 0: 1\n\
-        W, 1: event: 2 0 0 0 1 2 0 1 1 0 0 0: 1\n\
-        W, 0: event: 2 0 0 0 1 2 0 1 1 0 0 0: 0\n\
-        W, 1: event: 2 0 0 0 1 2 0 1 1 0 0 0: 1\n\
-        W, 2: event: 2 0 0 0 1 2 0 1 1 0 0 0: 2\n\
+        W, 1: event: 2 0 0 0 1 2 0 1 1 0 0 0 3: 1\n\
+        W, 1: event: 2 0 0 0 1 2 0 1 1 0 0 0 3: 1\n\
+        W, 0: event: 2 0 0 0 1 2 0 1 1 0 0 0 3: 0\n\
+        W, 1: event: 2 0 0 0 1 2 0 1 1 0 0 0 3: 1\n\
+        W, 2: event: 2 0 0 0 1 2 0 1 1 0 0 0 3: 2\n\
         M8, 0: event: 2 1 0 0 0 1 0 0 0: 0\n\
         # Events of Z from a fresh monitor on, and from one that has seen a mark.\n\
         : put: 64: 64\n\
-        Z, 0: event: 2 0 1 1 0 2 1 0 1 0 0 0: 0\n\
-        Z, 0: event: 2 0 1 1 0 2 1 0 1 0 0 0: 0\n\
-        Z, 1: event: 2 0 1 1 0 2 1 0 1 0 0 0: 1\n\
-        Z, 255: event: 2 0 1 1 0 2 1 0 1 0 0 0: 255\n\
+        Z, 0: event: 2 0 1 1 0 2 1 0 1 0 0 0 3: 0\n\
+        Z, 0: event: 2 0 1 1 0 2 1 0 1 0 0 0 3: 0\n\
+        Z, 1: event: 2 0 1 1 0 2 1 0 1 0 0 0 3: 1\n\
+        Z, 255: event: 2 0 1 1 0 2 1 0 1 0 0 0 3: 255\n\
         : put: 1: 0\n\
-        Z, 0: event: 2 0 1 1 0 2 1 0 1 0 0 0: 0\n\
-        Z, 2: event: 2 0 1 1 0 2 1 0 1 0 0 0: 2\n\
+        Z, 0: event: 2 0 1 1 0 2 1 0 1 0 0 0 3: 0\n\
+        Z, 2: event: 2 0 1 1 0 2 1 0 1 0 0 0 3: 2\n\
         # Monitors with values that Z does not have.\n\
         : put: 2: 0\n\
-        Z, 0: event: 2 0 1 1 0 2 1 0 1 0 0 0: 0\n\
+        Z, 0: event: 2 0 1 1 0 2 1 0 1 0 0 0 3: 0\n\
         : put: 0: 65\n\
-        Z, 0: event: 2 0 1 1 0 2 1 0 1 0 0 0: 0\n",
+        Z, 0: event: 2 0 1 1 0 2 1 0 1 0 0 0 3: 0\n",
         &mut scratch,
     );
 }

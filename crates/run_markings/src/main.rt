@@ -86,7 +86,7 @@ fn inclusion_line(answer: Inclusion, u: &[u8], v: &[u8]) {
 
 fn verdict_line(answer: MonitorVerdict) {
     match answer {
-        MonitorVerdict::Decided { accepted, turns } => example_text::decided_line(accepted, turns),
+        MonitorVerdict::Decided { grade, turns } => example_text::graded_line(grade, turns),
         MonitorVerdict::Refused {
             refusal,
             input,
@@ -162,55 +162,74 @@ fn run_all(text: &[u8], scratch: &mut [u8]) {
 fn main() {
     let mut scratch = [7u8; SCRATCH_SIZE];
     run_all(
-        b"M1 W: list: 2 0 0 0 1 2 0 1 1 0 0 0\n\
-        M1 W: strength: 2 0 0 0 1 2 0 1 1 0 0 0\n\
-        M1 W: complement: 2 0 0 0 1 2 0 1 1 0 0 0\n\
-        M5, M6 Z: list: 2 0 1 1 0 2 1 0 1 0 0 0\n\
-        M5, M6 Z: strength: 2 0 1 1 0 2 1 0 1 0 0 0\n\
-        M5, M6 Z: complement: 2 0 1 1 0 2 1 0 1 0 0 0\n\
-        M7 Z with letter 0 only: list: 2 0 1 1 0 1 1 1 0 0 0\n\
-        M7 Z with letter 0 only: strength: 2 0 1 1 0 1 1 1 0 0 0\n\
-        M7 Z with letter 0 only: complement: 2 0 1 1 0 1 1 1 0 0 0\n\
+        b"M1 W: list: 2 0 0 0 1 2 0 1 1 0 0 0 3\n\
+        M1 W: strength: 2 0 0 0 1 2 0 1 1 0 0 0 3\n\
+        M1 W: complement: 2 0 0 0 1 2 0 1 1 0 0 0 3\n\
+        M5, M6 Z: list: 2 0 1 1 0 2 1 0 1 0 0 0 3\n\
+        M5, M6 Z: strength: 2 0 1 1 0 2 1 0 1 0 0 0 3\n\
+        M5, M6 Z: complement: 2 0 1 1 0 2 1 0 1 0 0 0 3\n\
+        M7 Z with letter 0 only: list: 2 0 1 1 0 1 1 1 0 0 0 3\n\
+        M7 Z with letter 0 only: strength: 2 0 1 1 0 1 1 1 0 0 0 3\n\
+        M7 Z with letter 0 only: complement: 2 0 1 1 0 1 1 1 0 0 0 3\n\
         # Letter 0 alone from some place on. The elements, both letters, letter 1, letter 0, are not numbered by first words, and the complement\n\
         # keeps them so; its marks stand by s, then by e, in whatever order the rule lists its own.\n\
-        letter 0 alone: complement: 3 0 0 0 0 1 0 0 0 2 2 2 1 2 0 2 2 0 2\n\
-        letter 0 alone, marks by s: complement: 3 0 0 0 0 1 0 0 0 2 2 2 1 2 0 0 2 2 2\n\
+        letter 0 alone: complement: 3 0 0 0 0 1 0 0 0 2 2 2 1 2 0 2 2 3 0 2 3\n\
+        letter 0 alone, marks by s: complement: 3 0 0 0 0 1 0 0 0 2 2 2 1 2 0 0 2 3 2 2 3\n\
+        # Grades 1, 2 and 3 on the linked pairs of W. Every lasso of Z with grades 1 and 2 has grade 1 or more, but equal values have grades 1 and 2.\n\
+        # With letter 0 only there is one endless word, and it has the higher grade.\n\
+        W with grades 1, 2, 3: strength: 2 0 0 0 1 2 0 1 3 0 0 0 1 0 1 2 1 1 3\n\
+        W with grades 1, 2, 3: complement: 2 0 0 0 1 2 0 1 3 0 0 0 1 0 1 2 1 1 3\n\
+        Z with grades 1 and 2: strength: 2 0 1 1 0 2 1 0 2 0 0 0 1 1 0 2\n\
+        Z with grades 1 and 2: complement: 2 0 1 1 0 2 1 0 2 0 0 0 1 1 0 2\n\
+        Z with letter 0 only, grade 2: strength: 2 0 1 1 0 1 1 1 0 0 0 2\n\
+        Z with letter 0 only, grade 2: complement: 2 0 1 1 0 1 1 1 0 0 0 2\n\
+        Z with letter 0 only, grades 1 and 2: strength: 2 0 1 1 0 1 1 2 0 0 0 1 1 0 2\n\
+        Z with letter 0 only, grades 1 and 2: complement: 2 0 1 1 0 1 1 2 0 0 0 1 1 0 2\n\
         M8: list: 2 1 0 0 0 1 0 0 0\n\
         M8: strength: 2 1 0 0 0 1 0 0 0\n\
         M8: complement: 2 1 0 0 0 1 0 0 0\n\
-        W in W with all pairs: inclusion: 2 0 0 0 1 2 0 1 1 0 0 0: 3 0 0 0 0 1 1 1\n\
-        W with all pairs in W: inclusion: 2 0 0 0 1 2 0 1 3 0 0 0 0 1 1 1: 1 0 0 0\n\
-        Z in no marks: inclusion: 2 0 1 1 0 2 1 0 1 0 0 0: 0 0\n\
-        second marks cut short: inclusion: 2 0 0 0 1 2 0 1 1 0 0 0: 1 0 0\n\
-        second marks not linked: inclusion: 2 0 0 0 1 2 0 1 1 0 0 0: 2 0 0 0 1 0\n\
-        W: verdict: 2 0 0 0 1 2 0 1 1 0 0 0: 1: 0\n\
-        W: verdict: 2 0 0 0 1 2 0 1 1 0 0 0: 0: 1\n\
-        W: verdict: 2 0 0 0 1 2 0 1 1 0 0 0: 64: 0\n\
-        W: verdict: 2 0 0 0 1 2 0 1 1 0 0 0: 64: 1\n\
-        W: verdict: 2 0 0 0 1 2 0 1 1 0 0 0: 0: 64\n\
-        W: verdict: 2 0 0 0 1 2 0 1 1 0 0 0: 64: 64\n\
-        W: verdict: 2 0 0 0 1 2 0 1 1 0 0 0: 2: 0\n\
-        Z: verdict: 2 0 1 1 0 2 1 0 1 0 0 0: 0: 0\n\
-        M7 Z with letter 0 only: verdict: 2 0 1 1 0 1 1 1 0 0 0: 0: 1\n\
-        M7 Z with letter 0 only: verdict: 2 0 1 1 0 1 1 1 0 0 0: 1: 0\n\
+        W in W with all pairs: inclusion: 2 0 0 0 1 2 0 1 1 0 0 0 3: 3 0 0 0 3 0 1 3 1 1 3\n\
+        W with all pairs in W: inclusion: 2 0 0 0 1 2 0 1 3 0 0 0 3 0 1 3 1 1 3: 1 0 0 0 3\n\
+        Z in no marks: inclusion: 2 0 1 1 0 2 1 0 1 0 0 0 3: 0 0\n\
+        a pair with 3 for 2: inclusion: 2 0 0 0 1 2 0 1 3 0 0 0 1 0 1 3 1 1 3: 3 0 0 0 1 0 1 2 1 1 3\n\
+        a pair with 2 for 3: inclusion: 2 0 0 0 1 2 0 1 3 0 0 0 1 0 1 2 1 1 3: 3 0 0 0 1 0 1 3 1 1 3\n\
+        second marks cut short: inclusion: 2 0 0 0 1 2 0 1 1 0 0 0 3: 1 0 0\n\
+        second marks not linked: inclusion: 2 0 0 0 1 2 0 1 1 0 0 0 3: 2 0 0 0 3 1 0 3\n\
+        second marks with a grade of 0: inclusion: 2 0 0 0 1 2 0 1 1 0 0 0 3: 1 0 0 0 0\n\
+        a second pair twice, with two grades: inclusion: 2 0 0 0 1 2 0 1 1 0 0 0 3: 2 0 0 0 3 0 0 1\n\
+        W: verdict: 2 0 0 0 1 2 0 1 1 0 0 0 3: 1: 0\n\
+        W: verdict: 2 0 0 0 1 2 0 1 1 0 0 0 3: 0: 1\n\
+        W: verdict: 2 0 0 0 1 2 0 1 1 0 0 0 3: 64: 0\n\
+        W: verdict: 2 0 0 0 1 2 0 1 1 0 0 0 3: 64: 1\n\
+        W: verdict: 2 0 0 0 1 2 0 1 1 0 0 0 3: 0: 64\n\
+        W: verdict: 2 0 0 0 1 2 0 1 1 0 0 0 3: 64: 64\n\
+        W: verdict: 2 0 0 0 1 2 0 1 1 0 0 0 3: 2: 0\n\
+        W with grades 1, 2, 3: verdict: 2 0 0 0 1 2 0 1 3 0 0 0 1 0 1 2 1 1 3: 1: 0\n\
+        W with grades 1, 2, 3: verdict: 2 0 0 0 1 2 0 1 3 0 0 0 1 0 1 2 1 1 3: 0: 1\n\
+        W with grades 1, 2, 3: verdict: 2 0 0 0 1 2 0 1 3 0 0 0 1 0 1 2 1 1 3: 64: 1\n\
+        Z with grades 1 and 2: verdict: 2 0 1 1 0 2 1 0 2 0 0 0 1 1 0 2: 0: 0\n\
+        Z with letter 0 only, grades 1 and 2: verdict: 2 0 1 1 0 1 1 2 0 0 0 1 1 0 2: 0: 1\n\
+        Z: verdict: 2 0 1 1 0 2 1 0 1 0 0 0 3: 0: 0\n\
+        M7 Z with letter 0 only: verdict: 2 0 1 1 0 1 1 1 0 0 0 3: 0: 1\n\
+        M7 Z with letter 0 only: verdict: 2 0 1 1 0 1 1 1 0 0 0 3: 1: 0\n\
         Z without marks: verdict: 2 0 1 1 0 2 1 0 0 0: 0: 1\n\
         # The remainders by 64 under addition, with one letter of image 1 and the mark (0, 0).\n\
-        cyclic group of 64: list: 64 sums 1 1 1 3*0\n\
-        cyclic group of 64: strength: 64 sums 1 1 1 3*0\n\
-        cyclic group of 64: complement: 64 sums 1 1 1 3*0\n\
-        cyclic group in no marks: inclusion: 64 sums 1 1 1 3*0: 0 0\n\
+        cyclic group of 64: list: 64 sums 1 1 1 3*0 3\n\
+        cyclic group of 64: strength: 64 sums 1 1 1 3*0 3\n\
+        cyclic group of 64: complement: 64 sums 1 1 1 3*0 3\n\
+        cyclic group in no marks: inclusion: 64 sums 1 1 1 3*0 3: 0 0\n\
         # Strong, and not closed. The verdict tries s + 1 states at each start value s, 2,080 in all.\n\
-        cyclic group of 64, 16 letters: list: 64 sums 16 16*1 1 3*0\n\
-        cyclic group of 64, 16 letters: strength: 64 sums 16 16*1 1 3*0\n\
-        cyclic group of 64, 16 letters: complement: 64 sums 16 16*1 1 3*0\n\
-        cyclic group of 64, 16 letters: verdict: 64 sums 16 16*1 1 3*0: 5: 7\n\
-        cyclic group of 64, 16 letters: verdict: 64 sums 16 16*1 1 3*0: 7: 48\n\
+        cyclic group of 64, 16 letters: list: 64 sums 16 16*1 1 3*0 3\n\
+        cyclic group of 64, 16 letters: strength: 64 sums 16 16*1 1 3*0 3\n\
+        cyclic group of 64, 16 letters: complement: 64 sums 16 16*1 1 3*0 3\n\
+        cyclic group of 64, 16 letters: verdict: 64 sums 16 16*1 1 3*0 3: 5: 7\n\
+        cyclic group of 64, 16 letters: verdict: 64 sums 16 16*1 1 3*0 3: 7: 48\n\
         cyclic group of 64 without marks: verdict: 64 sums 1 1 0 0: 0: 1\n\
         # Every letter with both remainders, and four of them again. The mark is that of the longer words with remainder 0.\n\
-        words and remainders by 2: list: 64 words 16 0 1 2 3 4 5 6 7 8 9 10 11 0 1 2 3 1 0 62 62\n\
-        words and remainders by 2: strength: 64 words 16 0 1 2 3 4 5 6 7 8 9 10 11 0 1 2 3 1 0 62 62\n\
-        words and remainders by 2: complement: 64 words 16 0 1 2 3 4 5 6 7 8 9 10 11 0 1 2 3 1 0 62 62\n\
-        words and remainders by 2 in no marks: inclusion: 64 words 16 0 1 2 3 4 5 6 7 8 9 10 11 0 1 2 3 1 0 62 62: 0 0\n",
+        words and remainders by 2: list: 64 words 16 0 1 2 3 4 5 6 7 8 9 10 11 0 1 2 3 1 0 62 62 3\n\
+        words and remainders by 2: strength: 64 words 16 0 1 2 3 4 5 6 7 8 9 10 11 0 1 2 3 1 0 62 62 3\n\
+        words and remainders by 2: complement: 64 words 16 0 1 2 3 4 5 6 7 8 9 10 11 0 1 2 3 1 0 62 62 3\n\
+        words and remainders by 2 in no marks: inclusion: 64 words 16 0 1 2 3 4 5 6 7 8 9 10 11 0 1 2 3 1 0 62 62 3: 0 0\n",
         &mut scratch,
     );
 }

@@ -28,7 +28,7 @@ fn monitor_line(line: &[u8], moved: Moved) -> Monitor {
 fn verdict_line(line: &[u8], answer: MonitorVerdict) {
     example_text::label(line);
     match answer {
-        MonitorVerdict::Decided { accepted, turns } => example_text::decided_line(accepted, turns),
+        MonitorVerdict::Decided { grade, turns } => example_text::graded_line(grade, turns),
         MonitorVerdict::Refused {
             refusal,
             input,
@@ -110,41 +110,41 @@ fn main() {
     let mut scratch = [7u8; SCRATCH_SIZE];
     run_all(
         b"# A log of W, kept as 7 after letter 1, a mark and letter 0; then a mark and letter 1; then back, twice.\n\
-        letter 1: event: 2 0 0 0 1 2 0 1 1 0 0 0: 1\n\
-        mark: mark: 2 0 0 0 1 2 0 1 1 0 0 0\n\
-        letter 0: event: 2 0 0 0 1 2 0 1 1 0 0 0: 0\n\
-        verdict: verdict: 2 0 0 0 1 2 0 1 1 0 0 0\n\
-        keep 7: keep: 2 0 0 0 1 2 0 1 1 0 0 0: 7\n\
-        mark: mark: 2 0 0 0 1 2 0 1 1 0 0 0\n\
-        letter 1: event: 2 0 0 0 1 2 0 1 1 0 0 0: 1\n\
-        verdict: verdict: 2 0 0 0 1 2 0 1 1 0 0 0\n\
-        keep 2: keep: 2 0 0 0 1 2 0 1 1 0 0 0: 2\n\
-        return 7: return: 2 0 0 0 1 2 0 1 1 0 0 0: 7\n\
-        verdict: verdict: 2 0 0 0 1 2 0 1 1 0 0 0\n\
-        letter 2: event: 2 0 0 0 1 2 0 1 1 0 0 0: 2\n\
-        return 7: return: 2 0 0 0 1 2 0 1 1 0 0 0: 7\n\
-        return 2: return: 2 0 0 0 1 2 0 1 1 0 0 0: 2\n\
-        verdict: verdict: 2 0 0 0 1 2 0 1 1 0 0 0\n\
+        letter 1: event: 2 0 0 0 1 2 0 1 1 0 0 0 3: 1\n\
+        mark: mark: 2 0 0 0 1 2 0 1 1 0 0 0 3\n\
+        letter 0: event: 2 0 0 0 1 2 0 1 1 0 0 0 3: 0\n\
+        verdict: verdict: 2 0 0 0 1 2 0 1 1 0 0 0 3\n\
+        keep 7: keep: 2 0 0 0 1 2 0 1 1 0 0 0 3: 7\n\
+        mark: mark: 2 0 0 0 1 2 0 1 1 0 0 0 3\n\
+        letter 1: event: 2 0 0 0 1 2 0 1 1 0 0 0 3: 1\n\
+        verdict: verdict: 2 0 0 0 1 2 0 1 1 0 0 0 3\n\
+        keep 2: keep: 2 0 0 0 1 2 0 1 1 0 0 0 3: 2\n\
+        return 7: return: 2 0 0 0 1 2 0 1 1 0 0 0 3: 7\n\
+        verdict: verdict: 2 0 0 0 1 2 0 1 1 0 0 0 3\n\
+        letter 2: event: 2 0 0 0 1 2 0 1 1 0 0 0 3: 2\n\
+        return 7: return: 2 0 0 0 1 2 0 1 1 0 0 0 3: 7\n\
+        return 2: return: 2 0 0 0 1 2 0 1 1 0 0 0 3: 2\n\
+        verdict: verdict: 2 0 0 0 1 2 0 1 1 0 0 0 3\n\
         : show\n\
         # A keep over a kept name.\n\
-        keep 7: keep: 2 0 0 0 1 2 0 1 1 0 0 0: 7\n\
-        return 7: return: 2 0 0 0 1 2 0 1 1 0 0 0: 7\n\
+        keep 7: keep: 2 0 0 0 1 2 0 1 1 0 0 0 3: 7\n\
+        return 7: return: 2 0 0 0 1 2 0 1 1 0 0 0 3: 7\n\
         : show\n\
         # A monitor that W does not have. First the rule's own refusals, then 15, then 16, then 3.\n\
         : put: 9: 9\n\
         M8, keep 8: keep: 2 1 0 0 0 1 0 0 0: 8\n\
-        keep 8: keep: 2 0 0 0 1 2 0 1 1 0 0 0: 8\n\
-        return 8: return: 2 0 0 0 1 2 0 1 1 0 0 0: 8\n\
-        return 0: return: 2 0 0 0 1 2 0 1 1 0 0 0: 0\n\
-        return 7: return: 2 0 0 0 1 2 0 1 1 0 0 0: 7\n\
-        keep 7: keep: 2 0 0 0 1 2 0 1 1 0 0 0: 7\n\
+        keep 8: keep: 2 0 0 0 1 2 0 1 1 0 0 0 3: 8\n\
+        return 8: return: 2 0 0 0 1 2 0 1 1 0 0 0 3: 8\n\
+        return 0: return: 2 0 0 0 1 2 0 1 1 0 0 0 3: 0\n\
+        return 7: return: 2 0 0 0 1 2 0 1 1 0 0 0 3: 7\n\
+        keep 7: keep: 2 0 0 0 1 2 0 1 1 0 0 0 3: 7\n\
         # A byte under a name never kept is not looked at, and one under a kept name is.\n\
         : put: 64: 64\n\
         : byte: 1: 9\n\
-        return 7: return: 2 0 0 0 1 2 0 1 1 0 0 0: 7\n\
+        return 7: return: 2 0 0 0 1 2 0 1 1 0 0 0 3: 7\n\
         : byte: 0: 255\n\
-        return 7: return: 2 0 0 0 1 2 0 1 1 0 0 0: 7\n\
-        keep 0: keep: 2 0 0 0 1 2 0 1 1 0 0 0: 0\n\
+        return 7: return: 2 0 0 0 1 2 0 1 1 0 0 0 3: 7\n\
+        keep 0: keep: 2 0 0 0 1 2 0 1 1 0 0 0 3: 0\n\
         : show\n",
         &mut points,
         &mut scratch,

@@ -5,7 +5,7 @@ use mathlib.Core.List.{List}
 use native.Mathlib.Omega.{arith}
 use lib.ListN.{getD}
 use lib.Dec.{leb}
-use Rattle.theory.specs.Rules.{Marking, level, marked}
+use Rattle.theory.specs.Rules.{Marking, level}
 use Rattle.scratch.specs.Map.{markTableSize, marksFrom, MarkingAt}
 
 -- a pair of the same mark is in the same levels
@@ -17,16 +17,15 @@ level-same least F G q = ap (leb least) q
 pub marking-itself : (n : ℕ) (bytes : List ℕ) (base : ℕ) → MarkingAt n (marksFrom bytes base) bytes base
 marking-itself n bytes base = record { same = λ s e hs he. refl }
 
+-- the mark of a pair in a table at the front
+pub front-mark : (bytes : List ℕ) (s e : ℕ) → getD bytes (s * 64 + e) 0 ≡ marksFrom bytes 0 s e
+unfolding marksFrom
+front-mark bytes s e = ap (λ (i : ℕ). getD bytes i 0) (let z : s * 64 + e ≡ 0 + (s * 64 + e) = omega arith in z)
+
 -- the levels of a marking that stands in a table are those of the table
 pub level-at : {n : ℕ} {F : Marking} {bytes : List ℕ} {base : ℕ} (least : ℕ) → MarkingAt n F bytes base → {s e : ℕ} → s < n → e < n
     → level least F s e ≡ level least (marksFrom bytes base) s e
 level-at {F = F} {bytes} {base} least t hs he = level-same least F (marksFrom bytes base) (t .same _ _ hs he)
-
--- and so are its marked pairs
-pub marked-at : {n : ℕ} {F : Marking} {bytes : List ℕ} {base : ℕ} → MarkingAt n F bytes base → {s e : ℕ} → s < n → e < n
-    → marked F s e ≡ marked (marksFrom bytes base) s e
-unfolding marked
-marked-at t hs he = level-at 1 t hs he
 
 -- a marking stays where the bytes of its table stay
 pub marking-kept : {n : ℕ} {F : Marking} {entry exit : List ℕ} (base : ℕ) → n ≤ 64

@@ -21,7 +21,7 @@ section-limited s input at rest inside =
     let h : s .high < countAt (s .width) rest → ⊥ = λ l. range .nowhere at (record { outside = inr l; is-place = refl }) in
     let l : countAt (s .width) rest ≤ s .high = omega arith in
     limited-cons (λ place (f : TruncatedAt _ _ _ place). inside _ place l (omega (arith, f .short, f .is-place)))
-    (λ full. limited-cons (λ place (f : EntryOutAt _ _ _ _ _ place). inside _ place l (omega (arith, f .below, f .is-place))) (λ none. limited-nil))))
+    (λ full. limited-cons (λ place (f : EntryOutAt _ _ _ _ _ _ place). inside _ place l (omega (arith, f .below, f .is-place))) (λ none. limited-nil))))
 
 -- for all counts in their ranges
 abbrev pub AllWithin : (ℕ → Type 0) → SectionList → ℕ → Type 0

@@ -23,7 +23,7 @@ module _ (s : Section) (at : ℕ) (rest : List ℕ) where
 
   -- after a good count the entries' answer is the section's
   pub by-entries : {count : ℕ} → CountGood (s .width) (s .low) (s .high) rest count → (answer : Counted)
-      → EntriesAnswer (countBytes (s .width)) (s .entries count) (s .bound count) at rest count answer → SectionAnswer s at rest answer
+      → EntriesAnswer (countBytes (s .width)) (s .entries count) (s .floor count) (s .bound count) at rest count answer → SectionAnswer s at rest answer
   by-entries g (Read result) k = record {
     is-count = k .is-count ∙ g .is-count;
     refusal = λ input. section-passes s input at rest g (k .good);
@@ -36,7 +36,7 @@ module _ (s : Section) (at : ℕ) (rest : List ℕ) where
   by-count none (Read count) g =
       by-entries g (Read count)
       (record {
-        good = record { present = omega (arith, none count, g .present); entries = record { below = λ i h. absurd (let z : ⊥ = omega (arith, none count) in z) } };
+        good = record { present = omega (arith, none count, g .present); entries = record { each = λ i h. absurd (let z : ⊥ = omega (arith, none count) in z) } };
         is-count = refl;
       })
   by-count none (Refused r place) f = λ input. section-count-refused s input at rest (f input)

@@ -9,7 +9,7 @@ use Rattle.sections.specs.declared.Found.the-variants.{At, Nothing}
 use Rattle.sections.specs.declared.Counted.{Counted}
 use Rattle.sections.specs.declared.Counted.the-variants.{Read, Refused}
 use Rattle.formats.specs.Sections.{CountWidth, Section, countAt, countChecks, entryChecks, sectionChecks}
-use Rattle.formats.proofs.Sections.{AllBelow, CountGood, EntriesGood, FirstOut}
+use Rattle.formats.proofs.Sections.{AllInRange, CountGood, EntriesGood, FirstOut}
 use Rattle.scratch.specs.Bytes.{UnchangedOutside}
 
 -- a part was filled with zeros, and nothing else changed
@@ -17,9 +17,10 @@ pub record PartZeroed (from to : ℕ) (entry exit : List ℕ) : Type 0 where
   pub zeros : (i : ℕ) → from ≤ i → i < to → getD exit i 0 ≡ 0
   pub outside : UnchangedOutside from to entry exit
 
-abbrev pub FoundOut : List ℕ → ℕ → ℕ → (ℕ → ℕ) → Found → Type 0
-FoundOut bytes from count bound (At i) = FirstOut bytes from count bound i
-FoundOut bytes from count bound Nothing = AllBelow bytes from count bound
+-- the first byte out of its range, or all are in theirs
+abbrev pub FoundOut : List ℕ → ℕ → ℕ → (ℕ → ℕ) → (ℕ → ℕ) → Found → Type 0
+FoundOut bytes from count floor bound (At i) = FirstOut bytes from count floor bound i
+FoundOut bytes from count floor bound Nothing = AllInRange bytes from count floor bound
 
 -- reading a count: the count, or the first of its checks that fails, whatever the number of the input
 abbrev pub CountAnswer : CountWidth → ℕ → ℕ → ℕ → List ℕ → Counted → Type 0
@@ -27,14 +28,14 @@ CountAnswer width low high at rest (Read count) = CountGood width low high rest 
 CountAnswer width low high at rest (Refused refusal place) = (input : ℕ) → FirstFailure (countChecks width low high input at rest) (refused refusal input place)
 
 -- passing entries: the count that was read is handed on
-pub record EntriesRead (from size : ℕ) (bound : ℕ → ℕ) (rest : List ℕ) (count result : ℕ) : Type 0 where
-  pub good : EntriesGood from size bound rest
+pub record EntriesRead (from size : ℕ) (floor bound : ℕ → ℕ) (rest : List ℕ) (count result : ℕ) : Type 0 where
+  pub good : EntriesGood from size floor bound rest
   pub is-count : result ≡ count
 
-abbrev pub EntriesAnswer : ℕ → ℕ → (ℕ → ℕ) → ℕ → List ℕ → ℕ → Counted → Type 0
-EntriesAnswer from size bound at rest count (Read result) = EntriesRead from size bound rest count result
-EntriesAnswer from size bound at rest count (Refused refusal place) =
-    (input : ℕ) → FirstFailure (entryChecks from size bound input at rest) (refused refusal input place)
+abbrev pub EntriesAnswer : ℕ → ℕ → (ℕ → ℕ) → (ℕ → ℕ) → ℕ → List ℕ → ℕ → Counted → Type 0
+EntriesAnswer from size floor bound at rest count (Read result) = EntriesRead from size floor bound rest count result
+EntriesAnswer from size floor bound at rest count (Refused refusal place) =
+    (input : ℕ) → FirstFailure (entryChecks from size floor bound input at rest) (refused refusal input place)
 
 -- a section that passes: its count
 pub record SectionPassed (section : Section) (at : ℕ) (rest : List ℕ) (count : ℕ) : Type 0 where

@@ -5,7 +5,7 @@ ghost use mathlib.Core.Path.{_≡_};
 ghost use Prim.Native.Nat.{_+_, _≤_, _<_, _^_};
 ghost use lib.ListN.{length, replicate};
 ghost use Rattle.formats.specs.Sections.{one-byte, two-byte};
-ghost use Rattle.formats.proofs.Sections.{AllBelow};
+ghost use Rattle.formats.proofs.Sections.{AllInRange};
 ghost use Rattle.sections.specs.Answers.{PartZeroed, FoundOut, CountAnswer, EntriesAnswer};
 
 // Fills a part of a lent buffer with zeros.
@@ -27,7 +27,7 @@ pub fn zero(s: &mut [u8])
 }
 
 // The greater of two bytes.
-fn greater(x: u8, y: u8) -> u8
+pub fn greater(x: u8, y: u8) -> u8
     ensures { λ r. ⌜ (x ≤ r) × (y ≤ r) ⌝ }
 {
     if x < y {
@@ -39,7 +39,7 @@ fn greater(x: u8, y: u8) -> u8
 // A byte that none of some bytes is above.
 pub fn greatest(s: &[u8], from: usize, count: usize) -> u8
     requires { ⌜ from + count ≤ length (now s) ⌝ }
-    ensures { λ r. ⌜ AllBelow (now (s .entry)) from count (λ i. r + 1) ⌝ }
+    ensures { λ r. ⌜ AllInRange (now (s .entry)) from count (λ i. 0) (λ i. r + 1) ⌝ }
 {
     let mut top = 0u8;
     for i in 0..count {
@@ -58,7 +58,7 @@ pub enum Found {
 // The same, byte by byte.
 fn scan_out(s: &[u8], from: usize, count: usize, bound: usize) -> Found
     requires { ⌜ from + count ≤ length (now s) ⌝ }
-    ensures { λ r. ⌜ FoundOut (now (s .entry)) from count (λ i. bound) r ⌝ }
+    ensures { λ r. ⌜ FoundOut (now (s .entry)) from count (λ i. 0) (λ i. bound) r ⌝ }
 {
     for i in 0..count {
         if bound <= s[from + i] as usize {
@@ -71,7 +71,7 @@ fn scan_out(s: &[u8], from: usize, count: usize, bound: usize) -> Found
 // Mostly there is none, and the greatest of the bytes tells so faster than a search.
 pub fn first_out(s: &[u8], from: usize, count: usize, bound: usize) -> Found
     requires { ⌜ from + count ≤ length (now s) ⌝ }
-    ensures { λ r. ⌜ FoundOut (now (s .entry)) from count (λ i. bound) r ⌝ }
+    ensures { λ r. ⌜ FoundOut (now (s .entry)) from count (λ i. 0) (λ i. bound) r ⌝ }
 {
     let top = greatest(s, from, count) as usize;
     if top < bound {
@@ -153,7 +153,7 @@ pub fn entries(
 ) -> Counted
     requires { ⌜ at + length (now rest) < 2 ^ 64 ⌝ }
     requires { ⌜ from + size < 2 ^ 64 ⌝ }
-    ensures { λ r. ⌜ EntriesAnswer from size (λ i. bound) at (now (rest .entry)) count r ⌝ }
+    ensures { λ r. ⌜ EntriesAnswer from size (λ i. 0) (λ i. bound) at (now (rest .entry)) count r ⌝ }
 {
     if rest.len() < from + size {
         return cut(rest, at);

@@ -10,9 +10,10 @@ use Rattle.answer.specs.declared.Refusal.{Refusal}
 use Rattle.answer.specs.declared.Refusal.the-variants.{BufferTooShort}
 use Rattle.answer.specs.Checks.{passed, FirstFailure}
 use Rattle.answer.proofs.Order.{first-passes, none-left, passed-before, passed-last, passes-head, passes-tail}
-use Rattle.theory.specs.Acceptance.{Strong}
-use Rattle.theory.proofs.Included.{strong-dec}
-use Rattle.formats.specs.RuleFile.{morphismOf, pairsOf}
+use Rattle.theory.specs.Grades.{StrongMarking}
+use Rattle.theory.proofs.GradedStrength.{marking-strong-dec}
+use Rattle.rule_check.proofs.CheckedRule.{graded-marks}
+use Rattle.formats.specs.RuleFile.{morphismOf, markingOf}
 use Rattle.formats.specs.RuleChecks.{ruleSize, scratchSize}
 use Rattle.formats.proofs.Buffers.{buffer-short, buffer-long, buffer-single}
 use Rattle.promises.specs.declared.Inspected.{Inspected}
@@ -40,10 +41,10 @@ use Rattle.summary.specs.Steps.{CheckedNeeds, SizeFound, Measured}
 use Rattle.summary.proofs.Passing.{not-refused}
 
 -- a good rule that is not weak is strong, since strength is decided
-strong-of : {bytes : List ℕ} → GoodRule bytes → ((Strong (morphismOf bytes) (pairsOf bytes) → ⊥) → ⊥) → Strong (morphismOf bytes) (pairsOf bytes)
-strong-of {bytes} good h = go (strong-dec (good .lawful) (good .linked) (good .reached))
+strong-of : {bytes : List ℕ} → GoodRule bytes → ((StrongMarking (morphismOf bytes) (markingOf bytes) → ⊥) → ⊥) → StrongMarking (morphismOf bytes) (markingOf bytes)
+strong-of {bytes} good h = go (marking-strong-dec (good .lawful) (graded-marks good) (good .reached))
   where
-    go : Dec (Strong (morphismOf bytes) (pairsOf bytes)) → Strong (morphismOf bytes) (pairsOf bytes)
+    go : Dec (StrongMarking (morphismOf bytes) (markingOf bytes)) → StrongMarking (morphismOf bytes) (markingOf bytes)
     go (yes strong) = strong
     go (no weak) = absurd (h weak)
 
@@ -98,7 +99,7 @@ module _ {bytes work entry : List ℕ} (p : CheckedNeeds bytes work entry) where
         }
 
     -- a strong rule passes every check of a reduction
-    all-pass : Strong (morphismOf bytes) (pairsOf bytes) → FirstFailure (reduceChecks bytes work entry) passed
+    all-pass : StrongMarking (morphismOf bytes) (markingOf bytes) → FirstFailure (reduceChecks bytes work entry) passed
     all-pass strong =
         buffer-long (p .room)
         (passed-before (checkedChecks 1 bytes entry) (weakCheck 1 bytes ∷ []) (p .passes) (first-passes (record { nowhere = λ place w. w .weak strong }) none-left))

@@ -1,4 +1,4 @@
--- What empty starts change: nothing. For every rule and rival, strong, same lassos and smallest say the same whether lassos with an
+-- What empty starts change: nothing. For every rule and rival, strong, same grades and smallest say the same whether lassos with an
 -- empty start count or not, and so does inclusion (document 02, Job 4). The definitions of before stand here, by the lassos whose start
 -- has a letter. Also the lassos of a cycle alone. Assumes nothing.
 use Prim.Native.Nat.{ℕ, _≤_}
@@ -6,23 +6,29 @@ use mathlib.Core.Path.{_≡_, refl, ap, _∙_}
 use mathlib.Core.Logic.{_↔_}
 use mathlib.Core.List.{List, []}
 use Rattle.theory.specs.Words.{over-nil}
-use Rattle.theory.specs.Rules.{Morphism, Pairs, Rule, none, element, value, marked, ValueWord}
-use Rattle.theory.specs.Acceptance.{Accepts, Strong, RuleAccepts}
-use Rattle.theory.specs.Inclusion.{Included}
-use Rattle.theory.specs.Smallest.{SameLassos, LassosAccepted, LassosNotAccepted, Renumbered, Smallest}
+use Rattle.theory.specs.Rules.{Morphism, Pairs, Marking, Rule, level, none, element, value, ValueWord}
+use Rattle.theory.specs.Acceptance.{Accepts, Strong}
+use Rattle.theory.specs.Grades.{AtLeast, StrongMarking, LassosGraded}
+use Rattle.theory.specs.Smallest.{SameGrades, Renumbered, Smallest}
+use Rattle.theory.specs.Inclusion.{Included, IncludedGrades}
 use Rattle.theory.proofs.Starts.{Started, started-lasso, start-or-turn, first-value, lasso-started, value-started, equal-started}
+use Rattle.theory.proofs.Gradings.{graded-same}
 use Rattle.theory.proofs.Strength.{started-accepts}
 
 pub record StrongStarted (m : Morphism) (P : Pairs) : Type 0 where
   pub both-or-neither : (u v u′ v′ : List ℕ) → Started (m .letters) u v → Started (m .letters) u′ v′
       → value m u ≡ value m u′ → value m v ≡ value m v′ → Accepts m P u v ↔ Accepts m P u′ v′
 
+pub record StrongMarkingStarted (m : Morphism) (marks : Marking) : Type 0 where
+  pub at-each : (g : ℕ) → 1 ≤ g → StrongStarted m (level g marks)
+
 abbrev pub RuleStrongStarted : Rule → Type 0
-RuleStrongStarted r = StrongStarted (r .morphism) (marked (r .marks))
+RuleStrongStarted r = StrongMarkingStarted (r .morphism) (r .marks)
 
 pub record SameStarted (r r′ : Rule) : Type 0 where
   pub same-letters : r .morphism .letters ≡ r′ .morphism .letters
-  pub both-or-neither : (u v : List ℕ) → Started (r .morphism .letters) u v → RuleAccepts r u v ↔ RuleAccepts r′ u v
+  pub both-or-neither : (g : ℕ) → 1 ≤ g → (u v : List ℕ) → Started (r .morphism .letters) u v
+      → AtLeast (r .morphism) (r .marks) g u v ↔ AtLeast (r′ .morphism) (r′ .marks) g u v
 
 pub record SmallestStarted (r : Rule) : Type 0 where
   pub strong : RuleStrongStarted r
@@ -33,6 +39,9 @@ pub record SmallestStarted (r : Rule) : Type 0 where
 
 pub record IncludedStarted (m : Morphism) (P P′ : Pairs) : Type 0 where
   pub accepted-too : (u v : List ℕ) → Started (m .letters) u v → Accepts m P u v → Accepts m P′ u v
+
+pub record IncludedGradesStarted (m : Morphism) (marks marks′ : Marking) : Type 0 where
+  pub at-each : (g : ℕ) → 1 ≤ g → IncludedStarted m (level g marks) (level g marks′)
 
 -- strong: lassos with equal values have equal values with a turn of the cycle for an empty start
 pub strong-from-started : {m : Morphism} {P : Pairs} → StrongStarted m P → Strong m P
@@ -49,50 +58,65 @@ strong-to-started s = record {
   both-or-neither = λ u v u′ v′ l l′ eu ev. s .both-or-neither u v u′ v′ (started-lasso l) (started-lasso l′) eu ev;
 }
 
-pub strong-same : {m : Morphism} {P : Pairs} → Strong m P ↔ StrongStarted m P
-strong-same = (strong-to-started, strong-from-started)
+marking-from-started : {m : Morphism} {marks : Marking} → StrongMarkingStarted m marks → StrongMarking m marks
+marking-from-started s = record { at-each = λ g some. strong-from-started (s .at-each g some) }
 
--- same lassos
-pub same-from-started : (r r′ : Rule) → SameStarted r r′ → SameLassos r r′
+marking-to-started : {m : Morphism} {marks : Marking} → StrongMarking m marks → StrongMarkingStarted m marks
+marking-to-started s = record { at-each = λ g some. strong-to-started (s .at-each g some) }
+
+pub strong-same : {m : Morphism} {marks : Marking} → StrongMarking m marks ↔ StrongMarkingStarted m marks
+strong-same = (marking-to-started, marking-from-started)
+
+-- same grades
+pub same-from-started : (r r′ : Rule) → SameStarted r r′ → SameGrades r r′
 same-from-started r r′ s = record {
   same-letters = s .same-letters;
-  both-or-neither = λ u v l.
-      (let both = s .both-or-neither (start-or-turn u v) v (lasso-started l) in
-      let ours = started-accepts {m = r .morphism} {P = marked (r .marks)} u v (l .cycle-some) in
-      let theirs = started-accepts {m = r′ .morphism} {P = marked (r′ .marks)} u v (l .cycle-some) in
+  both-or-neither = λ g some u v l.
+      (let both = s .both-or-neither g some (start-or-turn u v) v (lasso-started l) in
+      let ours = started-accepts {m = r .morphism} {P = level g (r .marks)} u v (l .cycle-some) in
+      let theirs = started-accepts {m = r′ .morphism} {P = level g (r′ .marks)} u v (l .cycle-some) in
       (λ a. theirs .0 (both .0 (ours .1 a)), λ a. ours .0 (both .1 (theirs .1 a))));
 }
 
-pub same-to-started : (r r′ : Rule) → SameLassos r r′ → SameStarted r r′
-same-to-started r r′ s = record { same-letters = s .same-letters; both-or-neither = λ u v l. s .both-or-neither u v (started-lasso l) }
+pub same-to-started : (r r′ : Rule) → SameGrades r r′ → SameStarted r r′
+same-to-started r r′ s = record {
+  same-letters = s .same-letters;
+  both-or-neither = λ g some u v l. s .both-or-neither g some u v (started-lasso l);
+}
 
-pub same-lassos-same : (r r′ : Rule) → SameLassos r r′ ↔ SameStarted r r′
-same-lassos-same r r′ = (same-to-started r r′, same-from-started r r′)
+pub same-grades-same : (r r′ : Rule) → SameGrades r r′ ↔ SameStarted r r′
+same-grades-same r r′ = (same-to-started r r′, same-from-started r r′)
 
 -- smallest: the rivals are the same
 pub smallest-same : (r : Rule) → Smallest r ↔ SmallestStarted r
 smallest-same r = (
   λ s. record {
-    strong = strong-to-started (s .strong);
-    at-least = λ rival strong same. s .at-least rival (strong-from-started strong) (same-from-started r rival same);
-    copy = λ rival strong same sizes. s .copy rival (strong-from-started strong) (same-from-started r rival same) sizes;
+    strong = marking-to-started (s .strong);
+    at-least = λ rival strong same. s .at-least rival (marking-from-started strong) (same-from-started r rival same);
+    copy = λ rival strong same sizes. s .copy rival (marking-from-started strong) (same-from-started r rival same) sizes;
   },
   λ s. record {
-    strong = strong-from-started (s .strong);
-    at-least = λ rival strong same. s .at-least rival (strong-to-started strong) (same-to-started r rival same);
-    copy = λ rival strong same sizes. s .copy rival (strong-to-started strong) (same-to-started r rival same) sizes;
+    strong = marking-from-started (s .strong);
+    at-least = λ rival strong same. s .at-least rival (marking-to-started strong) (same-to-started r rival same);
+    copy = λ rival strong same sizes. s .copy rival (marking-to-started strong) (same-to-started r rival same) sizes;
   },
 )
 
 -- inclusion: its verdict is what it was
-pub included-same : {m : Morphism} {P P′ : Pairs} → Included m P P′ ↔ IncludedStarted m P P′
-included-same {m} {P} {P′} = (
-  λ i. record { accepted-too = λ u v l a. i .accepted-too u v (started-lasso l) a },
-  λ i. record {
-    accepted-too = λ u v l a.
-        started-accepts u v (l .cycle-some) .0
-        (i .accepted-too (start-or-turn u v) v (lasso-started l) (started-accepts u v (l .cycle-some) .1 a));
-  },
+included-to-started : {m : Morphism} {P P′ : Pairs} → Included m P P′ → IncludedStarted m P P′
+included-to-started i = record { accepted-too = λ u v l a. i .accepted-too u v (started-lasso l) a }
+
+included-from-started : {m : Morphism} {P P′ : Pairs} → IncludedStarted m P P′ → Included m P P′
+included-from-started i = record {
+  accepted-too = λ u v l a.
+      started-accepts u v (l .cycle-some) .0
+      (i .accepted-too (start-or-turn u v) v (lasso-started l) (started-accepts u v (l .cycle-some) .1 a));
+}
+
+pub included-same : {m : Morphism} {marks marks′ : Marking} → IncludedGrades m marks marks′ ↔ IncludedGradesStarted m marks marks′
+included-same = (
+  λ i. record { at-each = λ g some. included-to-started (i .at-each g some) },
+  λ i. record { at-each = λ g some. included-from-started (i .at-each g some) },
 )
 
 -- ---- the lassos of a cycle alone
@@ -107,21 +131,12 @@ turn-value : (m : Morphism) (u v : List ℕ) {e : ℕ} → value m u ≡ none �
 unfolding first-value
 turn-value m u v eu ev = value-started m u v ∙ ap (λ x. first-value x (value m v)) eu ∙ ev
 
--- they are accepted where those with the cycle's value in the start too are, and not accepted where those are not
-pub cycle-accepted : {m : Morphism} {P : Pairs} {e : ℕ} → LassosAccepted m P (element e) e → LassosAccepted m P none e
-cycle-accepted {m} k = record {
+-- they have the grade of those with the cycle's value in the start too
+pub cycle-graded : {m : Morphism} {marks : Marking} {e g : ℕ} → LassosGraded m marks (element e) e g → LassosGraded m marks none e g
+cycle-graded {m} {marks} k = record {
   start = no-word m;
   cycle = k .cycle;
-  accepted = λ u v l eu ev.
-      started-accepts u v (l .cycle-some) .0
-      (k .accepted (start-or-turn u v) v (started-lasso (lasso-started l)) (turn-value m u v eu ev) ev);
-}
-
-pub cycle-not-accepted : {m : Morphism} {P : Pairs} {e : ℕ} → LassosNotAccepted m P (element e) e → LassosNotAccepted m P none e
-cycle-not-accepted {m} k = record {
-  start = no-word m;
-  cycle = k .cycle;
-  not-accepted = λ u v l eu ev a.
-      k .not-accepted (start-or-turn u v) v (started-lasso (lasso-started l)) (turn-value m u v eu ev) ev
-      (started-accepts u v (l .cycle-some) .1 a);
+  graded = λ u v l eu ev.
+      graded-same (λ i some. started-accepts {m = m} {P = level i marks} u v (l .cycle-some))
+      (k .graded (start-or-turn u v) v (started-lasso (lasso-started l)) (turn-value m u v eu ev) ev);
 }

@@ -1,22 +1,25 @@
--- What the definitions of tables, levels, lassos, acceptance, pairs, counts and inclusion leave out: for each a case that it
--- excludes, and for one that asks several things a case for each. Assumes nothing.
-use Prim.Native.Nat.{ℕ, zero, suc}
+-- What the definitions of tables, levels, lassos, acceptance, pairs, counts, grades, strength and inclusion leave out: for each a case
+-- that it excludes, and for one that asks several things a case for each. Assumes nothing.
+use Prim.Native.Nat.{ℕ, zero, suc, _≤_}
 use mathlib.Core.Path.{_≡_, refl, sym, subst}
 use mathlib.Core.List.{List, [], _∷_}
 use native.Mathlib.Omega.{arith}
 use lib.Dec.{T}
 use Rattle.theory.specs.Words.{Over, over-cons, Lasso}
-use Rattle.theory.specs.Rules.{Morphism, Lawful, Pairs, level, marked, Value, none, element, join, value, WordOf, AllReached}
-use Rattle.theory.specs.Acceptance.{Accepts}
+use Rattle.theory.specs.Rules.{Morphism, Lawful, Pairs, Marking, level, Value, none, element, join, value, WordOf, AllReached}
+use Rattle.theory.specs.Acceptance.{Accepts, Strong}
 use Rattle.theory.specs.Pairs.{Idempotent, power, HasIdempotentPower, LeastExponent, TurnsOf, Linked, LinkedOnly, Conjugate, LeastConjugate, Counted, counted-none, counted-one, counted-other, ClassCounts}
-use Rattle.theory.specs.Inclusion.{Included, Witness}
+use Rattle.theory.specs.Grades.{AtLeast, Graded, StrongMarking, LassosGraded, LinkedGraded}
+use Rattle.theory.specs.Inclusion.{Included, Witness, IncludedGrades, HigherGraded}
 use Rattle.theory.proofs.Values.{element-same, element-apart}
 use Rattle.theory.proofs.IdempotentPowers.{one-turns}
 use Rattle.theory.proofs.ShortWords.{reached-intro}
-use Rattle.theory.proofs.TableTests.{conjugate-intro, least-intro, least-elim, counted-same}
-use Rattle.theory.proofs.Computing.{computing, lasso-elim}
-use Rattle.theory.proofs.SmallRules.{entry, table, marks, meet-rows, W, Z, W₀, no-marks, first-mark, Z-sound, W₀-lawful, stray-rule}
-use Rattle.theory.proofs.Examples.{W-accepts, W-refuses}
+use Rattle.theory.proofs.Included.{included-elim, strong-test-elim, strong-test-intro}
+use Rattle.theory.proofs.Gradings.{level-down, level-linked, one-grade, included-grade, higher-graded}
+use Rattle.theory.proofs.TableTests.{linked-only-elim, conjugate-intro, least-intro, least-elim, counted-same}
+use Rattle.theory.proofs.Computing.{computing, lasso-elim, graded-is}
+use Rattle.theory.proofs.SmallRules.{entry, table, marks, meet-rows, W, Z, W₀, no-marks, first-mark, three-grades, lower-grade, two-grades, W-sound, W-graded-grades, W-lower-grades, Z-sound, W₀-lawful, stray-rule}
+use Rattle.theory.proofs.Examples.{W-accepts, W-refuses, graded-zeros, graded-ones, lower-zeros, Z-ones, Z-zeros}
 
 -- M8: a table that is not associative; one that is not closed; a letter that has no element
 pub not-associative : ¬ Lawful (table ((1 ∷ 0 ∷ []) ∷ (0 ∷ 0 ∷ []) ∷ []) (0 ∷ []))
@@ -39,16 +42,20 @@ no-word = reached-intro W₀-lawful
 pub stray-unreached : ¬ AllReached (stray-rule .morphism)
 stray-unreached r = no-word (r .word-of 1 (omega arith))
 
-pub stray-unlinked : ¬ LinkedOnly (stray-rule .morphism) (marked (stray-rule .marks))
+pub stray-unlinked : ¬ LinkedOnly (stray-rule .morphism) (level 1 (stray-rule .marks))
 unfolding computing
 stray-unlinked l =
     let e : _≡_ {A = ℕ} 0 1 = l .linked 1 0 (omega arith) (omega arith) tt .stays in
     omega arith
 
--- a mark of number 1 is in the first level and not in the second, and a pair of number 0 is not marked
-pub not-second-level : ¬ T (level 2 (entry first-mark) 0 0)
+-- a pair of grade 1 is not in the second level, one of grade 2 not in the third, and one of grade 0 not in the first
+pub not-second-level : ¬ T (level 2 (entry three-grades) 0 1)
 unfolding computing
 not-second-level t = t
+
+pub not-third-level : ¬ T (level 3 (entry three-grades) 1 1)
+unfolding computing
+not-third-level t = t
 
 pub not-marked : ¬ T (marks first-mark 0 1)
 unfolding computing
@@ -83,9 +90,8 @@ foreign-letter l = go (l .start-over)
 pub no-cycle : {m : Morphism} {P : Pairs} {u : List ℕ} → ¬ Accepts m P u []
 no-cycle a = omega (arith, a .cycle-some)
 
-pub no-marks-refuse : {m : Morphism} {u v : List ℕ} → ¬ Accepts m (marks no-marks) u v
-unfolding computing
-no-marks-refuse a = a .is-marked
+pub no-marks-refuse : {m : Morphism} {g : ℕ} {u v : List ℕ} → 1 ≤ g → ¬ AtLeast m (entry no-marks) g u v
+no-marks-refuse {g = g} some a = omega (arith, level-down (entry no-marks) g (a .start-element) (a .cycle-element) (a .is-marked))
 
 -- not linked: 1 is not idempotent in Z; in W 1·0 is not 1
 pub not-idempotent : ¬ Linked Z 0 1
@@ -128,7 +134,7 @@ count-of-one k =
 -- W's marking is not included in the empty one
 pub not-included : ¬ Included W (marks first-mark) (marks no-marks)
 unfolding computing
-not-included i = no-marks-refuse (i .accepted-too (1 ∷ []) (0 ∷ []) (lasso-elim 2 (1 ∷ []) (0 ∷ []) tt) W-accepts)
+not-included i = no-marks-refuse {g = 1} (omega arith) (i .accepted-too (1 ∷ []) (0 ∷ []) (lasso-elim 2 (1 ∷ []) (0 ∷ []) tt) W-accepts)
 
 -- a witness of W has at most 8 letters in its cycle, and one or two in its start
 pub cycle-too-long : {P P′ : Pairs} {u : List ℕ} → ¬ Witness W P P′ u (0 ∷ 0 ∷ 0 ∷ 0 ∷ 0 ∷ 0 ∷ 0 ∷ 0 ∷ 0 ∷ [])
@@ -146,6 +152,92 @@ accepted-second w = w .refused-second W-accepts
 
 pub refused-first : {P : Pairs} → ¬ Witness W (marks first-mark) P (0 ∷ []) (1 ∷ [])
 refused-first w = W-refuses (w .accepted-first)
+
+-- ---- grades: W with three grades gives 1 and then 0 for ever grade 3, and 0 and then 1 for ever grade 1
+
+pub grade-too-low : ¬ Graded W (entry three-grades) (1 ∷ []) (0 ∷ []) 2
+grade-too-low k = k .highest 3 (omega arith) (graded-zeros .attained (omega arith))
+
+pub grade-too-high : ¬ Graded W (entry three-grades) (0 ∷ []) (1 ∷ []) 2
+grade-too-high k = graded-ones .highest 2 (omega arith) (k .attained (omega arith))
+
+pub grade-zero : ¬ Graded W (entry three-grades) (0 ∷ []) (1 ∷ []) 0
+grade-zero k = k .highest 1 (omega arith) (graded-ones .attained (omega arith))
+
+-- the lassos with two values do not have another grade; in a weak rule some have none, as two of them have different grades
+pub lassos-other-grade : ¬ LassosGraded W (entry three-grades) (element 0) 1 2
+unfolding computing
+lassos-other-grade k = grade-too-high (k .graded (0 ∷ []) (1 ∷ []) (lasso-elim 2 (0 ∷ []) (1 ∷ []) tt) refl refl)
+
+pub lassos-no-grade : {g : ℕ} → ¬ LassosGraded Z (entry first-mark) (element 1) 0 g
+unfolding computing
+lassos-no-grade {g} k =
+    let low : g ≡ 0 = one-grade (k .graded (0 ∷ []) (1 ∷ []) (lasso-elim 2 (0 ∷ []) (1 ∷ []) tt) refl refl) Z-ones in
+    let high : g ≡ 3 = one-grade (k .graded (0 ∷ []) (0 ∷ 0 ∷ []) (lasso-elim 2 (0 ∷ []) (0 ∷ 0 ∷ []) tt) refl refl) Z-zeros in
+    omega arith
+
+-- where no word has one of the values there is no such lasso, and so no grade of them
+pub lassos-no-start : {marks : Marking} {e g : ℕ} → ¬ LassosGraded W₀ marks (element 1) e g
+lassos-no-start k = no-word (k .start)
+
+pub lassos-no-cycle : {marks : Marking} {x : Value} {g : ℕ} → ¬ LassosGraded W₀ marks x 1 g
+lassos-no-cycle k = no-word (k .cycle)
+
+-- a pair that is not linked has no grade
+pub unlinked-no-grade : {marks : Marking} {g : ℕ} → ¬ LinkedGraded W marks 1 0 g
+unlinked-no-grade k = not-stays (k .linked)
+
+-- ---- strength: Z with (0, 0) one grade above (1, 0) is weak at that grade, and at no other
+
+pub first-level-weak : ¬ StrongMarking Z (entry (two-grades 1 0))
+unfolding computing
+first-level-weak s =
+    strong-test-intro (Z-sound .lawful) (linked-only-elim Z (level 1 (entry (two-grades 1 0))) tt) (Z-sound .reached) (s .at-each 1 (omega arith))
+
+pub strong-at-one : Strong Z (level 1 (entry (two-grades 2 1)))
+unfolding computing
+strong-at-one = strong-test-elim (Z-sound .lawful) (linked-only-elim Z (level 1 (entry (two-grades 2 1))) tt) tt
+
+pub second-level-weak : ¬ StrongMarking Z (entry (two-grades 2 1))
+unfolding computing
+second-level-weak s =
+    strong-test-intro (Z-sound .lawful) (linked-only-elim Z (level 2 (entry (two-grades 2 1))) tt) (Z-sound .reached) (s .at-each 2 (omega arith))
+
+pub strong-at-two : Strong Z (level 2 (entry (two-grades 3 2)))
+unfolding computing
+strong-at-two = strong-test-elim (Z-sound .lawful) (linked-only-elim Z (level 2 (entry (two-grades 3 2))) tt) tt
+
+pub third-level-weak : ¬ StrongMarking Z (entry (two-grades 3 2))
+unfolding computing
+third-level-weak s =
+    strong-test-intro (Z-sound .lawful) (linked-only-elim Z (level 3 (entry (two-grades 3 2))) tt) (Z-sound .reached) (s .at-each 3 (omega arith))
+
+-- ---- inclusion by grades: W with three grades and with its first pair one grade lower
+
+-- not included, though it is at the levels 1 and 2
+pub included-at-two : Included W (level 2 (entry three-grades)) (level 2 (entry lower-grade))
+unfolding computing
+included-at-two =
+    included-elim (W-sound .lawful) (level-linked (W-sound .lawful) W-graded-grades (omega arith)) (level-linked (W-sound .lawful) W-lower-grades (omega arith)) tt
+
+pub not-included-grades : ¬ IncludedGrades W (entry three-grades) (entry lower-grade)
+unfolding computing
+not-included-grades i = omega (arith, included-grade i (lasso-elim 2 (1 ∷ []) (0 ∷ []) tt) graded-zeros lower-zeros)
+
+-- nor is a lasso of equal grades graded higher, nor one of a lower grade, nor is one found with an empty start
+pub equal-not-higher : ¬ HigherGraded W (entry three-grades) (entry lower-grade) (0 ∷ []) (1 ∷ [])
+unfolding computing
+equal-not-higher w =
+    let k : Graded W (entry lower-grade) (0 ∷ []) (1 ∷ []) 1 = graded-is (W-sound .lawful) W-lower-grades (0 ∷ []) (1 ∷ []) tt refl in
+    omega (arith, higher-graded w graded-ones k)
+
+pub lower-not-higher : ¬ HigherGraded W (entry lower-grade) (entry three-grades) (1 ∷ []) (0 ∷ [])
+lower-not-higher w = omega (arith, higher-graded w lower-zeros graded-zeros)
+
+pub higher-no-start : {marks marks′ : Marking} {v : List ℕ} → ¬ HigherGraded W marks marks′ [] v
+higher-no-start w = witness-no-start (w .witness)
+
+-- ---- powers and turns
 
 -- where no element is its own square, which is no associative table, 0 has no idempotent power
 pub no-idempotent-power : ¬ HasIdempotentPower (table ((1 ∷ 0 ∷ []) ∷ (1 ∷ 0 ∷ []) ∷ []) (0 ∷ [])) 0

@@ -1,19 +1,20 @@
 -- Grades by levels: the pairs of each grade or more fall as the grade rises; a lasso has at most one grade, and under marks of at most
--- 3 on linked pairs exactly one. Assumes nothing.
+-- 3 on linked pairs exactly one; what strong, same grades and inclusion, which are said by least grades, say of grades. Assumes nothing.
 use Prim.Native.Nat.{ℕ, zero, suc, _≤_, _<_}
 use native.Mathlib.Omega.{arith}
-use mathlib.Core.Path.{_≡_}
+use mathlib.Core.Path.{_≡_, sym, _∙_}
 use mathlib.Core.Logic.{_↔_, ⊎-elim, by-cases}
 use mathlib.Core.List.{List}
-use lib.ListN.{length}
 use lib.Dec.{T, leb→le, le→leb}
 use Rattle.finite.proofs.Numbers.{le-or-lt}
 use Rattle.finite.proofs.Highest.{same-above}
-use Rattle.theory.specs.Words.{Over, Lasso}
-use Rattle.theory.specs.Rules.{Morphism, Lawful, Marking, level}
+use Rattle.theory.specs.Words.{Lasso}
+use Rattle.theory.specs.Rules.{Morphism, Lawful, Marking, Rule, Value, level, element, value}
 use Rattle.theory.specs.Pairs.{LinkedOnly}
-use Rattle.theory.specs.Grades.{AtLeast, Graded}
-use Rattle.theory.proofs.Values.{inside-of}
+use Rattle.theory.specs.Grades.{AtLeast, Graded, StrongMarking, LassosGraded}
+use Rattle.theory.specs.Smallest.{SameGrades}
+use Rattle.theory.specs.Inclusion.{IncludedGrades, HigherGraded}
+use Rattle.theory.proofs.Values.{inside-of, value-some}
 use Rattle.theory.proofs.Membership.{accepts-dec}
 
 -- marks of at most 3, on linked pairs only
@@ -68,6 +69,56 @@ graded-levels {marks = marks} {n = n} k g some = (
 pub one-grade : {m : Morphism} {marks : Marking} {u v : List ℕ} {g h : ℕ} → Graded m marks u v g → Graded m marks u v h → g ≡ h
 one-grade j k = same-above (λ i some. (λ l. graded-levels k i some .0 (graded-levels j i some .1 l), λ l. graded-levels j i some .0 (graded-levels k i some .1 l)))
 
+-- lassos of the same least grades have the same grade
+pub graded-same : {m m′ : Morphism} {marks marks′ : Marking} {u v u′ v′ : List ℕ} {n : ℕ}
+    → ((g : ℕ) → 1 ≤ g → AtLeast m marks g u v ↔ AtLeast m′ marks′ g u′ v′) → Graded m marks u v n → Graded m′ marks′ u′ v′ n
+graded-same f k = graded-by (λ g some.
+    (λ a. graded-levels k g some .0 (f g some .1 a), λ h. f g some .0 (graded-levels k g some .1 h)))
+
+-- strong: lassos with equal values have equal grades
+pub strong-grade : {m : Morphism} {marks : Marking} {u v u′ v′ : List ℕ} {g : ℕ} → StrongMarking m marks → Lasso (m .letters) u v → Lasso (m .letters) u′ v′
+    → value m u ≡ value m u′ → value m v ≡ value m v′ → Graded m marks u v g → Graded m marks u′ v′ g
+strong-grade {u = u} {v} {u′} {v′} s l l′ eu ev = graded-same (λ h some. s .at-each h some .both-or-neither u v u′ v′ l l′ eu ev)
+
+-- so the grade of one lasso is that of all with its values
+pub strong-lassos : {m : Morphism} {marks : Marking} {x : Value} {e g : ℕ} (u v : List ℕ) → StrongMarking m marks → Lasso (m .letters) u v → value m u ≡ x
+    → value m v ≡ element e → Graded m marks u v g → LassosGraded m marks x e g
+strong-lassos u v s l eu ev k = record {
+  start = record { word = u; over = l .start-over; its-value = eu };
+  cycle = record { word = v; over = l .cycle-over; its-value = ev };
+  graded = λ u′ v′ l′ eu′ ev′. strong-grade s l l′ (eu ∙ sym eu′) (ev ∙ sym ev′) k;
+}
+
+-- same grades: a lasso has the same grade under both rules
+pub same-grade : (r r′ : Rule) {u v : List ℕ} {g : ℕ} → SameGrades r r′ → Lasso (r .morphism .letters) u v → Graded (r .morphism) (r .marks) u v g
+    → Graded (r′ .morphism) (r′ .marks) u v g
+same-grade r r′ {u} {v} s l = graded-same (λ h some. s .both-or-neither h some u v l)
+
+-- inclusion: the grade under the first marking is at most that under the second
+pub included-grade : {m : Morphism} {marks marks′ : Marking} {u v : List ℕ} {g g′ : ℕ} → IncludedGrades m marks marks′ → Lasso (m .letters) u v
+    → Graded m marks u v g → Graded m marks′ u v g′ → g ≤ g′
+included-grade {u = u} {v} {g} {g′} i l k k′ =
+    ⊎-elim (λ (h : g ≤ g′). h)
+    (λ h. absurd (k′ .highest g h (i .at-each g (omega arith) .accepted-too u v l (k .attained (omega arith))))) (le-or-lt g g′)
+
+-- a lasso that inclusion finds has a higher grade under the first marking than under the second
+pub higher-graded : {m : Morphism} {marks marks′ : Marking} {u v : List ℕ} {g g′ : ℕ} → HigherGraded m marks marks′ u v → Graded m marks u v g → Graded m marks′ u v g′ → g′ < g
+higher-graded {g′ = g′} w k k′ =
+    let first = graded-levels k (w .least) (w .some) .0 (w .witness .accepted-first) in
+    ⊎-elim (λ (h : w .least ≤ g′). absurd (w .witness .refused-second (graded-levels k′ (w .least) (w .some) .1 h)))
+    (λ h. omega (arith, first)) (le-or-lt (w .least) g′)
+
+-- a lasso with two values
+its-lasso : {m : Morphism} {marks : Marking} {x : Value} {e g : ℕ} (k : LassosGraded m marks x e g) → Lasso (m .letters) (k .start .word) (k .cycle .word)
+its-lasso {m} {e = e} k = record { start-over = k .start .over; cycle-over = k .cycle .over; cycle-some = value-some m (k .cycle .word) e (k .cycle .its-value) }
+
+-- lassos with two values have at most one grade, as there is one
+pub one-lassos-grade : {m : Morphism} {marks : Marking} {x : Value} {e g h : ℕ} → LassosGraded m marks x e g → LassosGraded m marks x e h → g ≡ h
+one-lassos-grade j k =
+    let u = j .start in
+    let v = j .cycle in
+    one-grade (j .graded (u .word) (v .word) (its-lasso j) (u .its-value) (v .its-value)) (k .graded (u .word) (v .word) (its-lasso j) (u .its-value) (v .its-value))
+
 module _ {m : Morphism} {marks : Marking} (law : Lawful m) (good : GradedMarks m marks) where
   pub level-linked : {g : ℕ} → 1 ≤ g → LinkedOnly m (level g marks)
   level-linked {g} some = record { linked = λ s e hs he t. good .linked .linked s e hs he (level-falls marks 1 g s e some t) }
@@ -80,6 +131,12 @@ module _ {m : Morphism} {marks : Marking} (law : Lawful m) (good : GradedMarks m
         level-down marks g (a .start-element) (a .cycle-element) (a .is-marked),
         good .small (a .start-element) (a .cycle-element) (inside-of law (a .start-over) (a .start-value)) (inside-of law (a .cycle-over) (a .cycle-value)),
       )
+
+  pub graded-small : {g : ℕ} {u v : List ℕ} → Graded m marks u v g → g ≤ 3
+  graded-small {g} k = ⊎-elim (λ (h : g ≤ 3). h) (λ h. at-least-small (k .attained (omega arith))) (le-or-lt g 3)
+
+  pub lassos-small : {x : Value} {e g : ℕ} → LassosGraded m marks x e g → g ≤ 3
+  lassos-small {e = e} k = graded-small (k .graded (k .start .word) (k .cycle .word) (its-lasso k) (k .start .its-value) (k .cycle .its-value))
 
   -- every lasso has a grade
   pub has-grade : {u v : List ℕ} → Lasso (m .letters) u v → (g : ℕ) × Graded m marks u v g

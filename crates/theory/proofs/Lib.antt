@@ -18,6 +18,10 @@ pub mod Codes
 pub mod ShortWords
 pub mod Comparison
 pub mod Included
+pub mod Gradings
+pub mod ClosureGrades
+pub mod GradedStrength
+pub mod GradedInclusion
 pub mod TableTests
 pub mod Associating
 pub mod Computing
@@ -28,5 +32,3 @@ pub mod Examples
 pub mod Exclusions
 pub mod RivalExclusions
 pub mod SmallReductions
-pub mod Gradings
-pub mod ClosureGrades

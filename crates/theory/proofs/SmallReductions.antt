@@ -1,14 +1,14 @@
--- Reductions to one element: the rule of one element, its pair marked, is the smallest rule that accepts every lasso, and so
--- the reduction of every such rule that has a letter. Two of the small rules are such. Assumes nothing.
+-- Reductions to one element: the rule of one element, its pair marked with 3, is the smallest rule that gives every lasso grade 3, and
+-- so the reduction of every such rule that has a letter. Two of the small rules are such. Assumes nothing.
 use Prim.Native.Nat.{ℕ, _<_}
 use mathlib.Core.Path.{_≡_, refl, sym, ap}
 use mathlib.Core.List.{[], _∷_}
 use native.Mathlib.Omega.{arith}
 use Rattle.theory.specs.Words.{over-nil, over-cons}
-use Rattle.theory.specs.Rules.{Rule, level, marked, element, join, value, WordOf}
-use Rattle.theory.specs.Smallest.{SameLassos, Smallest, MarksAccepted, Reduction}
+use Rattle.theory.specs.Rules.{Rule, element, join, value, WordOf}
+use Rattle.theory.specs.Smallest.{SameGrades, Smallest, MarksGrades, Reduction}
 use Rattle.theory.proofs.SmallRules.{W-all, Z₀-rule}
-use Rattle.theory.proofs.EveryLasso.{AcceptsEvery, one-strong, every-same, one, one-rule, one-every}
+use Rattle.theory.proofs.EveryLasso.{GradesEvery, one-strong, every-same, one, one-rule, one-every}
 use Rattle.theory.proofs.Examples.{W-all-every, Z₀-every}
 
 module _ (k : ℕ) (some : 0 < k) where
@@ -32,27 +32,26 @@ module _ (k : ℕ) (some : 0 < k) where
     };
   }
     where
-      inside : (rival : Rule) → SameLassos (one-rule k) rival → rival .morphism .image 0 < rival .morphism .size
+      inside : (rival : Rule) → SameGrades (one-rule k) rival → rival .morphism .image 0 < rival .morphism .size
       inside rival same = rival .lawful .images 0 (omega (arith, same .same-letters))
 
-  pub one-marks : MarksAccepted (one k) (marked (one-rule k .marks))
-  unfolding marked level
+  -- its one pair is linked, and marked with the grade of its lassos
+  pub one-marks : MarksGrades (one k) (one-rule k .marks)
   one-marks = record {
-    marks = λ s e hs he. (
-      λ t. record {
-        linked = record { inside = hs; idempotent = record { inside = he; square = omega arith }; stays = omega arith };
-        lassos = record {
-          start = word-zero s hs;
-          cycle = word-zero e he;
-          accepted = λ u v l eu ev. one-every k .accepted u v l;
-        };
-      },
-      λ a. tt,
-    );
+    of-linked = λ s e l. record {
+      linked = l;
+      lassos = record {
+        start = word-zero s (l .inside);
+        cycle = word-zero e (l .idempotent .inside);
+        graded = λ u v l eu ev. one-every k .graded u v l;
+      };
+    };
+    of-others = λ s e hs he f. absurd
+        (f (record { inside = hs; idempotent = record { inside = he; square = omega arith }; stays = omega arith }));
   }
 
--- a rule with a letter that accepts every lasso reduces to it
-pub every-reduction : (r : Rule) → 0 < r .morphism .letters → AcceptsEvery (r .morphism) (marked (r .marks))
+-- a rule with a letter that gives every lasso grade 3 reduces to it
+pub every-reduction : (r : Rule) → 0 < r .morphism .letters → GradesEvery (r .morphism) (r .marks)
     → Reduction r (one-rule (r .morphism .letters))
 every-reduction r some a = record {
   same = every-same r (one-rule (r .morphism .letters)) refl a (one-every (r .morphism .letters));

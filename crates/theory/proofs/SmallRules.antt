@@ -1,15 +1,18 @@
 -- Small rules, given by lists. The tests find by computing that their tables are lawful, that every element is some word's
--- value and that the marks are linked. One rule more fails the last two and is a rule all the same. Assumes nothing.
+-- value, that the marks are linked and that their grades are at most 3. One rule more has an element that is no word's value and a mark
+-- that is not linked, and is a rule all the same. "Document 01's small rules get grade 3 on each mark" (document 02, Job 12); other
+-- markings of W and Z have several grades. Assumes nothing.
 use Prim.Native.Nat.{ℕ}
 use mathlib.Core.Bool.{Bool, _&&_}
 use mathlib.Core.List.{List, [], _∷_}
 use lib.ListN.{length, getD}
-use lib.Dec.{T, leb}
+use lib.Dec.{T, leb, leb→le}
 use Rattle.finite.proofs.Tests.{T-and-left, T-and-right}
-use Rattle.theory.specs.Rules.{Morphism, Lawful, Pairs, Rule, marked, AllReached}
+use Rattle.theory.specs.Rules.{Morphism, Lawful, Pairs, Marking, Rule, level, AllReached}
 use Rattle.theory.specs.Pairs.{LinkedOnly}
 use Rattle.theory.proofs.ShortWords.{unreached}
-use Rattle.theory.proofs.TableTests.{lawful-test, lawful-elim, reached-all, linked-only-test, linked-only-elim}
+use Rattle.theory.proofs.Gradings.{GradedMarks}
+use Rattle.theory.proofs.TableTests.{all-pairs, all-pairs-elim, lawful-test, lawful-elim, reached-all, linked-only-test, linked-only-elim}
 use Rattle.theory.proofs.Computing.{computing}
 
 -- the number in a row and a column, 0 outside
@@ -22,7 +25,7 @@ table rows images = record { size = length rows; letters = length images; produc
 
 -- the pairs that a list of rows marks
 abbrev pub marks : List (List ℕ) → Pairs
-marks rows = marked (entry rows)
+marks rows = level 1 (entry rows)
 
 -- two elements: 0 for the words that have a letter of image 0, and 1 for the others
 abbrev pub meet-rows : List (List ℕ)
@@ -47,18 +50,37 @@ Z₀ = table parity-rows (1 ∷ [])
 abbrev pub W₀ : Morphism
 W₀ = table meet-rows (0 ∷ [])
 
--- no mark; the mark (0, 0); the marks (0, 0), (0, 1) and (1, 1), which are W's linked pairs; the mark (1, 0), not linked there
+-- no mark; and with grade 3 each the mark (0, 0); the marks (0, 0), (0, 1) and (1, 1), which are W's linked pairs; the mark (1, 0), not
+-- linked there
 abbrev pub no-marks : List (List ℕ)
 no-marks = []
 
 abbrev pub first-mark : List (List ℕ)
-first-mark = (1 ∷ []) ∷ []
+first-mark = (3 ∷ []) ∷ []
 
 abbrev pub three-marks : List (List ℕ)
-three-marks = (1 ∷ 1 ∷ []) ∷ (0 ∷ 1 ∷ []) ∷ []
+three-marks = (3 ∷ 3 ∷ []) ∷ (0 ∷ 3 ∷ []) ∷ []
 
 abbrev pub stray-mark : List (List ℕ)
-stray-mark = [] ∷ (1 ∷ []) ∷ []
+stray-mark = [] ∷ (3 ∷ []) ∷ []
+
+-- W's linked pairs with three grades, (0, 0) with 3, (0, 1) with 1 and (1, 1) with 2; and with (0, 0) one grade lower
+abbrev pub three-grades : List (List ℕ)
+three-grades = (3 ∷ 1 ∷ []) ∷ (0 ∷ 2 ∷ []) ∷ []
+
+abbrev pub lower-grade : List (List ℕ)
+lower-grade = (2 ∷ 1 ∷ []) ∷ (0 ∷ 2 ∷ []) ∷ []
+
+-- the grades of W's linked pairs turned into 3 less each; and W's three marks with (1, 0) too, which is not linked
+abbrev pub turned-grades : List (List ℕ)
+turned-grades = (0 ∷ 2 ∷ []) ∷ (0 ∷ 1 ∷ []) ∷ []
+
+abbrev pub four-marks : List (List ℕ)
+four-marks = (3 ∷ 3 ∷ []) ∷ (3 ∷ 3 ∷ []) ∷ []
+
+-- Z's linked pairs, (0, 0) with a grade and (1, 0) with another
+abbrev pub two-grades : ℕ → ℕ → List (List ℕ)
+two-grades g h = (g ∷ []) ∷ (h ∷ []) ∷ []
 
 -- what the tests ask of a table and its marks
 pub record Sound (m : Morphism) (P : Pairs) : Type 0 where
@@ -82,6 +104,18 @@ sound m P t =
       linked = linked-only-elim m P (T-and-right (leb (m .size) (unreached m)) _ t₁);
     }
 
+-- every pair's grade is at most 3
+unfoldable pub grades-test : Morphism → Marking → Bool
+unfolding computing
+grades-test m marks = all-pairs (m .size) (λ s e. leb (marks s e) 3)
+
+pub sound-grades : (m : Morphism) (marking : Marking) → Sound m (level 1 marking) → T (grades-test m marking) → GradedMarks m marking
+unfolding grades-test
+sound-grades m marking k t = record {
+  small = λ s e hs he. leb→le (marking s e) 3 (all-pairs-elim (m .size) (λ s e. leb (marking s e) 3) t s e hs he);
+  linked = k .linked;
+}
+
 -- each passes
 pub W-sound : Sound W (marks first-mark)
 unfolding sound-test
@@ -99,6 +133,38 @@ pub Z₀-sound : Sound Z₀ (marks first-mark)
 unfolding sound-test
 Z₀-sound = sound Z₀ (marks first-mark) tt
 
+pub W-graded-sound : Sound W (marks three-grades)
+unfolding sound-test
+W-graded-sound = sound W (marks three-grades) tt
+
+pub W-lower-sound : Sound W (marks lower-grade)
+unfolding sound-test
+W-lower-sound = sound W (marks lower-grade) tt
+
+pub W-grades : GradedMarks W (entry first-mark)
+unfolding grades-test
+W-grades = sound-grades W (entry first-mark) W-sound tt
+
+pub W-all-grades : GradedMarks W (entry three-marks)
+unfolding grades-test
+W-all-grades = sound-grades W (entry three-marks) W-all-sound tt
+
+pub W-graded-grades : GradedMarks W (entry three-grades)
+unfolding grades-test
+W-graded-grades = sound-grades W (entry three-grades) W-graded-sound tt
+
+pub W-lower-grades : GradedMarks W (entry lower-grade)
+unfolding grades-test
+W-lower-grades = sound-grades W (entry lower-grade) W-lower-sound tt
+
+pub Z-grades : GradedMarks Z (entry first-mark)
+unfolding grades-test
+Z-grades = sound-grades Z (entry first-mark) Z-sound tt
+
+pub Z₀-grades : GradedMarks Z₀ (entry first-mark)
+unfolding grades-test
+Z₀-grades = sound-grades Z₀ (entry first-mark) Z₀-sound tt
+
 pub W₀-lawful : Lawful W₀
 unfolding computing
 W₀-lawful = lawful-elim W₀ tt
@@ -112,6 +178,12 @@ W-rule = rule W first-mark (W-sound .lawful)
 
 abbrev pub W-all : Rule
 W-all = rule W three-marks (W-sound .lawful)
+
+abbrev pub W-graded : Rule
+W-graded = rule W three-grades (W-sound .lawful)
+
+abbrev pub W-lower : Rule
+W-lower = rule W lower-grade (W-sound .lawful)
 
 abbrev pub Z-rule : Rule
 Z-rule = rule Z first-mark (Z-sound .lawful)

@@ -1,6 +1,7 @@
--- Rules of any finite size: a product table with an element for each letter (a morphism), and marked pairs (a marking).
--- Document 01, "What a rule means" and the paragraph on demand 3: no limit of the file format stands here. The definitions
--- of this crate take a table as it is; what they say is document 01's where the table is lawful. Assumes nothing.
+-- Rules of any finite size: a product table with an element for each letter (a morphism), and marked pairs with their grades
+-- (a marking). Document 01, "What a rule means" and the paragraph on demand 3; document 02, Job 12. No limit of the file format
+-- stands here. The definitions of this crate take a table as it is; what they say is the documents' where the table is lawful.
+-- Assumes nothing.
 use Prim.Native.Nat.{ℕ, _<_}
 use mathlib.Core.Path.{_≡_}
 use mathlib.Core.Bool.{Bool}
@@ -23,7 +24,8 @@ pub record Lawful (m : Morphism) : Type 0 where
       → m .product (m .product a b) c ≡ m .product a (m .product b c)
   pub images : (a : ℕ) → a < m .letters → m .image a < m .size
 
--- "any marked pairs": a number for each pair of elements, 0 where it is not marked; at other numbers it means nothing
+-- "any marked pairs": the grade of each pair of elements, 0 where it is not marked ("an unlisted pair has grade 0", Job 12); at
+-- other numbers it means nothing
 abbrev pub Marking : Type 0
 Marking = ℕ → ℕ → ℕ
 
@@ -31,17 +33,13 @@ Marking = ℕ → ℕ → ℕ
 abbrev pub Pairs : Type 0
 Pairs = ℕ → ℕ → Bool
 
--- the pairs that a marking gives g or more (document 02, Job 12, turns marks into grades)
+-- the pairs that a marking gives the grade g or more: "the pairs marked with that or more" (Job 12), for a least grade g. Those of
+-- level 1 are the marked ones.
 unfoldable pub level : ℕ → Marking → Pairs
 level g marks s e = leb g (marks s e)
 
--- "marked pairs": those whose number is not 0
-unfoldable pub marked : Marking → Pairs
-unfolding level
-marked marks = level 1 marks
-
 -- "every rule of any finite size: a finite associative product table, an element for each of the same k letters, and any
--- marked pairs"; rivals are values of this type
+-- marked pairs"; rivals are values of this type, and "a rival's marks have grades too" (Job 12)
 pub record Rule : Type 0 where
   pub morphism : Morphism
   pub lawful : Lawful morphism

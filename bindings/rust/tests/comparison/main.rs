@@ -1,4 +1,4 @@
-//! Every exported call against an engine that is written apart, from the definitions of document 01. Inputs come from
+//! Every exported call against an engine that is written apart, from the definitions of documents 01 and 02. Inputs come from
 //! fixed seeds. A difference, a byte of a buffer that is not as it must be, or an outcome that occurs too seldom is a failure.
 
 mod calls;

@@ -4,7 +4,7 @@ use crate::definitions::acceptance::Marking;
 use crate::definitions::checks::{self, Refusal};
 use crate::definitions::conjugacy;
 use crate::definitions::cycles::{self, Cycles, Decided};
-use crate::definitions::rule::{Morphism, Pair, Rule};
+use crate::definitions::rule::{Mark, Morphism, Rule, GRADES};
 use std::cell::OnceCell;
 use std::rc::Rc;
 
@@ -31,8 +31,8 @@ pub struct Known {
     decided: OnceCell<Decided>,
     /// The strength that the comparison settled on.
     pub strong: OnceCell<bool>,
-    /// Whether lassos are accepted, by their values; of strong rules.
-    pub outcomes: OnceCell<Vec<bool>>,
+    /// The grades of lassos, by their values; of strong rules.
+    pub outcomes: OnceCell<Vec<u8>>,
 }
 
 impl Subject {
@@ -81,11 +81,19 @@ impl Known {
         })
     }
 
-    pub fn closure(&self) -> Vec<Pair> {
+    pub fn closure(&self) -> Vec<Mark> {
         conjugacy::closure(self.morphism(), &self.rule.marks)
     }
 
+    /// Whether conjugate pairs have equal grades.
     pub fn closed(&self) -> bool {
-        self.closure().len() == self.rule.marks.len()
+        let own = |mark: &Mark| self.marking.grade(mark.pair) == mark.grade;
+        self.closure().iter().all(own)
+    }
+
+    /// How many grades its marks have.
+    pub fn grades(&self) -> usize {
+        let has = |grade: &u8| self.rule.marks.iter().any(|mark| mark.grade == *grade);
+        GRADES.iter().filter(|grade| has(grade)).count()
     }
 }

@@ -1,9 +1,11 @@
 -- `automaton_sections::transitions_section` meets its contract: the count decides, and after a good count the triples. Assumes nothing.
+use native.Mathlib.Omega.{arith}
 use borrow.Author.Needs.{needs}
 use Rattle.formats.specs.Sections.{two-byte}
 use Rattle.formats.proofs.Sections.{CountGood}
 use Rattle.sections.proofs.Sectioned.{count-read, count-refused, by-entries}
 use Rattle.formats.specs.AutomatonFile.{transitionsSection}
+use Rattle.automaton_sections.proofs.TripleBytes.{triple-ranges}
 use Rattle.automaton_sections.proofs.transitions_section.Statement.{statement}
 use Rattle.automaton_sections.proofs.transitions_section.Tie as tie
 
@@ -21,7 +23,7 @@ good c =
     count-read (transitionsSection (a .m) (a .k)) (a .at) (a .rest .now) (call .result) (call .ensures) (c .before .c .given .1)
 
 triples-requires : tie.Need-triples-requires
-triples-requires c κs = (c .before .before .before .before .before .pre, good c .within)
+triples-requires c κs = (c .before .before .before .before .before .pre, omega (arith, good c .within))
 
 enum-known-refusal : tie.Need-enum-known-refusal
 enum-known-refusal c = search needs
@@ -29,7 +31,7 @@ enum-known-refusal c = search needs
 returns : tie.Need-returns
 returns c =
     let a = c .before .before .before .before .before .before .args in
-    by-entries (transitionsSection (a .m) (a .k)) (a .at) (a .rest .now) (good (c .before)) (c .triples .result) (c .triples .ensures)
+    by-entries (transitionsSection (a .m) (a .k)) (a .at) (a .rest .now) (good (c .before)) (c .triples .result) (c .triples .ensures _ _ (triple-ranges (a .m) (a .k)))
 
 returns-2 : tie.Need-returns-2
 returns-2 c =

@@ -19,8 +19,8 @@ word-pair-requires c κs = search needs
 store-requires-3 : tie.Need-store-requires-3
 store-requires-3 c κs = search needs
 
-store-pair-requires : tie.Need-store-pair-requires
-store-pair-requires c κs = search needs
+store-mark-requires : tie.Need-store-mark-requires
+store-mark-requires c κs = search needs
 
 store-requires-4 : tie.Need-store-requires-4
 store-requires-4 c κs = search needs
@@ -49,7 +49,7 @@ same-length-4 : tie.Need-same-length-4
 same-length-4 c = search needs
 
 returns-4 : tie.Need-returns-4
-returns-4 c = entry-mark _ _ _ _ (c .before .before .before .before .match .keys4) (c .before .before .store-pair .ensures)
+returns-4 c = entry-mark _ _ _ _ (c .before .before .before .before .match .keys4) (c .before .before .store-mark .ensures)
 
 same-length-5 : tie.Need-same-length-5
 same-length-5 c = search needs
@@ -68,7 +68,7 @@ entry-spec =
     store-requires-2
     word-pair-requires
     store-requires-3
-    store-pair-requires
+    store-mark-requires
     store-requires-4
     same-length
     returns

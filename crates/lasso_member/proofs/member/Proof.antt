@@ -39,8 +39,8 @@ returns-2 : tie.Need-returns-2
 returns-2 c =
     word-refused _ _ _ _ (checked-rule 1 _ _ _ (c .before .before .before .before .before .before .before .before .before .before .before .before .before .check .result) (c .before .before .before .before .before .before .before .before .before .before .before .before .before .check .ensures) (c .before .before .before .before .before .before .before .before .before .shape .given .1)) _ (words-refused _ _ _ (c .before .before .before .before .before .before .before .lasso-fault .result) (c .before .before .before .before .before .before .before .lasso-fault .ensures) (c .before .before .before .before .before .refusal2 .given .1)) (c .before .before .zero .ensures)
 
-accepts-lasso-requires : tie.Need-accepts-lasso-requires
-accepts-lasso-requires c κs =
+lasso-grade-requires : tie.Need-lasso-grade-requires
+lasso-grade-requires c κs =
     let a = c .before .before .before .before .before .before .before .before .before .before .before .before .before .before .before .args in
     let p = (checked-rule 1 _ _ _ (c .before .before .before .before .before .before .before .before .before .check .result) (c .before .before .before .before .before .before .before .before .before .check .ensures) (c .before .before .before .before .before .shape .given .1)) in
     let g = (words-good _ _ _ (c .before .before .before .lasso-fault .result) (c .before .before .before .lasso-fault .ensures) (c .before .enum-told .given .1)) in
@@ -51,7 +51,7 @@ idempotent-power-requires c κs =
     let a = c .before .before .before .before .before .before .before .before .before .before .before .before .before .before .before .before .before .before .args in
     let p = checked-rule 1 _ _ _ (c .before .before .before .before .before .before .before .before .before .before .before .before .check .result) (c .before .before .before .before .before .before .before .before .before .before .before .before .check .ensures) (c .before .before .before .before .before .before .before .before .shape .given .1) in
     let g = words-good _ _ _ (c .before .before .before .before .before .before .lasso-fault .result) (c .before .before .before .before .before .before .lasso-fault .ensures) (c .before .before .before .before .enum-told .given .1) in
-    (table _ (a .u .now) (a .v .now) _ p, (lawful _ (a .u .now) (a .v .now) _ p, cycle-inside _ _ _ _ p g (c .before .before .accepts-lasso .ensures .1)))
+    (table _ (a .u .now) (a .v .now) _ p, (lawful _ (a .u .now) (a .v .now) _ p, cycle-inside _ _ _ _ p g (c .before .before .lasso-grade .ensures .1)))
 
 zero-requires-2 : tie.Need-zero-requires-2
 zero-requires-2 c κs = search needs
@@ -63,7 +63,7 @@ returns-3 : tie.Need-returns-3
 returns-3 c =
     let p = checked-rule 1 _ _ _ (c .before .before .before .before .before .before .before .before .before .before .before .before .before .before .before .before .before .check .result) (c .before .before .before .before .before .before .before .before .before .before .before .before .before .before .before .before .before .check .ensures) (c .before .before .before .before .before .before .before .before .before .before .before .before .before .shape .given .1) in
     let g = words-good _ _ _ (c .before .before .before .before .before .before .before .before .before .before .before .lasso-fault .result) (c .before .before .before .before .before .before .before .before .before .before .before .lasso-fault .ensures) (c .before .before .before .before .before .before .before .before .before .enum-told .given .1) in
-    let a = c .before .before .before .before .before .before .before .accepts-lasso in
+    let a = c .before .before .before .before .before .before .before .lasso-grade in
     decided _ _ _ _ p g (a .ensures .0) (a .ensures .1) (c .before .before .before .before .idempotent-power .ensures) (a .last .1 .1 .1 .1 .1 .0) _ (a .kept .1 .1 .1 .1 .1 .0) (c .before .before .zero2 .ensures)
 
 pub member-spec : {M : Type 1} → statement M
@@ -81,7 +81,7 @@ member-spec =
     zero-requires
     same-length-2
     returns-2
-    accepts-lasso-requires
+    lasso-grade-requires
     idempotent-power-requires
     zero-requires-2
     same-length-3

@@ -4,8 +4,8 @@ use Rattle.mark_comparison.proofs.Comparing.{compare-search, start-room
 use Rattle.mark_comparison.proofs.compare.Statement.{statement}
 use Rattle.mark_comparison.proofs.compare.Tie as tie
 
-first-escape-requires : tie.Need-first-escape-requires
-first-escape-requires c κs = (c .before .before .before .before .before .pre .0, compare-search (c .before .before .before .before .before .pre .1 .0))
+highest-escape-requires : tie.Need-highest-escape-requires
+highest-escape-requires c κs = (c .before .before .before .before .before .pre .0, compare-search (c .before .before .before .before .before .pre .1 .0))
 
 enum-told : tie.Need-enum-told
 enum-told c = search needs
@@ -17,10 +17,10 @@ enum-known-start : tie.Need-enum-known-start
 enum-known-start c = search needs
 
 write-start-requires : tie.Need-write-start-requires
-write-start-requires c κs = (c .before .before .before .before .before .before .before .before .before .before .before .before .pre .0, start-room (c .before .before .before .before .before .before .before .before .before .before .before .before .pre .1 .0) (c .before .before .before .before .before .before .first-escape .ensures) (c .before .before .start .given .1) (c .before .before .before .before .before .before .before .before .before .before .before .before .pre .1 .1 .0))
+write-start-requires c κs = (c .before .before .before .before .before .before .before .before .before .before .before .before .pre .0, start-room (c .before .before .before .before .before .before .before .before .before .before .before .before .pre .1 .0) (c .before .before .before .before .before .before .highest-escape .ensures) (c .before .before .start .given .1) (c .before .before .before .before .before .before .before .before .before .before .before .before .pre .1 .1 .0))
 
 write-cycle-requires : tie.Need-write-cycle-requires
-write-cycle-requires c κs = cycle-room (c .before .before .before .before .before .before .before .before .before .before .before .before .before .before .before .before .before .pre .1 .0) (c .before .before .before .before .before .before .before .before .before .before .before .first-escape .ensures) (c .before .before .before .before .before .before .before .start .given .1) (c .before .before .before .before .before .before .before .before .before .before .before .before .before .before .before .before .before .pre .1 .1 .1)
+write-cycle-requires c κs = cycle-room (c .before .before .before .before .before .before .before .before .before .before .before .before .before .before .before .before .before .pre .1 .0) (c .before .before .before .before .before .before .before .before .before .before .before .highest-escape .ensures) (c .before .before .before .before .before .before .before .start .given .1) (c .before .before .before .before .before .before .before .before .before .before .before .before .before .before .before .before .before .pre .1 .1 .1)
 
 zero-requires-2 : tie.Need-zero-requires-2
 zero-requires-2 c κs = search needs
@@ -29,7 +29,7 @@ same-length : tie.Need-same-length
 same-length c = search needs
 
 returns : tie.Need-returns
-returns c = compared-within (c .before .before .before .before .before .before .before .before .before .before .before .before .before .before .pre .1 .0) (c .before .before .before .before .before .before .before .before .first-escape .ensures) _ _ (c .before .before .before .before .enum-told .given .1) (c .before .before .zero .ensures)
+returns c = compared-within (c .before .before .before .before .before .before .before .before .before .before .before .before .before .before .pre .1 .0) (c .before .before .before .before .before .before .before .before .highest-escape .ensures) _ _ (c .before .before .before .before .enum-told .given .1) (c .before .before .zero .ensures)
 
 same-length-2 : tie.Need-same-length-2
 same-length-2 c = search needs
@@ -41,13 +41,13 @@ same-length-4 : tie.Need-same-length-4
 same-length-4 c = search needs
 
 returns-2 : tie.Need-returns-2
-returns-2 c = compared-apart (c .before .before .before .before .before .before .before .before .before .before .before .before .before .before .before .before .before .before .before .before .before .before .before .before .pre .1 .0) (c .before .before .before .before .before .before .before .before .before .before .before .before .before .before .before .before .before .before .first-escape .ensures) (c .before .before .before .before .before .before .before .before .before .before .before .before .before .before .start .given .1) (c .before .before .before .before .before .before .before .before .before .before .before .write-start .ensures) (c .before .before .before .before .before .before .write-cycle .ensures) (c .before .before .zero2 .ensures)
+returns-2 c = compared-apart (c .before .before .before .before .before .before .before .before .before .before .before .before .before .before .before .before .before .before .before .before .before .before .before .before .pre .1 .0) (c .before .before .before .before .before .before .before .before .before .before .before .before .before .before .before .before .before .before .highest-escape .ensures) (c .before .before .before .before .before .before .before .before .before .before .before .before .before .before .start .given .1) (c .before .before .before .before .before .before .before .before .before .before .before .write-start .ensures) (c .before .before .before .before .before .before .write-cycle .ensures) (c .before .before .zero2 .ensures)
 
 pub compare-spec : {M : Type 1} → statement M
 compare-spec =
     tie.close
     (tie.spec
-    first-escape-requires
+    highest-escape-requires
     enum-told
     zero-requires
     enum-known-start

@@ -21,8 +21,8 @@ returns c =
 same-length : tie.Need-same-length
 same-length c = returns c .same-length
 
-first-escape-requires : tie.Need-first-escape-requires
-first-escape-requires c κs =
+highest-escape-requires : tie.Need-highest-escape-requires
+highest-escape-requires c κs =
     let start = c .before .before .before .before .before .before .before .before .before .before .before .before in
     (start .pre .0, search-place (start .pre .0 .small) (start .pre .1) (c .before .before .before .before .before .before .before .before .zero-part .ensures) (c .before .before .before .before .close .ensures))
 
@@ -35,7 +35,7 @@ enum-told-2 c = search needs
 returns-2 : tie.Need-returns-2
 returns-2 c =
     let start = c .before .before .before .before .before .before .before .before .before .before .before .before .before .before .before .before .before in
-    decided-weak (start .pre .0 .small) (start .pre .1) (c .before .before .before .before .before .before .before .before .before .before .before .before .before .zero-part .ensures) (c .before .before .before .before .before .before .before .before .before .close .ensures) (c .before .before .before .before .first-escape .ensures) (c .enum-told .given .1)
+    decided-weak (start .pre .0 .small) (start .pre .1) (c .before .before .before .before .before .before .before .before .before .before .before .before .before .zero-part .ensures) (c .before .before .before .before .before .before .before .before .before .close .ensures) (c .before .before .before .before .highest-escape .ensures) (c .enum-told .given .1)
 
 same-length-2 : tie.Need-same-length-2
 same-length-2 c = returns-2 c .same-length
@@ -43,7 +43,7 @@ same-length-2 c = returns-2 c .same-length
 returns-3 : tie.Need-returns-3
 returns-3 c =
     let start = c .before .before .before .before .before .before .before .before .before .before .before .before .before .before .before .before .before in
-    decided-strong (start .pre .0 .small) (start .pre .1) (c .before .before .before .before .before .before .before .before .before .before .before .before .before .zero-part .ensures) (c .before .before .before .before .before .before .before .before .before .close .ensures) (c .before .before .before .before .first-escape .ensures) (c .enum-told2 .given .1)
+    decided-strong (start .pre .0 .small) (start .pre .1) (c .before .before .before .before .before .before .before .before .before .before .before .before .before .zero-part .ensures) (c .before .before .before .before .before .before .before .before .before .close .ensures) (c .before .before .before .before .highest-escape .ensures) (c .enum-told2 .given .1)
 
 same-length-3 : tie.Need-same-length-3
 same-length-3 c = returns-3 c .same-length
@@ -56,7 +56,7 @@ decide-spec =
     close-requires
     same-length
     returns
-    first-escape-requires
+    highest-escape-requires
     enum-told
     enum-told-2
     same-length-2

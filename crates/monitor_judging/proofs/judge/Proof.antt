@@ -8,8 +8,8 @@ use Rattle.monitor_judging.proofs.judge.Tie as tie
 decide-requires : tie.Need-decide-requires
 decide-requires c κs = search needs
 
-accepted-values-requires : tie.Need-accepted-values-requires
-accepted-values-requires c κs =
+values-grade-requires : tie.Need-values-grade-requires
+values-grade-requires c κs =
     let b = c .before .before .before .before .before .before .before .pre in
     (b .0, (b .1 .0 .lawful, (b .1 .1, look-room (b .1 .0) (b .1 .1 .0) (b .1 .1 .1) (c .before .before .before .decide .ensures))))
 
@@ -30,7 +30,7 @@ same-length-2 c = search needs
 returns-2 : tie.Need-returns-2
 returns-2 c =
     let b = c .before .before .before .before .before .before .before .before .before .before .before .before .before .pre .1 in
-    let looked = c .before .before .before .before .before .accepted-values .ensures in
+    let looked = c .before .before .before .before .before .values-grade .ensures in
     judged-decided (b .0) (b .1 .0) (b .1 .1) (c .before .before .before .before .before .before .before .before .before .decide .ensures) (looked .0) (looked .1) (c .before .before .before .zero .ensures) (not-false _ (c .if1 .left))
 
 pub judge-spec : {M : Type 1} → statement M
@@ -38,7 +38,7 @@ judge-spec =
     tie.close
     (tie.spec
     decide-requires
-    accepted-values-requires
+    values-grade-requires
     zero-requires
     same-length
     returns

@@ -8,8 +8,8 @@ use Rattle.packing.proofs.pack_membership.Tie as tie
 enum-known-answer : tie.Need-enum-known-answer
 enum-known-answer c = search needs
 
-pack-decided-requires : tie.Need-pack-decided-requires
-pack-decided-requires c κs = search needs
+pack-fields-requires : tie.Need-pack-fields-requires
+pack-fields-requires c κs = search needs
 
 enum-known-answer-2 : tie.Need-enum-known-answer-2
 enum-known-answer-2 c = search needs
@@ -18,7 +18,7 @@ pack-refusal-requires : tie.Need-pack-refusal-requires
 pack-refusal-requires c κs = search needs
 
 returns : tie.Need-returns
-returns c = c .pack-decided .ensures ∙ sym (ap packMembership (c .before .before .answer .given .1))
+returns c = c .pack-fields .ensures ∙ sym (ap packMembership (c .before .before .answer .given .1))
 
 returns-2 : tie.Need-returns-2
 returns-2 c = c .pack-refusal .ensures ∙ sym (ap packMembership (c .before .before .answer2 .given .1))
@@ -28,7 +28,7 @@ pack-membership-spec =
     tie.close
     (tie.spec
     enum-known-answer
-    pack-decided-requires
+    pack-fields-requires
     enum-known-answer-2
     pack-refusal-requires
     returns

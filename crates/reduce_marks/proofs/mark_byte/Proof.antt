@@ -1,6 +1,6 @@
 -- `reduce_marks::mark_byte` meets its contract: each way through the tests is one of its cases. Assumes nothing.
 use borrow.Author.Needs.{needs}
-use Rattle.reduce_table.proofs.Blocks.{mark-not-square, mark-moves, mark-refused, mark-set}
+use Rattle.reduce_table.proofs.Blocks.{mark-not-square, mark-moves, mark-linked}
 use Rattle.reduce_marks.proofs.mark_byte.Statement.{statement}
 use Rattle.reduce_marks.proofs.mark_byte.Tie as tie
 
@@ -24,21 +24,12 @@ block-outcome-requires c κs = search needs
 
 returns-3 : tie.Need-returns-3
 returns-3 c =
-    let at-if2 = c .before .before in
+    let at-if2 = c .before in
     let at-laid-product2 = at-if2 .before in
     let at-if1 = at-laid-product2 .before in
     let at-laid-product = at-if1 .before in
-    mark-refused _ _ _ _ (at-laid-product .laid-product .ensures) (at-if1 .if1 .left) (at-laid-product2 .laid-product2 .ensures) (at-if2 .if2 .left)
-    (c .before .block-outcome .ensures) (c .if3 .taken)
-
-returns-4 : tie.Need-returns-4
-returns-4 c =
-    let at-if2 = c .before .before in
-    let at-laid-product2 = at-if2 .before in
-    let at-if1 = at-laid-product2 .before in
-    let at-laid-product = at-if1 .before in
-    mark-set _ _ _ _ (at-laid-product .laid-product .ensures) (at-if1 .if1 .left) (at-laid-product2 .laid-product2 .ensures) (at-if2 .if2 .left)
-    (c .before .block-outcome .ensures) (c .if3 .left)
+    mark-linked _ _ _ _ (at-laid-product .laid-product .ensures) (at-if1 .if1 .left) (at-laid-product2 .laid-product2 .ensures) (at-if2 .if2 .left)
+    (c .block-outcome .ensures)
 
 pub mark-byte-spec : {M : Type 1} → statement M
 mark-byte-spec =
@@ -49,5 +40,4 @@ mark-byte-spec =
     laid-product-requires-2
     returns-2
     block-outcome-requires
-    returns-3
-    returns-4)
+    returns-3)

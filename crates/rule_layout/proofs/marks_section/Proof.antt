@@ -1,10 +1,10 @@
 -- `rule_layout::marks_section` meets its contract: the count decides, and after a good count the entries. Assumes nothing.
-use native.Mathlib.Omega.{arith}
 use Rattle.formats.specs.Sections.{two-byte}
 use Rattle.formats.proofs.Sections.{CountGood}
 use Rattle.formats.specs.RuleFile.{marksSection}
 use Rattle.sections.proofs.Sectioned.{count-read, count-refused, by-entries}
 use borrow.Author.Needs.{needs}
+use Rattle.rule_layout.proofs.MarkRanges.{mark-ranges}
 use Rattle.rule_layout.proofs.marks_section.Statement.{statement}
 use Rattle.rule_layout.proofs.marks_section.Tie as tie
 
@@ -21,11 +21,8 @@ good c =
     let call = c .before .before .before .wide-count in
     count-read (marksSection (a .n)) (a .at) (a .rest .now) (call .result) (call .ensures) (c .before .c .given .1)
 
-mul-entries : tie.Need-mul-entries
-mul-entries c = omega (arith, good c .within)
-
-entries-requires : tie.Need-entries-requires
-entries-requires c κs = omega (arith, good c .within)
+triples-requires : tie.Need-triples-requires
+triples-requires c κs = (c .before .before .before .before .before .pre, good c .within)
 
 enum-known-refusal : tie.Need-enum-known-refusal
 enum-known-refusal c = search needs
@@ -33,7 +30,7 @@ enum-known-refusal c = search needs
 returns : tie.Need-returns
 returns c =
     let a = c .before .before .before .before .before .before .args in
-    by-entries (marksSection (a .n)) (a .at) (a .rest .now) (good (c .before)) (c .entries .result) (c .entries .ensures)
+    by-entries (marksSection (a .n)) (a .at) (a .rest .now) (good (c .before)) (c .triples .result) (c .triples .ensures _ _ (mark-ranges (a .n)))
 
 returns-2 : tie.Need-returns-2
 returns-2 c =
@@ -47,8 +44,7 @@ marks-section-spec =
     (tie.spec
     wide-count-requires
     enum-known-c
-    mul-entries
-    entries-requires
+    triples-requires
     enum-known-refusal
     returns
     returns-2)

@@ -7,8 +7,8 @@ use mir.Facts.{fits-8-64}
 use lib.ListN.{length}
 use Rattle.rule_table.specs.Table.{Table}
 use Rattle.formats.specs.Table.{morphismAt}
-use Rattle.formats.specs.RuleFile.{markStart, markCycle}
-use Rattle.rule_marks.specs.Faults.{MarksRoom, MarksLaid, marksAmong}
+use Rattle.formats.specs.RuleFile.{markStart, markCycle, markGrade, gradeAmong}
+use Rattle.rule_marks.specs.Faults.{MarksRoom, MarksLaid}
 use Rattle.rule_marks.proofs.MarkOrder.{GoodMarks, no-marks, good-more, marks-pass, mark-unlinked, mark-repeated, said-unlinked, said-linked}
 use Rattle.rule_marks.proofs.Laid.{pair-below, laid-start, laid-next, mark-seen, mark-new}
 use Rattle.rule_marks.proofs.mark_fault.Statement.{statement}
@@ -16,7 +16,7 @@ use Rattle.rule_marks.proofs.mark_fault.Tie as tie
 
 abbrev Inv-loop : tie.InvT-loop
 Inv-loop rule n k bytes at count table₀ i₀ table i =
-    GoodMarks (morphismAt rule n k) bytes at i × MarksLaid (marksAmong bytes at i) n table₀ table × (i ≤ count)
+    GoodMarks (morphismAt rule n k) bytes at i × MarksLaid (gradeAmong bytes at i) n table₀ table × (i ≤ count)
 
 abbrev μ-loop : tie.MeasureT-loop
 μ-loop rule n k bytes at count table₀ i₀ table i = count - i
@@ -79,19 +79,25 @@ shared-slice-read-e c = omega (arith, room (c .before .before) .long)
 cast-e : tie.Need-cast-e Inv-loop μ-loop
 cast-e c = fits-8-64 (c .shared-slice-known4 .given _)
 
+add-grade : tie.Need-add-grade Inv-loop μ-loop
+add-grade c = omega (arith, room (c .before .before) .long)
+
+shared-slice-read-grade : tie.Need-shared-slice-read-grade Inv-loop μ-loop
+shared-slice-read-grade c = omega (arith, room (c .before .before .before) .long)
+
 linked-requires : tie.Need-linked-requires Inv-loop μ-loop
 unfolding markStart markCycle
 linked-requires c κs =
-    let d = c .before .before in
+    let d = c .before .before .before in
     (table d, (start-below d, cycle-below d))
 
 same-length : tie.Need-same-length Inv-loop μ-loop
-same-length c = c .before .before .before .before .before .loop .inv .1 .same-length
+same-length c = c .before .before .before .before .before .before .loop .inv .1 .same-length
 
 returns : tie.Need-returns Inv-loop μ-loop
 unfolding markStart markCycle
 returns c =
-    let d = c .before .before .before .before in (
+    let d = c .before .before .before .before .before in (
       λ input. mark-unlinked input _ (d .before .loop .i) (d .loop-test .taken) (d .before .loop .inv .0)
           (said-unlinked _ _ _ (c .before .linked .result) (c .before .linked .ensures) (c .if1 .taken)),
       d .before .loop .inv .1 .same-length,
@@ -99,23 +105,23 @@ returns c =
 
 mul-if2 : tie.Need-mul-if2 Inv-loop μ-loop
 unfolding markStart markCycle
-mul-if2 c = omega (arith, spot-below (c .before .before .before .before))
+mul-if2 c = omega (arith, spot-below (c .before .before .before .before .before))
 
 add-if2 : tie.Need-add-if2 Inv-loop μ-loop
 unfolding markStart markCycle
-add-if2 c = omega (arith, spot-below (c .before .before .before .before))
+add-if2 c = omega (arith, spot-below (c .before .before .before .before .before))
 
 slice-read-if2 : tie.Need-slice-read-if2 Inv-loop μ-loop
 unfolding markStart markCycle
-slice-read-if2 c = spot-in (c .before .before .before .before .before)
+slice-read-if2 c = spot-in (c .before .before .before .before .before .before)
 
 same-length-2 : tie.Need-same-length-2 Inv-loop μ-loop
-same-length-2 c = c .before .before .before .before .before .before .before .loop .inv .1 .same-length
+same-length-2 c = c .before .before .before .before .before .before .before .before .loop .inv .1 .same-length
 
 returns-2 : tie.Need-returns-2 Inv-loop μ-loop
 unfolding markStart markCycle
 returns-2 c =
-    let d = c .before .before .before .before .before .before in
+    let d = c .before .before .before .before .before .before .before in
     let l = said-linked _ _ _ (c .before .before .before .linked .result) (c .before .before .before .linked .ensures) (c .before .before .if1 .left) in
     let f = mark-seen (markBytes d) (section d) (d .before .loop .i) (table d .small) (d .before .loop .inv .1) (start-below d) (cycle-below d) (c .if2 .taken) in (
       λ input. mark-repeated input _ (d .before .loop .i) (d .loop-test .taken) (d .before .loop .inv .0) l (f .earlier) (f .before)
@@ -125,15 +131,15 @@ returns-2 c =
 
 mul-table : tie.Need-mul-table Inv-loop μ-loop
 unfolding markStart markCycle
-mul-table c = omega (arith, spot-below (c .before .before .before .before .before .before))
+mul-table c = omega (arith, spot-below (c .before .before .before .before .before .before .before))
 
 add-table : tie.Need-add-table Inv-loop μ-loop
 unfolding markStart markCycle
-add-table c = omega (arith, spot-below (c .before .before .before .before .before .before))
+add-table c = omega (arith, spot-below (c .before .before .before .before .before .before .before))
 
 slice-write-table : tie.Need-slice-write-table Inv-loop μ-loop
 unfolding markStart markCycle
-slice-write-table c = spot-in (c .before .before .before .before .before .before)
+slice-write-table c = spot-in (c .before .before .before .before .before .before .before)
 
 add-i : tie.Need-add-i Inv-loop μ-loop
 add-i c = omega arith
@@ -142,12 +148,12 @@ loop-less : tie.Need-loop-less Inv-loop μ-loop
 loop-less c = omega arith
 
 loop-again : tie.Need-loop-again Inv-loop μ-loop
-unfolding markStart markCycle
+unfolding markStart markCycle markGrade
 loop-again c =
-    let d = c .before .before .before .before .before .before in
+    let d = c .before .before .before .before .before .before .before in
     let l = said-linked _ _ _ (c .before .before .before .linked .result) (c .before .before .before .linked .ensures) (c .before .before .if1 .left) in (
       good-more (d .before .loop .inv .0)
-          (record { linked = l; fresh = mark-new (markBytes d) (section d) (d .before .loop .i) (table d .small) (d .before .loop .inv .1) (start-below d) (cycle-below d) (c .if2 .left) }),
+          (record { linked = l; fresh = mark-new (markBytes d) (section d) (d .before .loop .i) (table d .small) (d .before .loop .inv .1) (start-below d) (cycle-below d) (λ j h. room d .grades j (omega (arith, d .loop-test .taken)) .above) (c .if2 .left) }),
       laid-next (markBytes d) (section d) (d .before .loop .i) (table d .small) (d .before .loop .inv .1) (start-below d) (cycle-below d) (spot-in d),
       omega arith,
     )
@@ -160,7 +166,7 @@ returns-3 c =
     let b = c .before .before .before .before .before in
     let e : c .before .loop .i ≡ b .args .count = omega arith in (
       λ input. marks-pass input _ (subst (GoodMarks (morphismAt (b .args .rule .now) (b .args .n) (b .args .k)) (b .args .bytes .now) (b .args .at)) e (c .before .loop .inv .0)),
-      subst (λ (x : ℕ). MarksLaid (marksAmong (b .args .bytes .now) (b .args .at) x) (b .args .n) (b .args .table .now) (c .before .loop .table)) e (c .before .loop .inv .1),
+      subst (λ (x : ℕ). MarksLaid (gradeAmong (b .args .bytes .now) (b .args .at) x) (b .args .n) (b .args .table .now) (c .before .loop .table)) e (c .before .loop .inv .1),
     )
 
 pub mark-fault-spec : {M : Type 1} → statement M
@@ -178,6 +184,8 @@ mark-fault-spec =
     add-e
     shared-slice-read-e
     cast-e
+    add-grade
+    shared-slice-read-grade
     linked-requires
     same-length
     returns

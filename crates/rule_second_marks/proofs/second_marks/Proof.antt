@@ -38,13 +38,13 @@ marks c =
     section-read (marksSection (a .n)) 0 (a .bytes .now) (call .result) (call .ensures) (c .before .count .given .1)
 
 mul-end : tie.Need-mul-end
-mul-end c = omega (arith, count-small (marks c))
+mul-end c = omega (arith, count-small _ (marks c))
 
 add-end : tie.Need-add-end
-add-end c = omega (arith, count-small (marks c))
+add-end c = omega (arith, count-small _ (marks c))
 
 rest-after-requires : tie.Need-rest-after-requires
-rest-after-requires c κs = end-inside (marks c)
+rest-after-requires c κs = end-inside _ (marks c)
 
 returns-2 : tie.Need-returns-2
 returns-2 c =
@@ -59,7 +59,7 @@ mark-fault-requires : tie.Need-mark-fault-requires
 mark-fault-requires c κs =
     let d = c .before .before .before in
     let b = d .before .before .before .before .before .before .before in
-    (b .pre .0, marks-room (marks d) (b .pre .1 .1))
+    (b .pre .0, marks-room _ (marks d) (b .pre .1 .1))
 
 same-length : tie.Need-same-length
 same-length c = search needs

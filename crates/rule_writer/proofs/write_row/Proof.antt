@@ -15,8 +15,8 @@ abbrev μ-loop : tie.MeasureT-loop
 loop-holds : tie.Need-loop-holds Inv-loop μ-loop
 loop-holds c = row-start (c .before .before .pre)
 
-write-pair-requires : tie.Need-write-pair-requires Inv-loop μ-loop
-write-pair-requires c κs = row-place (c .before .before .loop .inv) (c .before .loop-test .taken)
+write-mark-requires : tie.Need-write-mark-requires Inv-loop μ-loop
+write-mark-requires c κs = row-place (c .before .before .loop .inv) (c .before .loop-test .taken)
 
 add-e : tie.Need-add-e Inv-loop μ-loop
 add-e c = omega arith
@@ -27,7 +27,7 @@ loop-less c = omega arith
 loop-again : tie.Need-loop-again Inv-loop μ-loop
 loop-again c =
     let turn = c .before .before .before .before in
-    row-next (turn .before .loop .inv) (turn .loop-test .taken) (c .before .before .write-pair .ensures)
+    row-next (turn .before .loop .inv) (turn .loop-test .taken) (c .before .before .write-mark .ensures)
 
 same-length : tie.Need-same-length Inv-loop μ-loop
 same-length c = row-length (c .before .loop .inv)
@@ -42,7 +42,7 @@ write-row-spec =
     Inv-loop
     μ-loop
     loop-holds
-    write-pair-requires
+    write-mark-requires
     add-e
     loop-less
     loop-again

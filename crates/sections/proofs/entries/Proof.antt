@@ -15,7 +15,7 @@ cut-requires : tie.Need-cut-requires
 cut-requires c κs = search needs
 
 returns : tie.Need-returns
-returns c = entries-cut-answer _ _ _ _ _ _ (c .cut .result) (c .cut .ensures) (c .before .if1 .taken)
+returns c = entries-cut-answer _ _ _ _ _ _ _ (c .cut .result) (c .cut .ensures) (c .before .if1 .taken)
 
 first-out-requires : tie.Need-first-out-requires
 first-out-requires c κs = search needs
@@ -29,6 +29,7 @@ out : (c : tie.After-known-told)
     (c .before .before .before .before .before .before .args .rest .now)
     (c .before .before .before .before .before .before .args .from)
     (c .before .before .before .before .before .before .args .size)
+    (λ i. 0)
     (λ i. c .before .before .before .before .before .before .args .bound)
     (c .before .i .given .0 .0)
 out c = found-at (c .before .before .before .first-out .result) (c .before .before .before .first-out .ensures) (c .before .i .given .1)
@@ -43,7 +44,7 @@ enum-told : tie.Need-enum-told
 enum-told c = search needs
 
 returns-2 : tie.Need-returns-2
-returns-2 c input = entries-out _ _ _ input _ _ (c .before .before .before .before .if1 .left) (out c)
+returns-2 c input = entries-out _ _ _ _ input _ _ (c .before .before .before .before .if1 .left) (out c)
 
 returns-3 : tie.Need-returns-3
 returns-3 c = record {

@@ -46,8 +46,8 @@ fn truth(answer: bool) -> Fixed {
     [usize::from(answer), 0, 0]
 }
 
-fn decided((accepted, turns): (bool, usize)) -> Fixed {
-    [usize::from(accepted), turns, 0]
+fn graded((grade, turns): (u8, usize)) -> Fixed {
+    [usize::from(grade), turns, 0]
 }
 
 fn written(length: usize, out: &[u8]) -> Fixed {
@@ -120,11 +120,11 @@ impl Call {
             }
             Call::Verdict(rule) => {
                 let answer = library::verdict(rule, monitor, scratch)?;
-                decided((answer.accepted, answer.turns))
+                graded((answer.grade, answer.turns))
             }
             Call::Member(rule, lasso) => {
                 let answer = library::member(rule, &lasso.0, &lasso.1, scratch)?;
-                decided((answer.accepted, answer.turns))
+                graded((answer.grade, answer.turns))
             }
             Call::Included(rule, second) => {
                 let answer = library::included(rule, second, u, v, scratch)?;
@@ -148,8 +148,8 @@ impl Call {
             Call::Reduce(rule) => written(reductions::reduce(how, rule, out, scratch)?, out),
             Call::Event(rule) => moved(monitors::event(how, rule, monitor, 0, scratch)?),
             Call::Mark(rule) => moved(monitors::mark(how, rule, monitor, scratch)?),
-            Call::Verdict(rule) => decided(monitors::verdict(how, rule, monitor, scratch)?),
-            Call::Member(rule, (u, v)) => decided(lassos::member(how, rule, u, v, scratch)?),
+            Call::Verdict(rule) => graded(monitors::verdict(how, rule, monitor, scratch)?),
+            Call::Member(rule, (u, v)) => graded(lassos::member(how, rule, u, v, scratch)?),
             Call::Included(rule, second) => {
                 truth(inclusion::included(how, rule, second, (u, v), scratch)?.is_none())
             }

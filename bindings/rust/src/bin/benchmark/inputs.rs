@@ -23,21 +23,37 @@ impl Rule {
         Rule { morphism, marks }
     }
 
-    /// The same with those linked pairs marked that are chosen.
+    /// The same with those linked pairs marked, with grade 3, that are chosen.
     fn marked(&self, chosen: impl Fn(usize, usize) -> bool) -> Rule {
+        self.graded(|s, e| 3 * u8::from(chosen(s, e)))
+    }
+
+    /// The same with those linked pairs marked that have a grade of 1 or more.
+    fn graded(&self, grade: impl Fn(usize, usize) -> u8) -> Rule {
         let n = self.morphism[0] as usize;
         let product = |s: usize, t: usize| self.morphism[1 + s * n + t] as usize;
         let linked = |s: usize, e: usize| product(e, e) == e && product(s, e) == s;
         let pairs = (0..n * n).map(|at| (at / n, at % n));
-        let pairs = pairs.filter(|(s, e)| linked(*s, *e) && chosen(*s, *e));
+        let pairs = pairs.filter(|(s, e)| linked(*s, *e));
+        let marks = pairs.map(|(s, e)| [s as u8, e as u8, grade(s, e)]);
+        let marks: Vec<[u8; 3]> = marks.filter(|mark| mark[2] > 0).collect();
         Rule {
             morphism: self.morphism.clone(),
-            marks: pairs.flat_map(|(s, e)| [s as u8, e as u8]).collect(),
+            marks: marks.concat(),
+        }
+    }
+
+    /// The same with the marks above a grade alone.
+    fn above(&self, grade: u8) -> Rule {
+        let marks = self.marks.chunks(3).filter(|mark| mark[2] > grade);
+        Rule {
+            morphism: self.morphism.clone(),
+            marks: marks.flatten().copied().collect(),
         }
     }
 
     pub fn section(&self) -> Vec<u8> {
-        let count = self.marks.len() as u16 / 2;
+        let count = self.marks.len() as u16 / 3;
         [&count.to_le_bytes()[..], &self.marks].concat()
     }
 
@@ -63,7 +79,7 @@ fn banded(n: usize, letters: usize) -> Rule {
     Rule::new(n, product, &images)
 }
 
-/// Closed marks: it accepts the lassos that begin with a letter of third part 0 and have letters of second part 0 without end.
+/// Closed marks: it gives grade 3 to the lassos that begin with a letter of third part 0 and have letters of second part 0 without end.
 pub fn closed(n: usize, letters: usize) -> Rule {
     let accepted = |s: usize, e: usize| s >> 1 & 1 == 0 && e >> 2 & 1 == 0;
     banded(n, letters).marked(accepted)
@@ -76,7 +92,7 @@ pub fn weak(n: usize, letters: usize) -> Rule {
 }
 
 /// A cyclic group times as many elements as there are different letters, of which the last of a product stays: each letter has the
-/// group's generator. With every linked pair marked it accepts every lasso.
+/// group's generator. With every linked pair marked every lasso has grade 3.
 pub fn rotating_closed(n: usize, letters: usize) -> Rule {
     let different = if letters < 16 { 2 } else { 16.min(n / 2) };
     let m = n / different;
@@ -93,6 +109,52 @@ pub fn rotating(n: usize, letters: usize) -> Rule {
     rotating_closed(n, letters).marked(|s, e| s == e)
 }
 
+/// n = 4·m elements for three grades: the group of m elements, times {1, 0} with the product of numbers, times two elements of which the
+/// first of a product stays. Element (a·2 + b)·2 + c. Each letter has the group's generator; with it (1, 0), (1, 1), (0, 0) and
+/// (0, 1), of which the first three reach every element.
+fn first_letter(n: usize, letters: usize) -> Rule {
+    let m = n / 4;
+    let product = |s: usize, t: usize| {
+        let parts = |x: usize| (x >> 2, x >> 1 & 1, x & 1);
+        let ((a, b, c), (a2, b2, _)) = (parts(s), parts(t));
+        ((a + a2) % m * 2 + (b & b2)) * 2 + c
+    };
+    let all = [6, 7, 4, 5].into_iter().cycle();
+    let images: Vec<u8> = all.take(letters).collect();
+    Rule::new(n, product, &images)
+}
+
+/// The grade of a linked pair's lassos in the rules below: what comes without end has the second part 0 or not, and what comes first has
+/// the third part 0 or not.
+fn of_three(s: usize, e: usize) -> u8 {
+    match (e >> 1 & 1, s & 1) {
+        (0, 0) => 3,
+        (0, _) => 2,
+        (_, 0) => 1,
+        _ => 0,
+    }
+}
+
+/// Closed marks of three grades.
+pub fn graded_closed(n: usize, letters: usize) -> Rule {
+    first_letter(n, letters).graded(of_three)
+}
+
+/// Only those whose first element has 0 for its group's part: unclosed at every grade, and strong all the same, as `rotating` is.
+pub fn graded(n: usize, letters: usize) -> Rule {
+    let grade = |s: usize, e: usize| of_three(s, e) * u8::from(s >> 2 == 0);
+    first_letter(n, letters).graded(grade)
+}
+
+/// Of those of grade 1 only the ones whose second element has 0 for its third part: strong above grade 1, where it is weak.
+pub fn graded_weak(n: usize, letters: usize) -> Rule {
+    let grade = |s: usize, e: usize| match (of_three(s, e), s >> 2, e & 1) {
+        (_, 1.., _) | (1, _, 1) => 0,
+        (grade, _, _) => grade,
+    };
+    first_letter(n, letters).graded(grade)
+}
+
 /// A sequence of numbers below bounds.
 struct Numbers(u64);
 
@@ -104,7 +166,8 @@ impl Numbers {
     }
 }
 
-/// u and v of one length, not accepted by `closed` and `weak`, so that every cut is looked at: u begins with letter 1.
+/// u and v of one length, of grade 0 by `closed` and `weak` and of grade 2 at most by `graded_closed`, so that every cut is looked at: u
+/// begins with letter 1.
 pub fn lasso(length: usize, letters: usize) -> (Vec<u8>, Vec<u8>) {
     let mut numbers = Numbers(1);
     let mut word = || -> Vec<u8> {
@@ -150,5 +213,9 @@ pub fn confirm() {
         assert_eq!(decided(weak(n, letters)), Ok(false));
         assert_eq!(decided(rotating(n, letters)), Ok(true));
         assert_eq!(decided(rotating_closed(n, letters)), Ok(true));
+        assert_eq!(decided(graded_closed(n, letters)), Ok(true));
+        assert_eq!(decided(graded(n, letters)), Ok(true));
+        assert_eq!(decided(graded_weak(n, letters)), Ok(false));
+        assert_eq!(decided(graded_weak(n, letters).above(1)), Ok(true));
     }
 }

@@ -17,6 +17,8 @@ type Kind = (&'static str, Made);
 const CLOSED: Kind = ("closed", inputs::closed);
 const UNCLOSED: Kind = ("unclosed", inputs::rotating);
 const WEAK: Kind = ("weak", inputs::weak);
+const GRADED: Kind = ("unclosed of three grades", inputs::graded);
+const GRADED_WEAK: Kind = ("weak of three grades", inputs::graded_weak);
 
 /// Each call on the kinds of rules that differ to it: classes and moves of a monitor look at no marks behind the check, and what
 /// asks for a strong rule does on a weak one what `strong` does.
@@ -25,7 +27,11 @@ const ON_RULES: [(&str, OnRule, &[Kind]); 7] = [
     ("mark", Call::Mark, &[CLOSED]),
     ("verdict", Call::Verdict, &[CLOSED, UNCLOSED]),
     ("classes", Call::Classes, &[CLOSED, UNCLOSED]),
-    ("strong", Call::Strong, &[CLOSED, UNCLOSED, WEAK]),
+    (
+        "strong",
+        Call::Strong,
+        &[CLOSED, UNCLOSED, WEAK, GRADED, GRADED_WEAK],
+    ),
     ("complement", Call::Complement, &[CLOSED, UNCLOSED]),
     ("reduce", Call::Reduce, &[CLOSED, UNCLOSED]),
 ];
@@ -46,17 +52,30 @@ fn rows_with(letters: usize) -> Vec<Row> {
         }
     }
     for length in [16, 4_224] {
-        let lasso = move || inputs::lasso(length, letters);
-        let member = move |n: usize| Call::Member(inputs::closed(n, letters).file(), lasso());
-        add(format!("member of {length}, closed"), Box::new(member));
+        let kinds: [Kind; 2] = [CLOSED, ("closed of three grades", inputs::graded_closed)];
+        for (kind, made) in kinds {
+            let lasso = move || inputs::lasso(length, letters);
+            let member = move |n: usize| Call::Member(made(n, letters).file(), lasso());
+            add(format!("member of {length}, {kind}"), Box::new(member));
+        }
     }
-    let markings: [(&str, Made, Made); 3] = [
+    let markings: [(&str, Made, Made); 5] = [
         ("yes", inputs::weak, inputs::closed),
         ("no", inputs::closed, inputs::weak),
         (
             "yes after a full search",
             inputs::rotating_closed,
             inputs::rotating,
+        ),
+        (
+            "no of three grades",
+            inputs::graded_closed,
+            inputs::graded_weak,
+        ),
+        (
+            "yes after a full search of three grades",
+            inputs::graded_closed,
+            inputs::graded,
         ),
     ];
     for (answer, first, second) in markings {

@@ -1,9 +1,9 @@
 //! Automata to rules.
 
 use super::{lengths, Comparison};
-use crate::definitions::acceptance::{accepts, Marking};
+use crate::definitions::acceptance::{grade, Marking};
 use crate::definitions::checks::{self, Automaton, Refusal};
-use crate::definitions::rule::Rule;
+use crate::definitions::rule::{Mark, Rule};
 use duknavet::{RULE_OUT, SCRATCH};
 
 pub const AUTOMATON_SIZES: [usize; 2] = [RULE_OUT, SCRATCH];
@@ -65,7 +65,7 @@ impl Comparison {
             .count("automaton_rule", "the same from another numbering");
     }
 
-    /// The rule and the automaton accept the same of some lassos.
+    /// Of some lassos those on which the automaton has a run have grade 3 by the rule, and the others grade 0.
     fn runs(&mut self, automaton: &Automaton, rule: &Rule) {
         let marking = Marking::new(rule.morphism.n, &rule.marks);
         for _ in 0..6 {
@@ -73,8 +73,9 @@ impl Comparison {
             let u = self.random.word(lengths.0, automaton.letters);
             let v = self.random.word(lengths.1, automaton.letters);
             let accepted = automaton.accepts(&u, &v);
-            let found = accepts(&rule.morphism, &marking, &u, &v);
-            assert_eq!(found, accepted, "{u:?} {v:?} of {:?}", automaton.bytes());
+            let found = grade(&rule.morphism, &marking, &u, &v);
+            let expected = if accepted { 3 } else { 0 };
+            assert_eq!(found, expected, "{u:?} {v:?} of {:?}", automaton.bytes());
             let outcome = if accepted {
                 "a run on a lasso"
             } else {
@@ -85,7 +86,8 @@ impl Comparison {
     }
 }
 
-/// The rule's elements are the matrices, in some numbering, and its marks are the linked pairs that are to be marked, by s, then by e.
+/// The rule's elements are the matrices, in some numbering, and its marks are the linked pairs that are to be marked, with grade 3, by s,
+/// then by e.
 fn compare(automaton: &Automaton, count: usize, rule: &Rule) -> Result<(), String> {
     let m = &rule.morphism;
     if m.letters() != automaton.letters || m.n != count {
@@ -119,8 +121,10 @@ fn compare(automaton: &Automaton, count: usize, rule: &Rule) -> Result<(), Strin
         return Err("two elements have one matrix".to_string());
     }
     let marks = &rule.marks;
-    let mut expected = m.linked_pairs();
-    expected.retain(|(s, e)| automaton.marks(&matrices[*s as usize], &matrices[*e as usize]));
+    let mut pairs = m.linked_pairs();
+    pairs.retain(|(s, e)| automaton.marks(&matrices[*s as usize], &matrices[*e as usize]));
+    let marked = pairs.into_iter().map(|pair| Mark { pair, grade: 3 });
+    let expected: Vec<Mark> = marked.collect();
     match *marks == expected {
         true => Ok(()),
         false => Err(format!("marks {marks:?}, expected {expected:?}")),

@@ -1,12 +1,12 @@
 //! Classes, strength, complement, inclusion.
 
 use super::{lengths, Comparison};
-use crate::definitions::acceptance::{accepts, Marking};
+use crate::definitions::acceptance::{accepts, grade, Marking};
 use crate::definitions::checks::{self, Refusal};
 use crate::definitions::conjugacy;
 use crate::definitions::contexts;
 use crate::definitions::cycles::{self, Decided};
-use crate::definitions::rule::Pair;
+use crate::definitions::rule::{Mark, Rule, GRADES};
 use crate::definitions::splits;
 use crate::subject::{Known, Subject};
 use duknavet::{Inclusion, Strength, CLASSES_OUT, RULE_OUT, SCRATCH, U_OUT, V_OUT};
@@ -65,8 +65,17 @@ impl Comparison {
             (true, false) => "strong, marks not closed",
         };
         self.tally.count("strong", outcome);
-        if subject.known().morphism().n == 64 {
+        let known = subject.known();
+        if known.morphism().n == 64 {
             self.tally.count("strong of 64", outcome);
+        }
+        let grades = known.grades();
+        if strong && grades > 0 {
+            self.tally
+                .count("strong", format!("{outcome}, grades: {grades}"));
+        }
+        if !strong && splits::strong_at(known.morphism(), known.marking.level(1)) {
+            self.tally.count("strong", "weak above grade 1 only");
         }
     }
 
@@ -123,9 +132,11 @@ impl Comparison {
         let m = known.morphism();
         assert_eq!(written.morphism, *m, "complement of {inputs:?}");
         let outcomes = outcomes(known);
-        let accepted = |(s, e): &Pair| outcomes[*s as usize * m.n + *e as usize];
-        let mut expected = m.linked_pairs();
-        expected.retain(|pair| !accepted(pair));
+        let graded = m.linked_pairs().into_iter().map(|(s, e)| Mark {
+            pair: (s, e),
+            grade: 3 - outcomes[s as usize * m.n + e as usize],
+        });
+        let expected: Vec<Mark> = graded.filter(|mark| mark.grade > 0).collect();
         // both by s, then by e
         assert_eq!(
             written.marks, expected,
@@ -134,7 +145,26 @@ impl Comparison {
         if let Err(fault) = self.ordered("complement", &written, false) {
             panic!("complement of {inputs:?}: {fault}");
         }
+        self.rest(known, &written);
+        self.count_marks("complement", &written.marks);
         self.tally.count("complement", "written");
+    }
+
+    /// Of some lassos: for each grade g, the complement accepts those at 4 − g that the rule does not accept at g.
+    fn rest(&mut self, known: &Known, written: &Rule) {
+        let m = known.morphism();
+        let marking = Marking::new(m.n, &written.marks);
+        for _ in 0..4 {
+            let lengths = (self.random.within(0, 5), self.random.within(1, 7));
+            let u = self.random.word(lengths.0, m.letters());
+            let v = self.random.word(lengths.1, m.letters());
+            for least in GRADES {
+                let here = accepts(m, known.marking.level(least), &u, &v);
+                let there = accepts(m, marking.level(4 - least), &u, &v);
+                assert_eq!(there, !here, "{u:?} {v:?} at {least} of {:?}", known.rule);
+            }
+            self.tally.count("complement", "the rest at each grade");
+        }
     }
 
     pub fn included(&mut self, subject: &Subject, second: &[u8], sizes: [usize; 3]) {
@@ -176,9 +206,17 @@ impl Comparison {
                 assert!((1..=most).contains(&j), "v of {inputs:?} has {j} letters");
                 let foreign = |a: &u8| *a as usize >= m.letters();
                 assert!(!u.iter().chain(v).any(foreign), "{u:?} {v:?} of {inputs:?}");
-                let outcome = (accepts(m, markings.0, u, v), accepts(m, markings.1, u, v));
-                assert_eq!(outcome, (true, false), "{u:?} {v:?} of {inputs:?}");
+                let (own, other) = (grade(m, markings.0, u, v), grade(m, markings.1, u, v));
+                assert!(
+                    own > other,
+                    "{u:?} {v:?} of {inputs:?}: {own} is not above {other}"
+                );
                 self.tally.count("included", "not included");
+                let ones = (markings.0.level(1), markings.1.level(1));
+                if splits::included_at(m, ones.0, ones.1) {
+                    self.tally
+                        .count("included", "not included above grade 1 only");
+                }
                 if j >= 3 {
                     self.tally.count("included", "not included, v of 3 or more");
                 }
@@ -217,8 +255,8 @@ impl std::fmt::Debug for Wrapped<'_> {
     }
 }
 
-/// The outcomes of a strong rule's lassos, by their values.
-pub fn outcomes(known: &Known) -> &[bool] {
+/// The grades of a strong rule's lassos, by their values.
+pub fn outcomes(known: &Known) -> &[u8] {
     let find = || contexts::outcomes(known.morphism(), &known.marking, &known.words);
     known.outcomes.get_or_init(find)
 }

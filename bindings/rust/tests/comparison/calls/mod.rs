@@ -9,7 +9,7 @@ mod reductions;
 
 use crate::definitions::checks::Refusal;
 use crate::definitions::order;
-use crate::definitions::rule::Rule;
+use crate::definitions::rule::{Mark, Rule, GRADES};
 use crate::lending::{Lent, Stale};
 use crate::random::Random;
 use crate::tally::{refusal, Tally};
@@ -64,9 +64,9 @@ impl Comparison {
         sizes.map(|size| self.stale.lend(&mut self.random, size))
     }
 
-    /// Counts what was said of a lasso: whether it is accepted, and so with its turns.
-    fn count_decided(&mut self, call: &str, (accepted, turns): (bool, usize)) {
-        let outcome = if accepted { "accepted" } else { "not accepted" };
+    /// Counts what was said of a lasso: its grade, and that with its turns.
+    fn count_graded(&mut self, call: &str, (grade, turns): (u8, usize)) {
+        let outcome = format!("grade {grade}");
         let with_turns = match turns {
             1 => format!("{outcome}, 1 turn"),
             _ => format!("{outcome}, 2 turns or more"),
@@ -75,6 +75,15 @@ impl Comparison {
         self.tally.count(call, with_turns);
         if turns == 64 {
             self.tally.count(call, "64 turns");
+        }
+    }
+
+    /// Counts the grades that a written rule has.
+    fn count_marks(&mut self, call: &str, marks: &[Mark]) {
+        for grade in GRADES {
+            if marks.iter().any(|mark| mark.grade == grade) {
+                self.tally.count(call, format!("a mark of grade {grade}"));
+            }
         }
     }
 

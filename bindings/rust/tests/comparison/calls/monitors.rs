@@ -2,7 +2,7 @@
 
 use super::markings::outcomes;
 use super::{lengths, Comparison};
-use crate::definitions::acceptance::accepts;
+use crate::definitions::acceptance::grade;
 use crate::definitions::checks::{self, Refusal};
 use crate::definitions::settling::turns;
 use crate::lending::Lent;
@@ -108,12 +108,12 @@ impl Comparison {
             }
             let known = self.asked_strong(subject)?;
             let m = known.morphism();
-            let accepted = match before {
+            let grade = match before {
                 // The cycle alone: a word with its value, for ever.
-                NONE => accepts(m, &known.marking, &[], &known.words[since]),
+                NONE => grade(m, &known.marking, &[], &known.words[since]),
                 before => outcomes(known)[before * m.n + since],
             };
-            Ok((accepted, turns(m, &known.words[since])))
+            Ok((grade, turns(m, &known.words[since])))
         };
         let expected = read();
         self.count_values("verdict", subject, &expected);
@@ -122,9 +122,9 @@ impl Comparison {
         let Some((answer, expected)) = found else {
             return;
         };
-        let found = (answer.accepted, answer.turns);
+        let found = (answer.grade, answer.turns);
         assert_eq!(found, expected, "verdict of {monitor:?} on {inputs:?}");
-        self.count_decided("verdict", found);
+        self.count_graded("verdict", found);
         if before == NONE {
             self.tally.count("verdict", "of a cycle alone");
         }

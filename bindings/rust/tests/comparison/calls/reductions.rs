@@ -1,8 +1,8 @@
-//! Reduction: strong, the same lassos, the marks that it must have, no larger than the syntactic classes, and in its order.
+//! Reduction: strong, the same grades, the marks that it must have, no larger than the syntactic classes, and in its order.
 
 use super::markings::outcomes;
 use super::{lengths, Comparison};
-use crate::definitions::acceptance::{accepts, Marking};
+use crate::definitions::acceptance::{grade, Marking};
 use crate::definitions::contexts;
 use crate::definitions::cycles::Decided;
 use crate::definitions::order;
@@ -35,6 +35,7 @@ impl Comparison {
             false => "as large",
         };
         self.tally.count("reduce", outcome);
+        self.count_marks("reduce", &reduced.rule.marks);
         if size == 64 {
             self.tally.count("reduce", "64 elements");
         }
@@ -66,25 +67,28 @@ fn compare(known: &Known, reduced: &Known) -> Result<(), String> {
     if r.n != count || pairs().any(|(s, t)| (image[s] == image[t]) != (class[s] == class[t])) {
         return Err(format!("{} elements for {count} classes", r.n));
     }
-    // It marks the linked pairs whose lassos the given rule accepts, and no other.
+    // It marks the linked pairs with the grade that the given rule gives to their lassos, and no other.
     for (t, f) in r.elements().flat_map(|t| r.elements().map(move |f| (t, f))) {
         let (u, v) = (&reduced.words[t as usize], &reduced.words[f as usize]);
-        let expected = r.linked((t, f)) && accepts(m, &known.marking, u, v);
-        if reduced.marking.has((t, f)) != expected {
-            return Err(format!("mark ({t}, {f}) should be {expected}"));
+        let expected = match r.linked((t, f)) {
+            true => grade(m, &known.marking, u, v),
+            false => 0,
+        };
+        if reduced.marking.grade((t, f)) != expected {
+            return Err(format!("the grade of ({t}, {f}) should be {expected}"));
         }
     }
-    // The same lassos, one for each two values of the given rule (both are strong).
+    // The same grades of lassos, one for each two values of the given rule (both are strong).
     let marking: &Marking = &reduced.marking;
     for (s, u) in known.words.iter().enumerate() {
         for (z, v) in known.words.iter().enumerate() {
-            if accepts(r, marking, u, v) != outcomes[s * m.n + z] {
+            if grade(r, marking, u, v) != outcomes[s * m.n + z] {
                 return Err(format!("the lassos of values {s} and {z} differ"));
             }
         }
     }
     for v in &known.words {
-        if accepts(r, marking, &[], v) != accepts(m, &known.marking, &[], v) {
+        if grade(r, marking, &[], v) != grade(m, &known.marking, &[], v) {
             return Err(format!("{v:?} for ever differs"));
         }
     }

@@ -1,22 +1,53 @@
-//! Acceptance of a lasso: over every writing p, w of its endless word.
+//! Acceptance of a lasso by a set of pairs: over every writing p, w of its endless word. The grade of a lasso: the highest among the
+//! marked pairs that accept it, found as the highest grade whose level accepts it.
 
-use super::rule::{Morphism, Pair};
+use super::rule::{Mark, Morphism, Pair, GRADES};
+use std::collections::HashMap;
 
-/// Marked pairs: bit e of row s.
-#[derive(Clone)]
-pub struct Marking(pub Vec<u64>);
+/// The pairs that have some least grade: bit e of row s.
+#[derive(Clone, PartialEq, Eq)]
+pub struct Level(pub Vec<u64>);
 
-impl Marking {
-    pub fn new(n: usize, pairs: &[Pair]) -> Marking {
-        let mut rows = vec![0; n];
-        for (s, e) in pairs {
-            rows[*s as usize] |= 1 << e;
-        }
-        Marking(rows)
-    }
-
+impl Level {
     pub fn has(&self, (s, e): Pair) -> bool {
         self.0[s as usize] >> e & 1 == 1
+    }
+
+    pub fn is_empty(&self) -> bool {
+        self.0.iter().all(|row| *row == 0)
+    }
+}
+
+/// The grades of the marked pairs, and their levels.
+#[derive(Clone)]
+pub struct Marking {
+    grades: HashMap<Pair, u8>,
+    levels: [Level; 3],
+}
+
+impl Marking {
+    pub fn new(n: usize, marks: &[Mark]) -> Marking {
+        let level = |least: u8| {
+            let mut rows = vec![0; n];
+            for mark in marks.iter().filter(|mark| mark.grade >= least) {
+                rows[mark.pair.0 as usize] |= 1 << mark.pair.1;
+            }
+            Level(rows)
+        };
+        Marking {
+            grades: marks.iter().map(|mark| (mark.pair, mark.grade)).collect(),
+            levels: GRADES.map(level),
+        }
+    }
+
+    /// The grade of a pair, 0 where it has no mark.
+    pub fn grade(&self, pair: Pair) -> u8 {
+        self.grades.get(&pair).copied().unwrap_or(0)
+    }
+
+    /// The pairs with a grade of `least` or more; `least` is 1 to 3.
+    pub fn level(&self, least: u8) -> &Level {
+        &self.levels[least as usize - 1]
     }
 }
 
@@ -33,7 +64,7 @@ pub fn segment(u: &[u8], v: &[u8], i: usize, length: usize) -> Vec<u8> {
     (i..i + length).map(|j| letter(u, v, j)).collect()
 }
 
-/// Acceptance with no thought spared: every p and w up to a bound, compared letter by letter with the lasso.
+/// The values of every writing with no thought spared: every p and w up to a bound, compared letter by letter with the lasso.
 ///
 /// The bound: a writing p, w of the endless word α is a position i = |p| ≥ 1 and a length l = |w| ≥ 1 such that α has period l
 /// from i on. With d the least period that α has in the end (so d divides |v|) the periods are the multiples of d. Take a
@@ -42,18 +73,32 @@ pub fn segment(u: &[u8], v: &[u8], i: usize, length: usize) -> Vec<u8> {
 /// the value r of d letters from i' on), so all of its values occur for t < n; and the values of w for l = d, 2d, .. are the powers
 /// of r, all of which occur up to the n-th. So i ≤ |u| + (n + 1)·|v| and l ≤ n·|v| cover the values of all writings.
 /// Two endless words with equal letters on the first max(|u|, |p|) + |v| + |w| positions are equal (Fine and Wilf).
-pub fn accepts_literally(m: &Morphism, marking: &Marking, u: &[u8], v: &[u8]) -> bool {
+fn writings_literally(m: &Morphism, u: &[u8], v: &[u8]) -> Vec<Pair> {
+    let mut values = Vec::new();
     for i in 1..=u.len() + (m.n + 1) * v.len() {
         for l in 1..=m.n * v.len() {
             let (p, w) = (segment(u, v, 0, i), segment(u, v, i, l));
             let end = u.len().max(i) + v.len() + l;
             let same = (0..end).all(|j| letter(u, v, j) == letter(&p, &w, j));
-            if same && marking.has((m.value(&p), m.value(&w))) {
-                return true;
+            if same {
+                values.push((m.value(&p), m.value(&w)));
             }
         }
     }
-    false
+    values
+}
+
+/// Whether some writing has its values in the level.
+pub fn accepts_literally(m: &Morphism, level: &Level, u: &[u8], v: &[u8]) -> bool {
+    let values = writings_literally(m, u, v);
+    values.into_iter().any(|pair| level.has(pair))
+}
+
+/// The highest grade of the values of a writing: of the marked pairs that accept the lasso.
+pub fn grade_literally(m: &Morphism, marking: &Marking, u: &[u8], v: &[u8]) -> u8 {
+    let values = writings_literally(m, u, v);
+    let grades = values.into_iter().map(|pair| marking.grade(pair));
+    grades.max().expect("a writing")
 }
 
 /// Where the endless word of u, v begins to repeat, and its least period: (m, d).
@@ -67,7 +112,7 @@ fn shape(u: &[u8], v: &[u8]) -> (usize, usize) {
     (m, d)
 }
 
-/// The values of all writings of u, v, as one row of bits for each value of p: the same set as that of `accepts_literally`,
+/// The values of all writings of u, v, as one row of bits for each value of p: the same set as that of `writings_literally`,
 /// position classes first, then the two sequences of values that its comment names, each to its first repetition.
 pub fn writings(m: &Morphism, u: &[u8], v: &[u8]) -> Vec<u64> {
     let (start, d) = shape(u, v);
@@ -119,9 +164,20 @@ fn rotation_values(m: &Morphism, word: &[u8]) -> Vec<u8> {
     values
 }
 
-pub fn accepts(m: &Morphism, marking: &Marking, u: &[u8], v: &[u8]) -> bool {
+/// Whether a set of values, as rows of bits, has a pair of the level.
+fn meets(rows: &[u64], level: &Level) -> bool {
+    let mut both = rows.iter().zip(&level.0);
+    both.any(|(row, pairs)| row & pairs != 0)
+}
+
+pub fn accepts(m: &Morphism, level: &Level, u: &[u8], v: &[u8]) -> bool {
+    meets(&writings(m, u, v), level)
+}
+
+/// The highest grade whose level accepts the lasso, 0 where none does.
+pub fn grade(m: &Morphism, marking: &Marking, u: &[u8], v: &[u8]) -> u8 {
     let rows = writings(m, u, v);
-    rows.iter()
-        .zip(&marking.0)
-        .any(|(row, marks)| row & marks != 0)
+    let mut falling = GRADES.into_iter().rev();
+    let highest = falling.find(|least| meets(&rows, marking.level(*least)));
+    highest.unwrap_or(0)
 }

@@ -1,6 +1,6 @@
-//! The refusals in document 01's order, read from its table: for each call the first check that fails.
+//! The refusals in document 01's order, read from its table and the requests that changed it: for each call the first check that fails.
 
-use super::rule::{Morphism, Pair, Rule};
+use super::rule::{Mark, Morphism, Rule};
 
 /// A refusal: its number, its input, its place.
 pub type Refusal = (u8, u8, u64);
@@ -38,11 +38,14 @@ impl<'a> Reader<'a> {
         }
     }
 
-    /// A section's entries, whose limits repeat.
-    fn entries(&mut self, count: usize, limits: &[usize]) -> Result<&'a [u8], Refusal> {
+    /// A section's entries; the least and the most that one may be repeat.
+    fn entries(&mut self, count: usize, limits: &[(usize, usize)]) -> Result<&'a [u8], Refusal> {
         let place = self.at;
         let part = self.take(count * limits.len())?;
-        let bad = |i: &usize| part[*i] as usize >= limits[*i % limits.len()];
+        let bad = |i: &usize| {
+            let (least, most) = limits[*i % limits.len()];
+            !(least..=most).contains(&(part[*i] as usize))
+        };
         match (0..part.len()).find(bad) {
             Some(i) => self.refuse(3, place + i),
             None => Ok(part),
@@ -57,13 +60,18 @@ impl<'a> Reader<'a> {
     }
 }
 
-/// Checks 7 and 8 of a marks section whose pairs begin at a byte.
-fn marks(m: &Morphism, pairs: &[u8], input: u8, begin: usize) -> Result<Vec<Pair>, Refusal> {
-    let mut marks: Vec<Pair> = Vec::new();
+/// What the entries of a mark may be: s, e and the grade.
+fn mark_limits(n: usize) -> [(usize, usize); 3] {
+    [(0, n - 1), (0, n - 1), (1, 3)]
+}
+
+/// Checks 7 and 8 of a marks section whose triples begin at a byte. A pair that stands twice does so whatever its grades are.
+fn marks(m: &Morphism, triples: &[u8], input: u8, begin: usize) -> Result<Vec<Mark>, Refusal> {
+    let mut marks: Vec<Mark> = Vec::new();
     let mut seen = vec![false; m.n * m.n];
-    for (i, pair) in pairs.chunks(2).enumerate() {
-        let place = (begin + 2 * i) as u64;
-        let pair = (pair[0], pair[1]);
+    for (i, triple) in triples.chunks(3).enumerate() {
+        let place = (begin + 3 * i) as u64;
+        let (pair, grade) = ((triple[0], triple[1]), triple[2]);
         if !m.linked(pair) {
             return Err((7, input, place));
         }
@@ -72,7 +80,7 @@ fn marks(m: &Morphism, pairs: &[u8], input: u8, begin: usize) -> Result<Vec<Pair
             return Err((8, input, place));
         }
         seen[at] = true;
-        marks.push(pair);
+        marks.push(Mark { pair, grade });
     }
     Ok(marks)
 }
@@ -100,24 +108,24 @@ pub fn rule(bytes: &[u8]) -> Result<Rule, Refusal> {
         input: 1,
     };
     let n = reader.count(1, 1, 64)?;
-    let table = reader.entries(n * n, &[n])?.to_vec();
+    let table = reader.entries(n * n, &[(0, n - 1)])?.to_vec();
     let k = reader.count(1, 1, 16)?;
-    let images = reader.entries(k, &[n])?.to_vec();
+    let images = reader.entries(k, &[(0, n - 1)])?.to_vec();
     let count = reader.count(2, 0, 4_096)?;
     let begin = reader.at;
-    let pairs = reader.entries(count, &[n, n])?;
+    let triples = reader.entries(count, &mark_limits(n))?;
     reader.end()?;
     let morphism = Morphism { n, table, images };
     associative(&morphism)?;
     if let Some(s) = morphism.words().iter().position(Option::is_none) {
         return Err((6, 1, s as u64));
     }
-    let marks = marks(&morphism, pairs, 1, begin)?;
+    let marks = marks(&morphism, triples, 1, begin)?;
     Ok(Rule { morphism, marks })
 }
 
 /// The checks of a marks section as a second input.
-pub fn second(m: &Morphism, bytes: &[u8]) -> Result<Vec<Pair>, Refusal> {
+pub fn second(m: &Morphism, bytes: &[u8]) -> Result<Vec<Mark>, Refusal> {
     let mut reader = Reader {
         bytes,
         at: 0,
@@ -125,9 +133,9 @@ pub fn second(m: &Morphism, bytes: &[u8]) -> Result<Vec<Pair>, Refusal> {
     };
     let count = reader.count(2, 0, 4_096)?;
     let begin = reader.at;
-    let pairs = reader.entries(count, &[m.n, m.n])?;
+    let triples = reader.entries(count, &mark_limits(m.n))?;
     reader.end()?;
-    marks(m, pairs, 2, begin)
+    marks(m, triples, 2, begin)
 }
 
 /// The checks of a lasso: both lengths, of which only that of u may be 0, then the letters of both.
@@ -188,11 +196,12 @@ pub fn automaton(bytes: &[u8]) -> Result<Automaton, Refusal> {
         input: 1,
     };
     let states = reader.count(1, 1, 6)?;
-    let kinds = reader.entries(states, &[4])?.to_vec();
+    let kinds = reader.entries(states, &[(0, 3)])?.to_vec();
     let letters = reader.count(1, 1, 16)?;
     let count = reader.count(2, 0, 576)?;
     let begin = reader.at;
-    let triples = reader.entries(count, &[states, letters, states])?;
+    let limits = [(0, states - 1), (0, letters - 1), (0, states - 1)];
+    let triples = reader.entries(count, &limits)?;
     reader.end()?;
     let mut transitions: Vec<(u8, u8, u8)> = Vec::new();
     for (i, triple) in triples.chunks(3).enumerate() {

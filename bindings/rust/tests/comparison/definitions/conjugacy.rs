@@ -1,6 +1,7 @@
 //! Conjugate pairs, from the definition.
 
-use super::rule::{Morphism, Pair};
+use super::rule::{Mark, Morphism, Pair};
+use std::collections::BTreeMap;
 
 /// Whether x and y exist with s·x = t, x·y = e, y·x = f.
 pub fn conjugate(m: &Morphism, (s, e): Pair, (t, f): Pair) -> bool {
@@ -52,16 +53,18 @@ pub fn classes(m: &Morphism) -> Vec<u16> {
     classes
 }
 
-/// The pairs that are conjugate to one of `pairs`.
-pub fn closure(m: &Morphism, pairs: &[Pair]) -> Vec<Pair> {
+/// The pairs that are conjugate to a marked one, each with the highest grade of those.
+pub fn closure(m: &Morphism, marks: &[Mark]) -> Vec<Mark> {
     let turns = turns(m);
-    let mut all: Vec<Pair> = pairs
-        .iter()
-        .flat_map(|pair| conjugates(m, &turns, *pair))
-        .collect();
-    all.sort_unstable();
-    all.dedup();
-    all
+    let mut highest: BTreeMap<Pair, u8> = BTreeMap::new();
+    for mark in marks {
+        for pair in conjugates(m, &turns, mark.pair) {
+            let grade = highest.entry(pair).or_default();
+            *grade = mark.grade.max(*grade);
+        }
+    }
+    let all = highest.into_iter();
+    all.map(|(pair, grade)| Mark { pair, grade }).collect()
 }
 
 /// The list again with nothing but the definition, for small tables.

@@ -1,19 +1,19 @@
-//! The syntactic classes of a strong rule's elements: two are together if no context tells their lassos apart.
+//! The syntactic classes of a strong rule's elements: two are together if no context tells the grades of their lassos apart.
 
-use super::acceptance::{accepts, Marking};
+use super::acceptance::{grade, Marking};
 use super::rule::Morphism;
 
-/// For each s and z whether the lassos with these values are accepted; the rule is strong, so one word for each will do.
-pub fn outcomes(m: &Morphism, marking: &Marking, words: &[Vec<u8>]) -> Vec<bool> {
+/// For each s and z the grade of the lassos with these values; the rule is strong, so one word for each will do.
+pub fn outcomes(m: &Morphism, marking: &Marking, words: &[Vec<u8>]) -> Vec<u8> {
     let pairs = words.iter().flat_map(|u| words.iter().map(move |v| (u, v)));
-    pairs.map(|(u, v)| accepts(m, marking, u, v)).collect()
+    pairs.map(|(u, v)| grade(m, marking, u, v)).collect()
 }
 
 /// The class of each element, numbered from 0. A context is a word x before, a word y after, either of them possibly empty, and
 /// a word z that is the cycle after (x s y, z) or the start before (z, x s y).
-pub fn classes(m: &Morphism, outcomes: &[bool]) -> (Vec<usize>, usize) {
+pub fn classes(m: &Morphism, outcomes: &[u8]) -> (Vec<usize>, usize) {
     let maybe = || m.elements().map(Some).chain([None]);
-    let mut rows: Vec<Vec<bool>> = Vec::new();
+    let mut rows: Vec<Vec<u8>> = Vec::new();
     let mut class = Vec::new();
     for s in m.elements() {
         let mut row = Vec::new();

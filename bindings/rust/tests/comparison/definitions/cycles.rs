@@ -3,14 +3,14 @@
 //! Let every mark be linked. If a writing p, w of the lasso u, v has marked values (s, e), so has the writing with
 //! p·w^t for p and w^|v| for w, since s·e = s and e·e = e; for t large enough that one has the form p = u v^t' v₁,
 //! w = (v₂ v₁)^c with v = v₁ v₂ and v₁ not empty. Its values are products of the values of u, v₁ and v₂ alone. So the value of u and the
-//! set of splits D(v) = { (value of v₁, value of v₂) : v = v₁ v₂, v₁ not empty } decide whether u, v is accepted, whatever the
-//! marks. D(v a) follows from D(v) and the letter a, and there are finitely many sets: a search over words finds them
+//! set of splits D(v) = { (value of v₁, value of v₂) : v = v₁ v₂, v₁ not empty } decide which marked pairs accept u, v, and so its
+//! grade, whatever the marks. D(v a) follows from D(v) and the letter a, and there are finitely many sets: a search over words finds them
 //! all, with a word for each. Together with one word for each element (for u) these words stand for all lassos.
 //!
 //! The number of sets may be exponential in n, so the search has a limit; beyond it nothing is decided unless a lasso found
 //! so far already shows the answer.
 
-use super::acceptance::{accepts, Marking};
+use super::acceptance::{grade, Marking};
 use super::rule::Morphism;
 use std::collections::HashSet;
 
@@ -81,16 +81,16 @@ pub fn cycles(m: &Morphism, limit: usize) -> Cycles {
     Cycles { words, complete }
 }
 
-/// Whether any two lassos with equal values are both accepted or both not. `starts` has a word for each element.
+/// Whether any two lassos with equal values have equal grades. `starts` has a word for each element.
 pub fn strong(m: &Morphism, marking: &Marking, starts: &[Vec<u8>], cycles: &Cycles) -> Decided {
-    let mut outcomes: Vec<Option<bool>> = vec![None; m.n * m.n];
+    let mut outcomes: Vec<Option<u8>> = vec![None; m.n * m.n];
     for v in &cycles.words {
         let z = m.value(v) as usize;
         for (s, u) in starts.iter().enumerate() {
-            let accepted = accepts(m, marking, u, v);
+            let grade = grade(m, marking, u, v);
             match outcomes[s * m.n + z] {
-                None => outcomes[s * m.n + z] = Some(accepted),
-                Some(before) if before != accepted => return Decided::No,
+                None => outcomes[s * m.n + z] = Some(grade),
+                Some(before) if before != grade => return Decided::No,
                 Some(_) => {}
             }
         }
@@ -101,7 +101,7 @@ pub fn strong(m: &Morphism, marking: &Marking, starts: &[Vec<u8>], cycles: &Cycl
     }
 }
 
-/// Whether each lasso accepted under the first marking is accepted under the second.
+/// Whether no lasso is graded higher by the first marking than by the second.
 pub fn included(
     m: &Morphism,
     (first, second): (&Marking, &Marking),
@@ -110,7 +110,8 @@ pub fn included(
 ) -> Decided {
     for v in &cycles.words {
         for u in starts {
-            if accepts(m, first, u, v) && !accepts(m, second, u, v) {
+            let own = grade(m, first, u, v);
+            if own > 0 && own > grade(m, second, u, v) {
                 return Decided::No;
             }
         }
@@ -121,10 +122,10 @@ pub fn included(
     }
 }
 
-/// Whether two lassos with equal values, u up to `u_most` and v up to `v_most` letters, differ: every word is tried, for u the
-/// empty one too, whose value is that of no other.
+/// Whether two lassos with equal values, u up to `u_most` and v up to `v_most` letters, differ in their grades: every word is tried, for
+/// u the empty one too, whose value is that of no other.
 pub fn differing_lassos(m: &Morphism, marking: &Marking, u_most: usize, v_most: usize) -> bool {
-    let mut outcomes: Vec<Option<bool>> = vec![None; (m.n + 1) * m.n];
+    let mut outcomes: Vec<Option<u8>> = vec![None; (m.n + 1) * m.n];
     let (mut starts, turns) = (
         all_words(m.letters(), u_most),
         all_words(m.letters(), v_most),
@@ -137,8 +138,8 @@ pub fn differing_lassos(m: &Morphism, marking: &Marking, u_most: usize, v_most: 
                 false => m.value(u) as usize,
             };
             let at = start * m.n + m.value(v) as usize;
-            let accepted = accepts(m, marking, u, v);
-            if *outcomes[at].get_or_insert(accepted) != accepted {
+            let grade = grade(m, marking, u, v);
+            if *outcomes[at].get_or_insert(grade) != grade {
                 return true;
             }
         }

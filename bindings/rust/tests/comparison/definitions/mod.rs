@@ -1,4 +1,4 @@
-//! An engine for document 01's definitions that shares nothing with the library: it enumerates.
+//! An engine for the definitions of documents 01 and 02 that shares nothing with the library: it enumerates.
 
 pub mod acceptance;
 pub mod automata;

@@ -1,6 +1,6 @@
 //! The order in which rules are written: elements by first words, marks by s, then by e.
 
-use super::rule::{Morphism, Pair, Rule};
+use super::rule::{Mark, Morphism, Rule};
 
 /// The first word of each element that a word reaches, in the order of words: the shorter first, and of one length the earlier in
 /// letter order. What a first word begins with is a first word too, as an earlier word in its place would give an earlier whole; so of
@@ -39,9 +39,9 @@ pub fn by_first_words(m: &Morphism) -> Result<(), String> {
     }
 }
 
-/// Each mark comes behind the one before it, by s, then by e.
-pub fn marks_rise(marks: &[Pair]) -> Result<(), String> {
-    match marks.windows(2).find(|two| two[0] >= two[1]) {
+/// Each mark comes behind the one before it, by s, then by e. The grades do not count.
+pub fn marks_rise(marks: &[Mark]) -> Result<(), String> {
+    match marks.windows(2).find(|two| two[0].pair >= two[1].pair) {
         Some(two) => Err(format!("the marks {two:?} do not rise")),
         None => Ok(()),
     }
@@ -51,6 +51,10 @@ pub fn marks_rise(marks: &[Pair]) -> Result<(), String> {
 pub fn renumbered(rule: &Rule, number: &[u8]) -> Rule {
     let m = &rule.morphism;
     let of = |s: u8| number[s as usize];
+    let marks = rule.marks.iter().map(|mark| Mark {
+        pair: (of(mark.pair.0), of(mark.pair.1)),
+        grade: mark.grade,
+    });
     let mut table = vec![0; m.n * m.n];
     for (a, b) in m.elements().flat_map(|a| m.elements().map(move |b| (a, b))) {
         table[of(a) as usize * m.n + of(b) as usize] = of(m.product(a, b));
@@ -61,7 +65,7 @@ pub fn renumbered(rule: &Rule, number: &[u8]) -> Rule {
             table,
             images: m.images.iter().map(|s| of(*s)).collect(),
         },
-        marks: rule.marks.iter().map(|(s, e)| (of(*s), of(*e))).collect(),
+        marks: marks.collect(),
     }
 }
 

@@ -2,6 +2,16 @@
 
 pub type Pair = (u8, u8);
 
+/// The grades that a mark can have; a pair without a mark has grade 0.
+pub const GRADES: [u8; 3] = [1, 2, 3];
+
+/// A marked pair and its grade.
+#[derive(Clone, Copy, Debug, PartialEq, Eq)]
+pub struct Mark {
+    pub pair: Pair,
+    pub grade: u8,
+}
+
 /// What an engine needs besides the marks: a table and the elements of the letters.
 #[derive(Clone, Debug, PartialEq, Eq)]
 pub struct Morphism {
@@ -13,7 +23,7 @@ pub struct Morphism {
 #[derive(Clone, Debug, PartialEq, Eq)]
 pub struct Rule {
     pub morphism: Morphism,
-    pub marks: Vec<Pair>,
+    pub marks: Vec<Mark>,
 }
 
 impl Morphism {
@@ -66,7 +76,7 @@ impl Morphism {
         words
     }
 
-    pub fn with(&self, marks: Vec<Pair>) -> Rule {
+    pub fn with(&self, marks: Vec<Mark>) -> Rule {
         Rule {
             morphism: self.clone(),
             marks,
@@ -90,8 +100,9 @@ impl Rule {
     }
 }
 
-pub fn marks_section(marks: &[Pair]) -> Vec<u8> {
+pub fn marks_section(marks: &[Mark]) -> Vec<u8> {
     let mut bytes = (marks.len() as u16).to_le_bytes().to_vec();
-    bytes.extend(marks.iter().flat_map(|(s, e)| [*s, *e]));
+    let each = |mark: &Mark| [mark.pair.0, mark.pair.1, mark.grade];
+    bytes.extend(marks.iter().flat_map(each));
     bytes
 }

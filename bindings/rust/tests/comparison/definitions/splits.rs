@@ -1,13 +1,15 @@
-//! Strength and inclusion for rules whose sets of splits are too many to list: for one start and one value of the cycle at a time.
+//! Strength and inclusion for rules whose sets of splits are too many to list: for one level, one start and one value of the cycle at a
+//! time. Grades are equal if at each level both lassos are accepted or both not, and one is not higher than another if it is
+//! accepted at no level where the other is not.
 //!
 //! As `cycles` says, u, v is accepted exactly if some split v = v₁ v₂, v₁ not empty, gives a writing p = u v^t v₁, w = (v₂ v₁)^c with
-//! marked values; with s, x, y the values of u, v₁, v₂ that depends on s, x and y alone: the split hits. So cycles of
+//! values in the level; with s, x, y the values of u, v₁, v₂ that depends on s, x and y alone: the split hits. So cycles of
 //! value e are followed letter by letter, keeping the value x of what was read and a guess y of the value of what is to come; a
 //! guess after a letter a is any y' with a·y' = y, or "nothing" where a's element is y. Paths from (nothing, e) to (e, nothing) are
 //! the cycles of value e, and their states after each letter are the splits.
 
-use super::acceptance::Marking;
-use super::rule::Morphism;
+use super::acceptance::{Level, Marking};
+use super::rule::{Morphism, GRADES};
 
 /// For each s, x and y (y = n: nothing) whether the split hits.
 struct Hits {
@@ -16,7 +18,7 @@ struct Hits {
 }
 
 impl Hits {
-    fn new(m: &Morphism, marking: &Marking) -> Hits {
+    fn new(m: &Morphism, level: &Level) -> Hits {
         let n = m.n;
         let mut bits = vec![false; n * n * (n + 1)];
         for x in m.elements() {
@@ -33,7 +35,7 @@ impl Hits {
                     let (mut seen, mut start, mut hit) = (0u64, s, false);
                     while seen >> start & 1 == 0 {
                         seen |= 1 << start;
-                        hit |= marking.0[m.product(start, x) as usize] & powers != 0;
+                        hit |= level.0[m.product(start, x) as usize] & powers != 0;
                         start = m.product(start, turn);
                     }
                     let y = y.map_or(n, usize::from);
@@ -107,15 +109,40 @@ fn values(m: &Morphism) -> impl Iterator<Item = (usize, usize)> {
     (0..n * n).map(move |at| (at / n, at % n))
 }
 
-pub fn strong(m: &Morphism, marking: &Marking) -> bool {
-    let (hits, guesses) = (Hits::new(m, marking), guesses(m));
+/// Whether any two lassos with equal values are both accepted or both not, by the pairs of a level.
+pub fn strong_at(m: &Morphism, level: &Level) -> bool {
+    // No lasso is accepted by no pairs.
+    if level.is_empty() {
+        return true;
+    }
+    let (hits, guesses) = (Hits::new(m, level), guesses(m));
     let accepted = |at| exists(m, &guesses, at, None, Some(&hits));
     let not_accepted = |at| exists(m, &guesses, at, Some(&hits), None);
     !values(m).any(|at| accepted(at) && not_accepted(at))
 }
 
-pub fn included(m: &Morphism, first: &Marking, second: &Marking) -> bool {
+/// Whether each lasso accepted by the pairs of the first level is accepted by those of the second.
+pub fn included_at(m: &Morphism, first: &Level, second: &Level) -> bool {
+    if first.is_empty() {
+        return true;
+    }
     let (first, second) = (Hits::new(m, first), Hits::new(m, second));
     let guesses = guesses(m);
     !values(m).any(|at| exists(m, &guesses, at, Some(&second), Some(&first)))
+}
+
+pub fn strong(m: &Morphism, marking: &Marking) -> bool {
+    let mut levels = GRADES.map(|least| marking.level(least)).to_vec();
+    levels.dedup();
+    levels.into_iter().all(|level| strong_at(m, level))
+}
+
+pub fn included(m: &Morphism, first: &Marking, second: &Marking) -> bool {
+    let mut levels = GRADES
+        .map(|least| (first.level(least), second.level(least)))
+        .to_vec();
+    levels.dedup();
+    levels
+        .into_iter()
+        .all(|(first, second)| included_at(m, first, second))
 }

@@ -1,7 +1,7 @@
-//! Damaged files: every cut, every byte changed to every other, several faults at once, and short buffers.
+//! Damaged files: every cut, every byte changed to every other, grades that are none, several faults at once, and short buffers.
 
 use crate::calls::*;
-use crate::definitions::rule::{marks_section, Rule};
+use crate::definitions::rule::{marks_section, Mark, Rule, GRADES};
 use crate::inputs::{automata, marks, morphisms};
 use crate::subject::Subject;
 use duknavet::{Monitor, NONE, POINTS};
@@ -11,6 +11,13 @@ pub fn run(c: &mut Comparison, part: usize) {
     // The byte changes of these files are shared out between the parts.
     for rule in rules.iter().skip(part).step_by(2) {
         every_damage(c, rule);
+    }
+    for rule in &rules {
+        grade_bytes(c, rule);
+    }
+    for _ in 0..60 {
+        let rule = random_rule(c);
+        grade_bytes(c, &rule);
     }
     for _ in 0..6_000 {
         let rule = random_rule(c);
@@ -25,8 +32,8 @@ pub fn run(c: &mut Comparison, part: usize) {
             0 => morphisms::largest(&mut c.random, i / 8 % 5),
             _ => morphisms::any(&mut c.random, 64),
         };
-        let pairs = marks::mixed(&mut c.random, &m);
-        let rule = m.with(pairs);
+        let marks = marks::mixed(&mut c.random, &m);
+        let rule = m.with(marks);
         let mut bytes = rule.bytes();
         damage(c, &mut bytes);
         let second = second_marks(c, &rule);
@@ -51,16 +58,17 @@ pub fn run(c: &mut Comparison, part: usize) {
 
 fn random_rule(c: &mut Comparison) -> Rule {
     let m = morphisms::any(&mut c.random, 8);
-    let pairs = marks::mixed(&mut c.random, &m);
-    m.with(pairs)
+    let marks = marks::mixed(&mut c.random, &m);
+    m.with(marks)
 }
 
-/// Rules W and Z of document 01, and a few more.
+/// Rules W and Z of document 01, with grade 3 and with every grade, and a few more.
 fn small_rules(c: &mut Comparison) -> Vec<Rule> {
-    let w = [2, 0, 0, 0, 1, 2, 0, 1, 1, 0, 0, 0];
-    let z = [2, 0, 1, 1, 0, 2, 1, 0, 1, 0, 0, 0];
+    let w = [2, 0, 0, 0, 1, 2, 0, 1, 1, 0, 0, 0, 3];
+    let z = [2, 0, 1, 1, 0, 2, 1, 0, 1, 0, 0, 0, 3];
+    let w_graded = [2, 0, 0, 0, 1, 2, 0, 1, 3, 0, 0, 0, 3, 0, 1, 2, 1, 1, 1];
     let read = |bytes: &[u8]| Subject::new(bytes.to_vec()).known().rule.clone();
-    let mut rules = vec![read(&w), read(&z)];
+    let mut rules = vec![read(&w), read(&z), read(&w_graded)];
     while rules.len() < 6 {
         let rule = random_rule(c);
         if rule.morphism.n >= 3 && rule.marks.len() >= 2 && rule.bytes().len() < 50 {
@@ -94,10 +102,45 @@ fn every_damage(c: &mut Comparison, rule: &Rule) {
     }
 }
 
+/// What can be wrong with the third byte of a mark: no grade, a file that ends before it, a pair that stands twice with two grades. Each in
+/// the rule and in its marks as a second input.
+fn grade_bytes(c: &mut Comparison, rule: &Rule) {
+    if rule.marks.is_empty() {
+        return;
+    }
+    let second = marks_section(&rule.marks);
+    let whole = Subject::new(rule.bytes());
+    let mark = *c.random.pick(&rule.marks);
+    let mut each = |what: &str, number: u8, section: Vec<u8>| {
+        let subject = Subject::new([rule.morphism.bytes(), section.clone()].concat());
+        let found = subject.read.as_ref().err().map(|refusal| refusal.0);
+        assert_eq!(found, Some(number), "{what} in {:?}", subject.bytes);
+        every_call(c, &subject, &second);
+        c.included(&whole, &section, INCLUDED_SIZES);
+        c.tally.count("grade byte", what);
+    };
+    for at in (4..second.len()).step_by(3) {
+        for (what, grade) in [("0", 0), ("4", 4), ("255", 255)] {
+            let mut section = second.clone();
+            section[at] = grade;
+            each(what, 3, section);
+        }
+    }
+    each("missing", 1, second[..second.len() - 1].to_vec());
+    for grade in GRADES {
+        let twice = [&rule.marks[..], &[Mark { grade, ..mark }]].concat();
+        let what = match grade == mark.grade {
+            true => "of a pair that stands twice",
+            false => "of a pair that stands twice with another",
+        };
+        each(what, 8, marks_section(&twice));
+    }
+}
+
 /// A marks section, often damaged.
 fn second_marks(c: &mut Comparison, rule: &Rule) -> Vec<u8> {
-    let pairs = marks::mixed(&mut c.random, &rule.morphism);
-    let mut second = marks_section(&pairs);
+    let marks = marks::mixed(&mut c.random, &rule.morphism);
+    let mut second = marks_section(&marks);
     if c.random.once_in(2) {
         damage(c, &mut second);
     }
@@ -120,7 +163,7 @@ fn damage(c: &mut Comparison, bytes: &mut Vec<u8>) {
                 let from = c.random.below(bytes.len());
                 bytes[at] = bytes[from];
             }
-            5 => bytes[at] = *c.random.pick(&[0, 1, 2, 6, 7, 16, 17, 64, 65]),
+            5 => bytes[at] = *c.random.pick(&[0, 1, 2, 3, 4, 6, 7, 16, 17, 64, 65]),
             6 => {
                 let last = bytes.len() - 1;
                 bytes.swap(at, last)

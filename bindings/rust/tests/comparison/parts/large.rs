@@ -2,7 +2,7 @@
 
 use super::rules::every_call;
 use crate::calls::*;
-use crate::definitions::rule::{marks_section, Morphism};
+use crate::definitions::rule::{marks_section, Mark, Morphism};
 use crate::inputs::{marks, morphisms};
 use crate::subject::Subject;
 use std::cell::OnceCell;
@@ -13,12 +13,12 @@ pub fn run(c: &mut Comparison) {
         let m = morphisms::largest(&mut c.random, kind);
         let cycles = Rc::new(OnceCell::new());
         for round in 0..4 {
-            let pairs = match round {
+            let marks = match round {
                 0 => marks::closed(&mut c.random, &m),
                 1 => marks::nearly_closed(&mut c.random, &m),
                 _ => marks::mixed(&mut c.random, &m),
             };
-            let subject = Subject::sharing(m.with(pairs).bytes(), cycles.clone());
+            let subject = Subject::sharing(m.with(marks).bytes(), cycles.clone());
             every_call(c, &subject);
             c.classes(&subject, CLASSES_SIZES);
             let none = marks_section(&[]);
@@ -31,8 +31,8 @@ pub fn run(c: &mut Comparison) {
         let band = morphisms::rectangular_band(&mut c.random, rows, columns, true).expect("small");
         let m = morphisms::product(&mut c.random, &band, &band, 16, 64);
         let Some(m) = m else { continue };
-        let pairs = marks::mixed(&mut c.random, &m);
-        let subject = Subject::new(m.with(pairs).bytes());
+        let marks = marks::mixed(&mut c.random, &m);
+        let subject = Subject::new(m.with(marks).bytes());
         every_call(c, &subject);
         c.classes(&subject, CLASSES_SIZES);
     }
@@ -46,10 +46,11 @@ fn deep(c: &mut Comparison, m: &Morphism) {
     let mut linked = m.linked_pairs();
     linked.sort_by_key(|(s, e)| (length(*e), length(*s)));
     let last = linked[linked.len() - 1];
-    let subject = Subject::new(m.with(vec![last]).bytes());
+    let (pair, grade) = (last, c.random.within(1, 3) as u8);
+    let subject = Subject::new(m.with(vec![Mark { pair, grade }]).bytes());
     c.included(&subject, &marks_section(&[]), INCLUDED_SIZES);
     let mut others = marks::any(&mut c.random, m);
-    others.retain(|pair| *pair != last);
+    others.retain(|mark| mark.pair != last);
     c.included(&subject, &marks_section(&others), INCLUDED_SIZES);
     c.strong(&subject, STRONG_SIZES);
 }
@@ -62,8 +63,8 @@ fn longest(c: &mut Comparison) {
     bytes.push(16);
     bytes.extend(0..16);
     bytes.extend(4_096u16.to_le_bytes());
-    bytes.extend((0..64).flat_map(|s| (0..64).flat_map(move |e| [s, e])));
-    assert_eq!(bytes.len(), 12_308);
+    bytes.extend((0..64).flat_map(|s| (0..64).flat_map(move |e| [s, e, 1 + e % 3])));
+    assert_eq!(bytes.len(), 16_404);
     let subject = Subject::new(bytes.clone());
     assert_eq!(subject.read.as_ref().err(), Some(&(6, 1, 16)));
     c.strong(&subject, STRONG_SIZES);
@@ -71,16 +72,16 @@ fn longest(c: &mut Comparison) {
     // One byte more, and one mark more than a file may have.
     bytes.push(0);
     c.strong(&Subject::new(bytes.clone()), STRONG_SIZES);
-    bytes.push(0);
+    bytes.extend([0, 1]);
     bytes[1 + 64 * 64 + 17..][..2].copy_from_slice(&4_097u16.to_le_bytes());
     c.strong(&Subject::new(bytes), STRONG_SIZES);
-    // The same with 16 elements, all reached: every pair is marked.
+    // The same with 16 elements, all reached: every pair is marked, with the grade that its first element decides.
     let mut bytes = vec![16];
     bytes.extend((0..16).flat_map(|s| [s; 16]));
     bytes.push(16);
     bytes.extend(0..16);
     bytes.extend(256u16.to_le_bytes());
-    bytes.extend((0..16).flat_map(|s| (0..16).flat_map(move |e| [s, e])));
+    bytes.extend((0..16).flat_map(|s| (0..16).flat_map(move |e| [s, e, 1 + s % 3])));
     let subject = Subject::new(bytes);
     every_call(c, &subject);
     c.classes(&subject, CLASSES_SIZES);

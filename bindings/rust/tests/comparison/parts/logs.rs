@@ -2,7 +2,7 @@
 //! stored histories.
 
 use crate::calls::*;
-use crate::definitions::acceptance::accepts;
+use crate::definitions::acceptance::grade;
 use crate::definitions::rule::Morphism;
 use crate::definitions::settling::turns;
 use crate::subject::Subject;
@@ -134,7 +134,7 @@ pub fn run(c: &mut Comparison, subject: &Subject) {
     if !since.is_empty() && c.settled(subject) {
         let answer = duknavet::verdict(&subject.bytes, monitor, &mut vec![0; SCRATCH]);
         let expected = Verdict {
-            accepted: accepts(m, &known.marking, &before, &since),
+            grade: grade(m, &known.marking, &before, &since),
             turns: turns(m, &since),
         };
         assert_eq!(answer, Ok(expected), "verdict of {before:?} {since:?}");

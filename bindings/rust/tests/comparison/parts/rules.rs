@@ -1,7 +1,7 @@
 //! Small rules of every kind, every call on each.
 
 use crate::calls::*;
-use crate::definitions::acceptance::accepts;
+use crate::definitions::acceptance::grade;
 use crate::definitions::cycles::{differing_lassos, Decided};
 use crate::definitions::rule::{marks_section, Morphism};
 use crate::definitions::settling::turns;
@@ -30,8 +30,8 @@ pub fn run(c: &mut Comparison, count: usize) {
 fn over(c: &mut Comparison, m: &Morphism) {
     let cycles = Rc::new(OnceCell::new());
     for round in 0..4 {
-        let pairs = marks::mixed(&mut c.random, m);
-        let subject = Subject::sharing(m.with(pairs).bytes(), cycles.clone());
+        let marks = marks::mixed(&mut c.random, m);
+        let subject = Subject::sharing(m.with(marks).bytes(), cycles.clone());
         assert!(
             subject.read.is_ok(),
             "the definitions refuse {:?}",
@@ -75,12 +75,9 @@ pub fn every_call(c: &mut Comparison, subject: &Subject) {
         let sizes = c.enough(MEMBER_SIZES);
         c.member(subject, &u, &v, sizes);
     }
-    let pairs = match c.random.once_in(3) {
-        true => known.closure(),
-        false => marks::mixed(&mut c.random, m),
-    };
+    let second = marks::second(&mut c.random, m, &known.rule.marks);
     let sizes = c.enough(INCLUDED_SIZES);
-    c.included(subject, &marks_section(&pairs), sizes);
+    c.included(subject, &marks_section(&second), sizes);
     let mut value = |n: usize| {
         if c.random.once_in(5) {
             NONE
@@ -137,7 +134,7 @@ fn history(c: &mut Comparison, subject: &Subject) {
     if !since.is_empty() && c.settled(subject) {
         let answer = duknavet::verdict(&subject.bytes, monitor, &mut vec![0; SCRATCH]);
         let expected = Verdict {
-            accepted: accepts(m, &known.marking, &before, &since),
+            grade: grade(m, &known.marking, &before, &since),
             turns: turns(m, &since),
         };
         assert_eq!(answer, Ok(expected), "verdict of {before:?} {since:?}");

@@ -11,8 +11,8 @@ pub fn run(c: &mut Comparison, count: usize) {
             0 => morphisms::largest(&mut c.random, i / 4),
             _ => morphisms::any(&mut c.random, 20),
         };
-        let pairs = marks::mixed(&mut c.random, &m);
-        let subject = Subject::new(m.with(pairs).bytes());
+        let marks = marks::mixed(&mut c.random, &m);
+        let subject = Subject::new(m.with(marks).bytes());
         long_words(c, &subject);
         lengths(c, &subject);
         for _ in 0..4 {

@@ -62,7 +62,8 @@ pub fn automaton_rule(
                     kinds[p] & 1 != 0 && (0..kinds.len()).any(through)
                 })
         };
+        let grade = |s: usize, e: usize| 3 * u8::from(marked(s, e));
         let images = &all.images[..letters];
-        Ok(write(out, (all.count, 64), table, images, marked))
+        Ok(write(out, (all.count, 64), table, images, grade))
     })
 }

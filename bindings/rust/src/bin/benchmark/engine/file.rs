@@ -2,7 +2,7 @@
 
 use super::associativity::{tests, triples, worth_testing};
 use super::reached::reached;
-use super::sections::{below, ended, section};
+use super::sections::{below, ended, marks_fit, section};
 use super::{Refusal, Rule, Strategy, MARKS, SECOND, WORK};
 
 /// 5 and 6.
@@ -24,17 +24,17 @@ fn check_table(strategy: Strategy, rule: &Rule) -> Result<(), Refusal> {
     }
 }
 
-/// 7 and 8, pair by pair; the marks are laid out in a table of zeros.
+/// 7 and 8, mark by mark; the grades are laid out in a table of zeros.
 fn check_marks(
     rule: &Rule,
-    pairs: &[u8],
+    triples: &[u8],
     input: u8,
     begin: usize,
     table: &mut [u8],
 ) -> Result<(), Refusal> {
-    for (i, pair) in pairs.chunks_exact(2).enumerate() {
-        let (s, e) = (pair[0] as usize, pair[1] as usize);
-        let place = (begin + 2 * i) as u64;
+    for (i, triple) in triples.chunks_exact(3).enumerate() {
+        let (s, e) = (triple[0] as usize, triple[1] as usize);
+        let place = (begin + 3 * i) as u64;
         if !rule.linked(s, e) {
             return Err((7, input, place));
         }
@@ -42,7 +42,7 @@ fn check_marks(
         if *byte != 0 {
             return Err((8, input, place));
         }
-        *byte = 1;
+        *byte = triple[2];
     }
     Ok(())
 }
@@ -66,8 +66,8 @@ pub fn check<'a>(
     below(strategy, table, n, 1, 1)?;
     let (_, images, marks_at) = section(bytes, at, 1, (1, 1, 16), |k| k)?;
     below(strategy, images, n, 1, at + 1)?;
-    let (_, pairs, end) = section(bytes, marks_at, 1, (2, 0, 4_096), |c| 2 * c)?;
-    below(strategy, pairs, n, 1, marks_at + 2)?;
+    let (_, triples, end) = section(bytes, marks_at, 1, (2, 0, 4_096), |c| 3 * c)?;
+    marks_fit(strategy, triples, n, 1, marks_at + 2)?;
     ended(bytes, 1, end)?;
     let mut rule = Rule {
         n,
@@ -76,7 +76,7 @@ pub fn check<'a>(
         powers: None,
     };
     check_table(strategy, &rule)?;
-    check_marks(&rule, pairs, 1, marks_at + 2, &mut memory[MARKS..SECOND])?;
+    check_marks(&rule, triples, 1, marks_at + 2, &mut memory[MARKS..SECOND])?;
     if strategy == Strategy::Plain {
         find_powers(&mut rule);
     }
@@ -90,19 +90,19 @@ pub fn check_second(
     bytes: &[u8],
     memory: &mut [u8],
 ) -> Result<(), Refusal> {
-    let (_, pairs, end) = section(bytes, 0, 2, (2, 0, 4_096), |c| 2 * c)?;
-    below(strategy, pairs, rule.n, 2, 2)?;
+    let (_, triples, end) = section(bytes, 0, 2, (2, 0, 4_096), |c| 3 * c)?;
+    marks_fit(strategy, triples, rule.n, 2, 2)?;
     ended(bytes, 2, end)?;
-    check_marks(rule, pairs, 2, 2, &mut memory[SECOND..WORK])
+    check_marks(rule, triples, 2, 2, &mut memory[SECOND..WORK])
 }
 
-/// Writes a rule whose table has `stride` bytes a row, and answers its length.
+/// Writes a rule whose table has `stride` bytes a row, marking each pair that has a grade of 1 or more, and answers its length.
 pub fn write(
     out: &mut [u8],
     (n, stride): (usize, usize),
     table: &[u8],
     images: &[u8],
-    marked: impl Fn(usize, usize) -> bool,
+    grade: impl Fn(usize, usize) -> u8,
 ) -> usize {
     out[0] = n as u8;
     for s in 0..n {
@@ -116,14 +116,14 @@ pub fn write(
     let mut end = begin;
     for s in 0..n {
         for e in 0..n {
-            if marked(s, e) {
-                out[end] = s as u8;
-                out[end + 1] = e as u8;
-                end += 2;
+            let grade = grade(s, e);
+            if grade > 0 {
+                out[end..end + 3].copy_from_slice(&[s as u8, e as u8, grade]);
+                end += 3;
             }
         }
     }
-    let count = ((end - begin) / 2) as u16;
+    let count = ((end - begin) / 3) as u16;
     out[at..begin].copy_from_slice(&count.to_le_bytes());
     end
 }

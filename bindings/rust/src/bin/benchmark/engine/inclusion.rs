@@ -2,7 +2,7 @@
 
 use super::file::{check, check_second};
 use super::reached::reached;
-use super::search::search;
+use super::search::search_grades;
 use super::{lengths, on_memory, Needs, Refusal, Rule, Strategy, MARKS, SCRATCH, SECOND};
 
 /// Writes the first word of an element, and answers how many letters it has.
@@ -31,7 +31,7 @@ pub fn included(
         let rule = check(strategy, bytes, memory)?;
         check_second(strategy, &rule, second, memory)?;
         let mut new = Vec::new();
-        let escape = search(&rule, memory, &mut new, (MARKS, SECOND));
+        let escape = search_grades(&rule, memory, &mut new, (MARKS, SECOND));
         Ok(escape.map(|escape| {
             let start = write_start(&rule, escape.start, u);
             (start, escape.write_cycle(rule.n, v))

@@ -1,4 +1,4 @@
-//! Membership of a lasso.
+//! The grade of a lasso.
 
 use super::file::check;
 use super::sections::first_out;
@@ -18,9 +18,9 @@ fn words(strategy: Strategy, rule: &Rule, u: &[u8], v: &[u8]) -> Result<(), Refu
     Ok(())
 }
 
-/// Whether, at some cut of a turn of v, a power of the turn's value gives a marked pair; and the exponent that makes v's own value
-/// idempotent.
-fn accepts(rule: &Rule, u: &[u8], v: &[u8], memory: &mut [u8]) -> (bool, usize) {
+/// The highest grade of the pairs that a power of the turn's value gives at some cut of a turn of v; and the exponent that makes v's own
+/// value idempotent.
+fn grade(rule: &Rule, u: &[u8], v: &[u8], memory: &mut [u8]) -> (u8, usize) {
     let (marks, rest) = memory.split_at_mut(SECOND);
     let mut new = Vec::new();
     let values = lent_or_new(rest, &mut new, 2 * v.len());
@@ -44,7 +44,13 @@ fn accepts(rule: &Rule, u: &[u8], v: &[u8], memory: &mut [u8]) -> (bool, usize) 
         y = rule.product(letter(a), y);
         *slot = y as u8;
     }
-    let accepted = (0..v.len()).any(|j| {
+    // No pair has a higher grade than this one: with it the search ends.
+    let highest = *marks[..rule.n * 64].iter().max().expect("a pair");
+    let mut found = 0;
+    for j in 0..v.len() {
+        if found == highest {
+            break;
+        }
         let x = beginnings[j] as usize;
         let r = match j < last {
             true => rule.product(ends[j + 1] as usize, x),
@@ -52,13 +58,15 @@ fn accepts(rule: &Rule, u: &[u8], v: &[u8], memory: &mut [u8]) -> (bool, usize) 
         };
         let (e, exponent) = rule.power(r);
         let mut p = rule.product(rule.product(s, x), e);
-        (0..exponent).any(|_| {
-            let marked = marks[p * 64 + e] != 0;
+        for _ in 0..exponent {
+            found = marks[p * 64 + e].max(found);
+            if found == highest {
+                break;
+            }
             p = rule.product(p, r);
-            marked
-        })
-    });
-    (accepted, rule.power(x).1)
+        }
+    }
+    (found, rule.power(x).1)
 }
 
 pub fn member(
@@ -67,11 +75,11 @@ pub fn member(
     u: &[u8],
     v: &[u8],
     scratch: &mut [u8],
-) -> Result<(bool, usize), Refusal> {
+) -> Result<(u8, usize), Refusal> {
     lengths(&[(scratch.len(), SCRATCH)])?;
     on_memory(strategy, Needs::Marks, scratch, |memory| {
         let rule = check(strategy, bytes, memory)?;
         words(strategy, &rule, u, v)?;
-        Ok(accepts(&rule, u, v, memory))
+        Ok(grade(&rule, u, v, memory))
     })
 }

@@ -1,7 +1,7 @@
 //! Classes, strength, complement.
 
 use super::file::{check, write};
-use super::search::search;
+use super::search::search_grades;
 use super::{lengths, on_memory, Length, Needs, Refusal, Rule, Strategy};
 use super::{MARKS, RULE_OUT, SCRATCH, SECOND, WORK};
 
@@ -57,13 +57,12 @@ pub fn classes(
     })
 }
 
-/// Lays the closure of the marks out as the second table.
+/// Lays the closure of the marks out as the second table: the highest grade of each pair's conjugates.
 fn close(rule: &Rule, memory: &mut [u8]) {
     let (marks, rest) = memory.split_at_mut(SECOND);
     conjugates(rule, |s, e, t, f| {
-        if marks[t * 64 + f] != 0 {
-            rest[s * 64 + e] = 1;
-        }
+        let byte = &mut rest[s * 64 + e];
+        *byte = marks[t * 64 + f].max(*byte);
     });
 }
 
@@ -74,7 +73,7 @@ pub fn decide(rule: &Rule, memory: &mut [u8]) -> bool {
     if memory[SECOND..][..pairs] == memory[MARKS..][..pairs] {
         return true;
     }
-    search(rule, memory, &mut Vec::new(), (SECOND, MARKS)).is_none()
+    search_grades(rule, memory, &mut Vec::new(), (SECOND, MARKS)).is_none()
 }
 
 pub fn strong(strategy: Strategy, bytes: &[u8], scratch: &mut [u8]) -> Result<bool, Refusal> {
@@ -106,7 +105,10 @@ pub fn from_strong(
 pub fn complement(strategy: Strategy, bytes: &[u8], out: &mut [u8], scratch: &mut [u8]) -> Length {
     from_strong(strategy, bytes, out, scratch, |rule, memory, out| {
         let closure = &memory[SECOND..WORK];
-        let marked = |s: usize, e: usize| rule.linked(s, e) && closure[s * 64 + e] == 0;
-        write(out, (rule.n, rule.n), rule.table, rule.images, marked)
+        let grade = |s: usize, e: usize| match rule.linked(s, e) {
+            true => 3 - closure[s * 64 + e],
+            false => 0,
+        };
+        write(out, (rule.n, rule.n), rule.table, rule.images, grade)
     })
 }

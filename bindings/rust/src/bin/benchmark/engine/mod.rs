@@ -32,9 +32,9 @@ pub type Refusal = (u8, u8, u64);
 type Length = Result<usize, Refusal>;
 
 pub const SCRATCH: usize = 65_536;
-pub const RULE_OUT: usize = 12_308;
+pub const RULE_OUT: usize = 16_404;
 
-/// Where things stand in a call's memory. A table of pairs has 64 bytes a row.
+/// Where things stand in a call's memory. A table of pairs has 64 bytes a row, each the grade of a pair, 0 for none.
 const PAIRS: usize = 4_096;
 const MARKS: usize = 0;
 const SECOND: usize = PAIRS;

@@ -64,7 +64,7 @@ pub fn verdict(
     bytes: &[u8],
     (before, since): Values,
     scratch: &mut [u8],
-) -> Result<(bool, usize), Refusal> {
+) -> Result<(u8, usize), Refusal> {
     let how = (strategy, Needs::TwoMarkings);
     with_monitor(how, bytes, (before, since), scratch, |rule, memory| {
         if since == 64 {
@@ -76,6 +76,6 @@ pub fn verdict(
         let start = if before == 64 { since } else { before };
         let (e, turns) = rule.power(since);
         let closure = &memory[SECOND..WORK];
-        Ok((closure[rule.product(start, e) * 64 + e] != 0, turns))
+        Ok((closure[rule.product(start, e) * 64 + e], turns))
     })
 }

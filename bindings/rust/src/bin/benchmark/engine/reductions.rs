@@ -74,13 +74,12 @@ fn write_reduced(rule: &Rule, memory: &mut [u8], out: &mut [u8]) -> usize {
         images[a] = number(*image as usize);
     }
     let at = |s: usize, t: usize| table[s * 64 + t] as usize;
-    let marked = |s: usize, e: usize| {
-        at(e, e) == e
-            && at(s, e) == s
-            && outcomes[elements[s] as usize * 64 + elements[e] as usize] != 0
+    let grade = |s: usize, e: usize| match at(e, e) == e && at(s, e) == s {
+        true => outcomes[elements[s] as usize * 64 + elements[e] as usize],
+        false => 0,
     };
     let images = &images[..rule.images.len()];
-    write(out, (count, 64), table, images, marked)
+    write(out, (count, 64), table, images, grade)
 }
 
 pub fn reduce(strategy: Strategy, bytes: &[u8], out: &mut [u8], scratch: &mut [u8]) -> Length {

@@ -1,4 +1,4 @@
-//! The search for a cycle that tells two markings of one table apart.
+//! The search for a cycle that a first marking of a table grades higher than a second.
 
 use super::{lent_or_new, Rule, WORK};
 
@@ -12,7 +12,7 @@ const HEAD: usize = FOUND + 8_192;
 const NEXT: usize = HEAD + 2_048;
 const END: usize = NEXT + 2_048;
 
-/// A start value and the worklist's entry of a cycle that the first marking has after it and the second does not accept.
+/// A start value and the worklist's entry of a cycle that after it has some grade by the first marking and not by the second.
 pub struct Escape<'a> {
     pub start: usize,
     entry: usize,
@@ -70,18 +70,20 @@ fn add(
     }
 }
 
-/// The last entry of the worklist that begins at the start value s, where a cycle is found.
+/// The last entry of the worklist that begins at the start value s, where a cycle is found that has the least grade by the first
+/// marking only.
 fn search_from(
     rule: &Rule,
     tables: &[u8],
     lists: &mut [u8],
     (first, second): (usize, usize),
+    least: u8,
     s: usize,
 ) -> Option<usize> {
     let n = rule.n;
     let mut count = 0;
     for e in 0..n {
-        if tables[first + s * 64 + e] != 0 {
+        if tables[first + s * 64 + e] >= least {
             add(lists, &mut count, s, (e, n), 0, 0);
         }
     }
@@ -93,7 +95,7 @@ fn search_from(
         }
         let turned = if y == n { x } else { rule.product(y, x) };
         let f = rule.product(turned, turned);
-        if tables[second + rule.product(s, x) * 64 + f] == 0 {
+        if tables[second + rule.product(s, x) * 64 + f] < least {
             for a in 0..rule.images.len() {
                 let image = rule.image(a);
                 let back = if y == n {
@@ -113,20 +115,36 @@ fn search_from(
     None
 }
 
-/// Compares the marking whose table stands at `first` with the one at `second`. The lists go to `new` where memory has no room.
-pub fn search<'a>(
+/// The grades that the first table has, highest first. A cycle that tells the markings apart at a grade that it has not does so at the
+/// next higher one that it has.
+fn grades(table: &[u8]) -> impl Iterator<Item = u8> {
+    let mut has = [false; 4];
+    for grade in table {
+        has[*grade as usize] = true;
+    }
+    (1..4).rev().filter(move |grade| has[*grade as usize])
+}
+
+/// Compares the marking whose table stands at `first` with the one at `second`, grade by grade. The lists go to `new` where memory has
+/// no room.
+pub fn search_grades<'a>(
     rule: &Rule,
     memory: &'a mut [u8],
     new: &'a mut Vec<u8>,
     markings: (usize, usize),
 ) -> Option<Escape<'a>> {
     let (tables, rest) = memory.split_at_mut(WORK);
+    let tables = &*tables;
     let lists = lent_or_new(rest, new, END);
     // of the worklist nothing is read that was not written before
-    lists[FOUND..NEXT].fill(0);
+    lists[HEAD..NEXT].fill(0);
     list_preimages(rule, lists);
-    let found = (0..rule.n).find_map(|start| {
-        search_from(rule, tables, lists, markings, start).map(|entry| (start, entry))
+    let found = grades(&tables[markings.0..][..rule.n * 64]).find_map(|least| {
+        lists[FOUND..HEAD].fill(0);
+        (0..rule.n).find_map(|start| {
+            let entry = search_from(rule, tables, lists, markings, least, start);
+            entry.map(|entry| (start, entry))
+        })
     });
     found.map(|(start, entry)| Escape {
         start,

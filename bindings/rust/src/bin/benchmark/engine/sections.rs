@@ -48,6 +48,38 @@ pub fn below(
     }
 }
 
+/// 3, for the marks of a section that begin at a byte: s and e, which are elements, and the grade, 1 to 3.
+pub fn marks_fit(
+    strategy: Strategy,
+    triples: &[u8],
+    n: usize,
+    input: u8,
+    begin: usize,
+) -> Result<(), Refusal> {
+    let marks = || triples.chunks_exact(3);
+    if strategy == Strategy::Same {
+        // A grade of 0 less 1 is above every other.
+        let greatest = marks().fold((0, 0), |most, mark| {
+            let element = mark[0].max(mark[1]).max(most.0);
+            (element, mark[2].wrapping_sub(1).max(most.1))
+        });
+        if (greatest.0 as usize) < n && greatest.1 < 3 {
+            return Ok(());
+        }
+    }
+    let element = |s: u8| (s as usize) < n;
+    let fits = |mark: &[u8]| element(mark[0]) && element(mark[1]) && (1..4).contains(&mark[2]);
+    let Some((i, mark)) = marks().enumerate().find(|(_, mark)| !fits(mark)) else {
+        return Ok(());
+    };
+    let within = match (element(mark[0]), element(mark[1])) {
+        (false, _) => 0,
+        (true, false) => 1,
+        (true, true) => 2,
+    };
+    Err((3, input, (begin + 3 * i + within) as u64))
+}
+
 /// 4, behind the last section.
 pub fn ended(bytes: &[u8], input: u8, end: usize) -> Result<(), Refusal> {
     match end < bytes.len() {

@@ -1,0 +1,61 @@
+-- `example_lists::store_mark` meets its contract: each way through the tests is one case of the definition. Assumes nothing.
+use Rattle.example_lists.proofs.Listing.{unmarked, unmarked-odd, marked-all}
+use borrow.Author.Needs.{needs}
+use Rattle.example_lists.proofs.store_mark.Statement.{statement}
+use Rattle.example_lists.proofs.store_mark.Tie as tie
+
+returns : tie.Need-returns
+returns c = unmarked _ _ (c .if1 .taken) (c .before .before .pre)
+
+add-if2 : tie.Need-add-if2
+add-if2 c = search needs
+
+add-if2-2 : tie.Need-add-if2-2
+add-if2-2 c = search needs
+
+add-if2-3 : tie.Need-add-if2-3
+add-if2-3 c = search needs
+
+add-if2-4 : tie.Need-add-if2-4
+add-if2-4 c = search needs
+
+add-if2-5 : tie.Need-add-if2-5
+add-if2-5 c = search needs
+
+returns-2 : tie.Need-returns-2
+returns-2 c = unmarked-odd _ _ (c .if2 .taken) (c .before .before .before .pre)
+
+store-requires : tie.Need-store-requires
+store-requires c κs = search needs
+
+store-requires-2 : tie.Need-store-requires-2
+store-requires-2 c κs = search needs
+
+store-requires-3 : tie.Need-store-requires-3
+store-requires-3 c κs = search needs
+
+same-length : tie.Need-same-length
+same-length c = search needs
+
+returns-3 : tie.Need-returns-3
+returns-3 c =
+    let tests = c .before .before .before .before .before .before .before .before .before .before .before .before in
+    marked-all _ _ (tests .before .if1 .left) (tests .if2 .left) (c .before .before .before .before .before .before .before .before .before .before .store .ensures) (c .before .before .before .before .before .before .store2 .ensures)
+    (c .before .before .store3 .ensures)
+
+pub store-mark-spec : {M : Type 1} → statement M
+store-mark-spec =
+    tie.close
+    (tie.spec
+    returns
+    add-if2
+    add-if2-2
+    add-if2-3
+    add-if2-4
+    add-if2-5
+    returns-2
+    store-requires
+    store-requires-2
+    store-requires-3
+    same-length
+    returns-3)
