@@ -55,7 +55,7 @@ use Rattle.examples.specs.Files.{automaton}
 use Rattle.examples.specs.Examples.{FileStrong, RuleReducesTo, ReducesTo, Translation, TranslatedTo, AutomatonReducesTo}
 use Rattle.examples.proofs.Passing.{section-test, section-elim, checks-to}
 use Rattle.examples.proofs.OneElement.{sooner-none}
-use Rattle.examples.proofs.ReadRules.{reads-at-least, reads-strong}
+use Rattle.formats.proofs.ReadRules.{reads-at-least, reads-strong}
 use Rattle.examples.proofs.Reductions.{reducing, reduces-as, reduces-by-model}
 
 -- ---- a test that computes whether an automaton file passes the checks 1 to 4 and 8

@@ -17,8 +17,13 @@ use Rattle.formats.specs.RuleFile.{morphismOf, markingOf}
 use Rattle.promises.specs.declared.Reduced.the-variants.{Rule as Is-rule}
 use Rattle.formats.specs.RuleChecks.{ruleSize, scratchSize}
 use Rattle.examples.specs.Files.{W, W-all, one-element, Z, Z₀, not-associative, unreached, automaton}
-use Rattle.examples.specs.Examples.{ChecksTo, RefusesLasso, ConjugateToMark, NotClosed, MarksLinked, ReducesTo, HandsBack, ReducesToBytes, AutomatonReducesTo}
+use Rattle.promises.specs.Printed.{Prints}
+use Rattle.promises.proofs.Printing.{other-print}
+use Rattle.rule_check.proofs.CheckedRule.{graded-marks}
+use Rattle.theory.proofs.Computing.{lasso-elim, graded-is}
+use Rattle.examples.specs.Examples.{ChecksTo, GradesLasso, RefusesLasso, ConjugateToMark, NotClosed, MarksLinked, ReducesTo, HandsBack, ReducesToBytes, AutomatonReducesTo}
 use Rattle.examples.proofs.Reading.{reading}
+use Rattle.examples.proofs.Rules.{W-all-good}
 use Rattle.examples.proofs.Examples.{examples}
 
 -- ---- checks
@@ -128,3 +133,37 @@ copied-file =
 -- two matrices only, the number that is left after the reduction
 pub two-matrices : ¬ AutomatonReducesTo automaton 2 2
 two-matrices k = let h : 2 < 2 = k .matrices 2 .0 (examples .m10 .matrices 2 .1 (omega arith)) in omega arith
+
+-- ---- prints
+
+-- W with all linked pairs marked is printed as the rule of one element
+abbrev out : List ℕ
+out = replicate ruleSize 0
+
+abbrev scratch : List ℕ
+scratch = replicate scratchSize 0
+
+all-prints : Prints W-all one-element
+all-prints = record {
+  before = out;
+  after = one-element ++ drop 10 out;
+  entry = scratch;
+  exit = replicate (length scratch) 0;
+  end = 10;
+  promised = examples .m4 .1 .exactly out (one-element ++ drop 10 out) scratch (replicate (length scratch) 0) (Is-rule 10)
+      (omega (arith, length-replicate {A = ℕ} ruleSize 0)) (omega (arith, length-replicate {A = ℕ} scratchSize 0)) .1
+      (record { end = 10; answer-is = refl; stands = record { holds = refl; counts = refl }; scratch-is = refl });
+  printed = record { holds = refl; counts = refl };
+}
+
+all-graded : GradesLasso W-all (0 ∷ []) (1 ∷ []) 3
+unfolding reading
+all-graded = record {
+  lasso = lasso-elim 2 (0 ∷ []) (1 ∷ []) tt;
+  graded = graded-is (W-all-good .lawful) (graded-marks W-all-good) (0 ∷ []) (1 ∷ []) tt refl;
+}
+
+-- W is not, as it grades u=0, v=1 otherwise
+pub other-grade-other-print : ¬ Prints W one-element
+other-grade-other-print p =
+    other-print p all-prints (examples .m3 .lasso) (examples .m3 .graded) (all-graded .graded) (λ e. let z : _≡_ {A = ℕ} 0 3 = e in omega arith) refl

@@ -5,7 +5,6 @@ pub mod Refusals
 pub mod Reductions
 pub mod OneElement
 pub mod Writing
-pub mod ReadRules
 pub mod Automata
 pub mod Examples
 pub mod Exclusions

@@ -81,3 +81,12 @@ module _ {m m′ : Morphism} (agree : Agree m m′) where
             ∙ law .associative a b c ha hb hc
             ∙ sym (agree .same-product a (m .product b c) ha (law .closed b c hb hc))
             ∙ ap (m′ .product a) (sym (agree .same-product b c hb hc))
+
+-- and the other way round
+pub agree-back : {m m′ : Morphism} → Agree m m′ → Agree m′ m
+agree-back g = record {
+  same-size = sym (g .same-size);
+  same-letters = sym (g .same-letters);
+  same-product = λ a b ha hb. sym (g .same-product a b (below-first g ha) (below-first g hb));
+  same-image = λ a h. sym (g .same-image a (letter-first g h));
+}

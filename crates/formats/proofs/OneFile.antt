@@ -12,18 +12,10 @@ use Rattle.theory.specs.Grades.{LinkedGraded}
 use Rattle.theory.proofs.Closure.{linked-test, linked-intro, linked-elim}
 use Rattle.theory.proofs.Gradings.{graded-same, one-lassos-grade}
 use Rattle.formats.specs.WrittenFile.{fileOf}
-use Rattle.formats.proofs.Agree.{Agree, below-first, letter-first, agree-linked, agree-value, agree-word}
+use Rattle.formats.proofs.Agree.{Agree, agree-linked, agree-value, agree-word, agree-back}
 use Rattle.formats.proofs.Same.{SameMarks, file-same}
 use Rattle.formats.specs.FirstWords.{ByFirstWords}
 use Rattle.formats.proofs.Unique.{renumbered-same}
-
-agree-back : {m m′ : Morphism} → Agree m m′ → Agree m′ m
-agree-back g = record {
-  same-size = sym (g .same-size);
-  same-letters = sym (g .same-letters);
-  same-product = λ a b ha hb. sym (g .same-product a b (below-first g ha) (below-first g hb));
-  same-image = λ a h. sym (g .same-image a (letter-first g h));
-}
 
 -- a linked pair whose lassos have a grade is one in the other table
 graded-agree : (x y : Rule) → Agree (x .morphism) (y .morphism) → SameGrades x y → {s e h : ℕ} → LinkedGraded (x .morphism) (x .marks) s e h

@@ -16,3 +16,4 @@ pub mod PointReadings
 pub mod Points
 pub mod Readings
 pub mod SameReductions
+pub mod Printing

@@ -16,3 +16,4 @@ pub mod Strong
 pub mod Summary
 pub mod Verdict
 pub mod Weak
+pub mod Printed

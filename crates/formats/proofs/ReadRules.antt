@@ -9,18 +9,10 @@ use Rattle.theory.specs.Rules.{Morphism, Marking, Lawful, Pairs, level}
 use Rattle.theory.specs.Acceptance.{Accepts}
 use Rattle.theory.specs.Grades.{AtLeast, StrongMarking}
 use Rattle.theory.proofs.Values.{inside-of}
 use Rattle.formats.specs.RuleFile.{morphismOf, markingOf}
 use Rattle.formats.specs.ReadBack.{ReadsBack}
-use Rattle.formats.proofs.Agree.{Agree, below-first, letter-first, agree-value, agree-lawful}
+use Rattle.formats.proofs.Agree.{Agree, below-first, agree-value, agree-lawful, agree-back}
 use Rattle.formats.proofs.ReadBack.{reads-agree}
-
-agree-back : {m m′ : Morphism} → Agree m m′ → Agree m′ m
-agree-back g = record {
-  same-size = sym (g .same-size);
-  same-letters = sym (g .same-letters);
-  same-product = λ a b ha hb. sym (g .same-product a b (below-first g ha) (below-first g hb));
-  same-image = λ a h. sym (g .same-image a (letter-first g h));
-}
 
 -- where two tables agree, and the pairs marked in one are marked in the other, so do the lassos
 accepts-agree : {m m′ : Morphism} {P P′ : Pairs} {u v : List ℕ} → Agree m m′ → Lawful m

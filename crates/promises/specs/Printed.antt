@@ -1,0 +1,16 @@
+-- What `reduce` prints for a file: the bytes that an answer of the call leaves at the front of out. Document 02, Job 8. Assumes nothing.
+use Prim.Native.Nat.{ℕ}
+use mathlib.Core.List.{List}
+use Rattle.formats.specs.Front.{AtFront}
+use Rattle.promises.specs.declared.Reduced.the-variants.{Rule as Is-rule}
+use Rattle.promises.specs.Reduce.{ReducePromise}
+
+-- some buffers, and an answer that the promise of `reduce` allows for them: the file stands at the front of out
+pub record Prints (bytes file : List ℕ) : Type 0 where
+  pub before : List ℕ
+  pub after : List ℕ
+  pub entry : List ℕ
+  pub exit : List ℕ
+  pub end : ℕ
+  pub promised : ReducePromise bytes before after entry exit (Is-rule end)
+  pub printed : AtFront file before after end
