@@ -47,4 +47,9 @@ impl Random {
         }
         order
     }
+
+    /// The same entries in some order.
+    pub fn shuffled<T: Copy>(&mut self, of: &[T]) -> Vec<T> {
+        self.order(of.len()).into_iter().map(|i| of[i]).collect()
+    }
 }

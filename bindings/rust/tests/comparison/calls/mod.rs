@@ -5,6 +5,7 @@ mod lassos;
 mod markings;
 mod monitors;
 mod points;
+mod prints;
 mod reductions;
 
 use crate::definitions::checks::Refusal;

@@ -1,4 +1,5 @@
-//! Reduction: strong, the same grades, the marks that it must have, no larger than the syntactic classes, and in its order.
+//! Reduction: strong, the same grades, the marks that it must have, no larger than the syntactic classes, in its order, and the same when
+//! reduced again.
 
 use super::markings::outcomes;
 use super::{lengths, Comparison};
@@ -28,6 +29,7 @@ impl Comparison {
         if let Err(fault) = compare(known, reduced).and(ordered) {
             panic!("reduction of {inputs:?}: {fault}");
         }
+        self.reduce_again(&written.bytes);
         self.reduce_backwards(known, &written.bytes);
         let size = reduced.morphism().n;
         let outcome = match size < known.morphism().n {
@@ -41,13 +43,17 @@ impl Comparison {
         }
     }
 
+    /// Reducing a reduced file returns it.
+    fn reduce_again(&mut self, written: &[u8]) {
+        let again = self.print(written);
+        assert_eq!(again, written, "reduction of the reduced {written:?}");
+        self.tally.count("reduce", "the same when reduced again");
+    }
+
     /// The same rule, with its elements numbered backwards and so its marks in another order, has the same bytes for its reduction.
     fn reduce_backwards(&mut self, known: &Known, written: &[u8]) {
         let bytes = order::backwards(&known.rule).bytes();
-        let (mut out, mut scratch) = (vec![0; RULE_OUT], vec![0; SCRATCH]);
-        let answer = duknavet::reduce(&bytes, &mut out, &mut scratch);
-        let length = answer.expect("a strong rule").length;
-        assert_eq!(&out[..length], written, "reduction of {bytes:?}");
+        assert_eq!(self.print(&bytes), written, "reduction of {bytes:?}");
         self.tally
             .count("reduce", "the same from another numbering");
     }

@@ -6,6 +6,7 @@ pub mod checks;
 pub mod conjugacy;
 pub mod contexts;
 pub mod cycles;
+pub mod equivalence;
 pub mod order;
 pub mod rule;
 pub mod settling;

@@ -10,8 +10,7 @@ fn some<T: Copy>(random: &mut Random, all: &[T], times: usize) -> Vec<T> {
         .filter(|_| random.once_in(times))
         .copied()
         .collect();
-    let order = random.order(kept.len());
-    order.into_iter().map(|i| kept[i]).collect()
+    random.shuffled(&kept)
 }
 
 /// The grades of a marking: one, two or all three.
@@ -101,4 +100,22 @@ pub fn second(random: &mut Random, m: &Morphism, marks: &[Mark]) -> Vec<Mark> {
         2 => graded(random, &pairs(marks)),
         _ => mixed(random, m),
     }
+}
+
+/// The closure of the marks, but with another grade for one class of conjugate pairs, which then may have none.
+pub fn regraded(random: &mut Random, m: &Morphism, marks: &[Mark]) -> Vec<Mark> {
+    let classes = conjugacy::classes(m);
+    let class = |(s, e): Pair| classes[s as usize * m.n + e as usize];
+    let linked = m.linked_pairs();
+    let chosen = class(*random.pick(&linked));
+    let (before, mut marks): (Vec<Mark>, Vec<Mark>) = conjugacy::closure(m, marks)
+        .into_iter()
+        .partition(|mark| class(mark.pair) == chosen);
+    let before = before.first().map_or(0, |mark| mark.grade);
+    let grade = (before + random.within(1, 3) as u8) % 4;
+    if grade > 0 {
+        let pairs = linked.into_iter().filter(|pair| class(*pair) == chosen);
+        marks.extend(pairs.map(|pair| Mark { pair, grade }));
+    }
+    random.shuffled(&marks)
 }

@@ -4,5 +4,6 @@ pub mod automata;
 pub mod damage;
 pub mod large;
 pub mod logs;
+pub mod prints;
 pub mod rules;
 pub mod words;
