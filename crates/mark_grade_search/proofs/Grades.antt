@@ -1,5 +1,5 @@
 -- The search at one grade after the other, from the highest down. Assumes nothing.
-use Prim.Native.Nat.{ℕ, _+_, _*_, _≤_, _<_}
+use Prim.Native.Nat.{ℕ, _+_, _*_, _%_, _^_, _≤_, _<_}
 use mathlib.Core.Path.{_≡_, refl, _∙_, subst}
 use mathlib.Core.Logic.{⊎-elim, _⊎_, inl, inr, _≢_}
 use mathlib.Core.List.{List}
@@ -15,36 +15,36 @@ use Rattle.scratch.proofs.Markings.{marking-kept}
 use Rattle.mark_search.specs.Search.{EscapeNeeds, EscapeAnswer, Escaped}
 use Rattle.mark_search.specs.declared.Escape.{Escape}
 use Rattle.mark_search.specs.declared.Escape.the-variants.{At as Escape-at, Nothing as No-escape}
-use Rattle.mark_grade_search.specs.GradeSearch.{Higher, HighestBelow, GradeEscaped}
+use Rattle.mark_grade_search.specs.GradeSearch.{HighestBelow, GradeEscaped}
 use Rattle.mark_grade_search.specs.declared.GradeEscape.the-variants.{At, Nothing}
 use Rattle.mark_grade_search.proofs.Skips.{skipped, none-above}
 
--- a mark that counts, or 0 where it is not below the grade
-abbrev pub Seen : ℕ → ℕ → ℕ → Type 0
-Seen mark below seen = ((mark < below) × (seen ≡ mark)) ⊎ ((below ≤ mark) × (seen ≡ 0))
+-- less the grade and modulo 256, a mark below the grade stands above those that are not, as far as it is high
+pub shifted : (shift : ℕ) {mark below : ℕ} → (shift + below) % 2 ^ 8 ≡ mark → mark < below → 256 + mark ≤ shift + below
+shifted shift e l = omega arith
 
--- the ways through `higher`
-pub higher-seen : {best mark below seen : ℕ} → Seen mark below seen → best < seen → Higher best mark below seen
-higher-seen w l =
-    ⊎-elim (λ k. record { less = λ g. omega (arith, k .0, k .1); no-lower = omega arith; than-mark = λ g. omega (arith, k .1) })
-    (λ k. absurd (omega (arith, l, k .1))) w
+-- no mark below the grade, of the bytes passed so far, is above what `top` says
+pub record TopBelow (bytes : List ℕ) (first count below top : ℕ) : Type 0 where
+  pub least : 256 ≤ top + below
+  pub none-above : (i : ℕ) → i < count → getD bytes (first + i) 0 < below → 256 + getD bytes (first + i) 0 ≤ top + below
 
-pub higher-best : {best mark below seen : ℕ} → Seen mark below seen → seen ≤ best → Higher best mark below best
-higher-best w l = record { less = λ g. g; no-lower = le-refl _; than-mark = λ g. ⊎-elim (λ k. omega (arith, k .1)) (λ k. absurd (omega (arith, g, k .0))) w }
-
--- the highest of the bytes passed so far
 module _ {bytes : List ℕ} {first below : ℕ} where
-  pub highest-none : 0 < below → HighestBelow bytes first 0 below 0
-  highest-none h = record { less = h; none-between = λ i l. absurd (omega arith) }
+  pub top-none : (top : ℕ) → 0 < below → (top + below) % 2 ^ 8 ≡ 0 → TopBelow bytes first 0 below top
+  top-none top h e = record { least = shifted top e h; none-above = λ i l. absurd (omega arith) }
 
-  pub highest-more : {i best r : ℕ} → HighestBelow bytes first i below best → Higher best (getD bytes (first + i) 0) below r → HighestBelow bytes first (i + 1) below r
-  highest-more {i} {best} {r} b d = record {
-    less = d .less (b .less);
-    none-between = below-more (λ j. getD bytes (first + j) 0 < below → getD bytes (first + j) 0 ≤ r) i (λ j l h. omega (arith, b .none-between j l h, d .no-lower)) (d .than-mark);
+  pub top-more : {i top shift r : ℕ} → TopBelow bytes first i below top → (shift + below) % 2 ^ 8 ≡ getD bytes (first + i) 0 → (top ≤ r) × (shift ≤ r)
+      → TopBelow bytes first (i + 1) below r
+  top-more {i} {top} {shift} {r} b e g = record {
+    least = omega (arith, b .least, g .0);
+    none-above = below-more (λ j. getD bytes (first + j) 0 < below → 256 + getD bytes (first + j) 0 ≤ r + below) i
+        (λ j l h. omega (arith, b .none-above j l h, g .0)) (λ h. omega (arith, shifted shift e h, g .1));
   }
 
-  pub highest-all : {i count best : ℕ} → HighestBelow bytes first i below best → count ≤ i → HighestBelow bytes first count below best
-  highest-all b h = record { less = b .less; none-between = λ j l. b .none-between j (omega arith) }
+  pub highest-all : {i count top r : ℕ} → TopBelow bytes first i below top → count ≤ i → (r < below) × (r + 256 ≡ top + below) → HighestBelow bytes first count below r
+  highest-all b h e = record {
+    less = e .0;
+    none-between = λ j l k. omega (arith, b .none-above j (omega arith) k, e .1);
+  }
 
 -- no cycle escapes at the grades from `above` on
 pub record SearchedAbove (m : Morphism) (first second above : ℕ) (entry now : List ℕ) : Type 0 where

@@ -10,12 +10,6 @@ use Rattle.mark_search.specs.Search.{EscapedAt}
 use Rattle.mark_grade_search.specs.declared.GradeEscape.{GradeEscape}
 use Rattle.mark_grade_search.specs.declared.GradeEscape.the-variants.{At, Nothing}
 
--- r is no lower than the best so far, nor than a mark below the grade
-pub record Higher (best mark below r : ℕ) : Type 0 where
-  pub less : best < below → r < below
-  pub no-lower : best ≤ r
-  pub than-mark : mark < below → mark ≤ r
-
 -- among the first bytes from `first` on no mark lies between r and the grade
 pub record HighestBelow (bytes : List ℕ) (first count below r : ℕ) : Type 0 where
   pub less : r < below

@@ -2,37 +2,37 @@
 // first marking has is not searched, for a cycle that escapes there escapes at the next higher one.
 use mark_search::Escape;
 use mark_search::first_escape;
+use sections::greater;
+use std::num::wrapping_sub_u8;
+ghost use mathlib.Core.Path.{_≡_};
 ghost use Prim.Native.Nat.{_+_, _≤_, _<_};
 ghost use lib.ListN.{length};
 ghost use Rattle.rule_table.specs.Table.{Table};
 ghost use Rattle.formats.specs.Table.{morphismAt};
 ghost use Rattle.mark_search.specs.Search.{EscapeNeeds};
-ghost use Rattle.mark_grade_search.specs.GradeSearch.{Higher, HighestBelow, GradeEscaped};
+ghost use Rattle.mark_grade_search.specs.GradeSearch.{HighestBelow, GradeEscaped};
 
-// The higher of two marks, where the second is below a grade; else the first. A mark that is not counts as 0.
-fn higher(best: u8, mark: u8, below: u8) -> u8
-    ensures { λ r. ⌜ Higher best mark below r ⌝ }
+// The mark below a grade that stands as `shifted`: less the grade, and modulo 256.
+fn shifted_back(shifted: u8, below: u8) -> u8
+    requires { ⌜ 256 ≤ shifted + below ⌝ }
+    ensures { λ r. ⌜ (r < below) × (r + 256 ≡ shifted + below) ⌝ }
 {
-    let mut seen = 0u8;
-    if mark < below {
-        seen = mark;
-    }
-    if best < seen {
-        return seen;
-    }
-    best
+    shifted - (255 - below) - 1
 }
 
-// The highest mark below a grade, among some bytes from `first` on; 0 for none.
+// The highest mark below a grade, among some bytes from `first` on; 0 for none. Shifted, the marks below the grade stand in their order
+// above all others, so that it is a greatest byte, which the compiler finds many bytes at a time: it does not where the loop compares
+// each mark with the grade.
 fn highest_below(scratch: &[u8], count: usize, first: usize, below: u8) -> u8
     requires { ⌜ (0 < below) × (first + count ≤ length (now scratch)) ⌝ }
     ensures { λ r. ⌜ HighestBelow (now (scratch .entry)) first count below r ⌝ }
 {
-    let mut best = 0u8;
+    let mut top = wrapping_sub_u8(0, below);
     for i in 0..count {
-        best = higher(best, scratch[first + i], below);
+        let shifted = wrapping_sub_u8(scratch[first + i], below);
+        top = greater(top, shifted);
     }
-    best
+    shifted_back(top, below)
 }
 
 // The highest grade at which a cycle escapes, its start value, and the entry that ended the search.

@@ -1,29 +1,34 @@
--- The loop holds the highest of the marks that were passed. Assumes nothing.
+-- The loop holds a byte that no passed mark below the grade is above, each less the grade and modulo 256. Assumes nothing.
 use Prim.Native.Nat.{_-_}
 use native.Mathlib.Omega.{arith}
 use borrow.Author.Needs.{needs}
-use Rattle.mark_grade_search.specs.GradeSearch.{HighestBelow}
-use Rattle.mark_grade_search.proofs.Grades.{highest-none, highest-more, highest-all}
+use Rattle.mark_grade_search.proofs.Grades.{TopBelow, top-none, top-more, highest-all}
 use Rattle.mark_grade_search.proofs.highest_below.Statement.{statement}
 use Rattle.mark_grade_search.proofs.highest_below.Tie as tie
 
 abbrev Inv-loop : tie.InvT-loop
-Inv-loop scratch count first below best₀ i₀ best i = HighestBelow scratch first i below best
+Inv-loop scratch count first below top₀ i₀ top i = TopBelow scratch first i below top
 
 abbrev μ-loop : tie.MeasureT-loop
-μ-loop scratch count first below best₀ i₀ best i = count - i
+μ-loop scratch count first below top₀ i₀ top i = count - i
+
+wrapping-sub-u8-requires : tie.Need-wrapping-sub-u8-requires Inv-loop μ-loop
+wrapping-sub-u8-requires c κs = tt
 
 loop-holds : tie.Need-loop-holds Inv-loop μ-loop
-loop-holds c = highest-none (c .before .pre .0)
+loop-holds c = top-none _ (c .before .before .pre .0) (c .wrapping-sub-u8 .ensures)
 
-add-higher : tie.Need-add-higher Inv-loop μ-loop
-add-higher c = search needs
+add-wrapping-sub-u8 : tie.Need-add-wrapping-sub-u8 Inv-loop μ-loop
+add-wrapping-sub-u8 c = search needs
 
-shared-slice-read-higher : tie.Need-shared-slice-read-higher Inv-loop μ-loop
-shared-slice-read-higher c = omega (arith, c .before .before .before .before .pre .1)
+shared-slice-read-wrapping-sub-u8 : tie.Need-shared-slice-read-wrapping-sub-u8 Inv-loop μ-loop
+shared-slice-read-wrapping-sub-u8 c = omega (arith, c .before .before .before .before .before .pre .1)
 
-higher-requires : tie.Need-higher-requires Inv-loop μ-loop
-higher-requires c κs = tt
+wrapping-sub-u8-requires-2 : tie.Need-wrapping-sub-u8-requires-2 Inv-loop μ-loop
+wrapping-sub-u8-requires-2 c κs = tt
+
+greater-requires : tie.Need-greater-requires Inv-loop μ-loop
+greater-requires c κs = tt
 
 add-i : tie.Need-add-i Inv-loop μ-loop
 add-i c = omega arith
@@ -32,10 +37,13 @@ loop-less : tie.Need-loop-less Inv-loop μ-loop
 loop-less c = omega arith
 
 loop-again : tie.Need-loop-again Inv-loop μ-loop
-loop-again c = highest-more (c .before .before .before .loop .inv) (c .higher .ensures)
+loop-again c = top-more (c .before .before .before .before .loop .inv) (c .before .wrapping-sub-u82 .ensures) (c .greater .ensures)
+
+shifted-back-requires : tie.Need-shifted-back-requires Inv-loop μ-loop
+shifted-back-requires c κs = c .before .loop .inv .least
 
 returns : tie.Need-returns Inv-loop μ-loop
-returns c = highest-all (c .before .loop .inv) (c .loop-test .left)
+returns c = highest-all (c .before .before .loop .inv) (c .before .loop-test .left) (c .shifted-back .ensures)
 
 pub highest-below-spec : {M : Type 1} → statement M
 highest-below-spec =
@@ -43,11 +51,14 @@ highest-below-spec =
     (tie.spec
     Inv-loop
     μ-loop
+    wrapping-sub-u8-requires
     loop-holds
-    add-higher
-    shared-slice-read-higher
-    higher-requires
+    add-wrapping-sub-u8
+    shared-slice-read-wrapping-sub-u8
+    wrapping-sub-u8-requires-2
+    greater-requires
     add-i
     loop-less
     loop-again
+    shifted-back-requires
     returns)
