@@ -1,7 +1,7 @@
 -- How far the loops of the two tests have come: their invariants, what one turn adds, and what they give at the end. Assumes nothing.
 use Prim.Native.Nat.{ℕ, _+_, _-_, _*_, _≤_, _<_}
-use mathlib.Core.Path.{_≡_, sym, ap, _∙_, subst}
-use mathlib.Core.Logic.{⊎-elim}
+use mathlib.Core.Path.{_≡_, refl, sym, ap, _∙_, subst}
+use mathlib.Core.Logic.{_⊎_, inl, inr, ⊎-elim}
 use mathlib.Core.Bool.{Bool, true, false, not}
 use mathlib.Core.List.{List}
 use native.Mathlib.Omega.{arith}
@@ -62,28 +62,40 @@ module _ {bytes : List ℕ} {n : ℕ} {queue : List ℕ} where
   pub columns-all : {columns : List ℕ} {j x letters : ℕ} → ColumnsTo bytes n queue columns j x → letters ≤ j → LetterColumns bytes n queue letters columns
   columns-all c l = record { column = λ i h. c .full i (omega arith) }
 
--- (y·p)·h = y·s for every y before x, with h the element of column j
-pub record AlongBefore (bytes : List ℕ) (n k : ℕ) (columns : List ℕ) (j p s x : ℕ) : Type 0 where
+-- a flag after two numbers were compared: taken down where they differ
+abbrev pub Noted : ℕ → ℕ → Bool → Bool → Type 0
+Noted left right same next = (next ≡ false) ⊎ ((left ≡ right) × (next ≡ same))
+
+-- where it still stands they are equal, and it stood before
+noted : {left right : ℕ} {same next : Bool} → Noted left right same next → next ≡ true → (left ≡ right) × (same ≡ true)
+noted (inl e) w = absurd (let z : _≡_ {A = ℕ} 0 1 = cc in omega arith)
+noted (inr d) w = (d .0, sym (d .1) ∙ w)
+
+-- where nothing was seen to differ, (y·p)·h = y·s for every y before x, with h the element of column j
+pub record AlongBefore (bytes : List ℕ) (n k : ℕ) (columns : List ℕ) (j p s : ℕ) (same : Bool) (x : ℕ) : Type 0 where
   pub table : Table bytes n k
   pub column : ColumnInside columns n j
   pub inside : (p < n) × (s < n)
-  pub passed : (y : ℕ) → y < x → getD columns (64 * j + productAt bytes n y p) 0 ≡ productAt bytes n y s
+  pub passed : same ≡ true → (y : ℕ) → y < x → getD columns (64 * j + productAt bytes n y p) 0 ≡ productAt bytes n y s
 
 module _ {bytes : List ℕ} {n k : ℕ} {columns : List ℕ} {j p s : ℕ} where
-  pub along-start : Table bytes n k → ColumnInside columns n j → (p < n) × (s < n) → AlongBefore bytes n k columns j p s 0
-  along-start t c i = record { table = t; column = c; inside = i; passed = λ y l. absurd (omega arith) }
+  pub along-start : Table bytes n k → ColumnInside columns n j → (p < n) × (s < n) → AlongBefore bytes n k columns j p s true 0
+  along-start t c i = record { table = t; column = c; inside = i; passed = λ w y l. absurd (omega arith) }
 
-  pub along-next : {x xp right : ℕ} → AlongBefore bytes n k columns j p s x → xp ≡ productAt bytes n x p → right ≡ productAt bytes n x s
-      → getD columns (64 * j + xp) 0 ≡ right → AlongBefore bytes n k columns j p s (x + 1)
+  pub along-next : {x xp right : ℕ} {same next : Bool} → AlongBefore bytes n k columns j p s same x → xp ≡ productAt bytes n x p → right ≡ productAt bytes n x s
+      → Noted (getD columns (64 * j + xp) 0) right same next → AlongBefore bytes n k columns j p s next (x + 1)
   along-next {x} b e r d = record {
     table = b .table;
     column = b .column;
     inside = b .inside;
-    passed = below-more (λ y. getD columns (64 * j + productAt bytes n y p) 0 ≡ productAt bytes n y s) x (b .passed) (cc);
+    passed = λ w.
+        let z = noted d w in
+        below-more (λ y. getD columns (64 * j + productAt bytes n y p) 0 ≡ productAt bytes n y s) x (b .passed (z .1)) (let u = z .0 in cc);
   }
 
-  pub along-all : {x : ℕ} → AlongBefore bytes n k columns j p s x → n ≤ x → ColumnAlong (morphismAt bytes n k) columns j p s
-  along-all b l = record { along = λ y g. b .passed y (omega arith) }
+  pub along-all : {x : ℕ} (same : Bool) → AlongBefore bytes n k columns j p s same x → n ≤ x → AlongAnswer (morphismAt bytes n k) columns j p s same
+  along-all true b l = record { along = λ y g. b .passed refl y (omega arith) }
+  along-all false b l = tt
 
   -- the column is that of h
   pub column-along : {h : ℕ} → Table bytes n k → Column bytes n columns j h → p < n → (r : Bool) → AlongAnswer (morphismAt bytes n k) columns j p s r → not r ≡ false
@@ -91,28 +103,32 @@ module _ {bytes : List ℕ} {n k : ℕ} {columns : List ℕ} {j p s : ℕ} where
   column-along t c l true a e = record { along = λ x g. sym (c .product (productAt bytes n x p) (t .products x p g l)) ∙ a .along x g }
   column-along t c l false a e = absurd (true-apart e)
 
--- (g·y)·h = g·(y·h) for every y before x, with h the element of column j
-pub record BetweenBefore (bytes : List ℕ) (n k : ℕ) (columns : List ℕ) (j g x : ℕ) : Type 0 where
+-- where nothing was seen to differ, (g·y)·h = g·(y·h) for every y before x, with h the element of column j
+pub record BetweenBefore (bytes : List ℕ) (n k : ℕ) (columns : List ℕ) (j g : ℕ) (same : Bool) (x : ℕ) : Type 0 where
   pub table : Table bytes n k
   pub column : ColumnInside columns n j
   pub inside : g < n
-  pub passed : (y : ℕ) → y < x → getD columns (64 * j + productAt bytes n g y) 0 ≡ productAt bytes n g (getD columns (64 * j + y) 0)
+  pub passed : same ≡ true → (y : ℕ) → y < x → getD columns (64 * j + productAt bytes n g y) 0 ≡ productAt bytes n g (getD columns (64 * j + y) 0)
 
 module _ {bytes : List ℕ} {n k : ℕ} {columns : List ℕ} {j g : ℕ} where
-  pub between-start : Table bytes n k → ColumnInside columns n j → g < n → BetweenBefore bytes n k columns j g 0
-  between-start t c i = record { table = t; column = c; inside = i; passed = λ y l. absurd (omega arith) }
+  pub between-start : Table bytes n k → ColumnInside columns n j → g < n → BetweenBefore bytes n k columns j g true 0
+  between-start t c i = record { table = t; column = c; inside = i; passed = λ w y l. absurd (omega arith) }
 
-  pub between-next : {x gx right : ℕ} → BetweenBefore bytes n k columns j g x → gx ≡ productAt bytes n g x
-      → right ≡ productAt bytes n g (getD columns (64 * j + x) 0) → getD columns (64 * j + gx) 0 ≡ right → BetweenBefore bytes n k columns j g (x + 1)
+  pub between-next : {x gx right : ℕ} {same next : Bool} → BetweenBefore bytes n k columns j g same x → gx ≡ productAt bytes n g x
+      → right ≡ productAt bytes n g (getD columns (64 * j + x) 0) → Noted (getD columns (64 * j + gx) 0) right same next
+      → BetweenBefore bytes n k columns j g next (x + 1)
   between-next {x} b e r d = record {
     table = b .table;
     column = b .column;
     inside = b .inside;
-    passed = below-more (λ y. getD columns (64 * j + productAt bytes n g y) 0 ≡ productAt bytes n g (getD columns (64 * j + y) 0)) x (b .passed) (cc);
+    passed = λ w.
+        let z = noted d w in
+        below-more (λ y. getD columns (64 * j + productAt bytes n g y) 0 ≡ productAt bytes n g (getD columns (64 * j + y) 0)) x (b .passed (z .1)) (let u = z .0 in cc);
   }
 
-  pub between-all : {x : ℕ} → BetweenBefore bytes n k columns j g x → n ≤ x → ColumnBetween (morphismAt bytes n k) columns j g
-  between-all b l = record { between = λ y g. b .passed y (omega arith) }
+  pub between-all : {x : ℕ} (same : Bool) → BetweenBefore bytes n k columns j g same x → n ≤ x → BetweenAnswer (morphismAt bytes n k) columns j g same
+  between-all true b l = record { between = λ y g. b .passed refl y (omega arith) }
+  between-all false b l = tt
 
   -- the column is that of h
   column-between : {h : ℕ} → Table bytes n k → Column bytes n columns j h → g < n → ColumnBetween (morphismAt bytes n k) columns j g → Between (morphismAt bytes n k) g h

@@ -47,7 +47,8 @@ fn letter_columns(
     columns
 }
 
-// Whether (x·p)·h is x·s for every x, with h the element of a column.
+// Whether (x·p)·h is x·s for every x, with h the element of a column. A loop that ends only with the last x is compiled with half the
+// jumps, and its time does not depend on where it comes to lie.
 fn along(
     rule: &[u8],
     n: usize,
@@ -62,15 +63,16 @@ fn along(
     requires { ⌜ (p < n) × (s < n) ⌝ }
     ensures { λ r. ⌜ AlongAnswer (morphismAt (now (rule .entry)) n k) (now (columns .entry)) j p s r ⌝ }
 {
+    let mut same = true;
     for x in 0..n {
         let xp = product(rule, n, x, p);
         let left = columns[64 * j + xp] as usize;
         let right = product(rule, n, x, s);
         if left != right {
-            return false;
+            same = false;
         }
     }
-    true
+    same
 }
 
 // Whether every product with the element of an entry behind the letters' is one with the element that it was found from and then one
@@ -104,23 +106,24 @@ fn words_associate(
     true
 }
 
-// Whether (g·x)·h is g·(x·h) for every x, with h the element of a column.
+// Whether (g·x)·h is g·(x·h) for every x, with h the element of a column; the loop as above.
 fn between(rule: &[u8], n: usize, k: usize, columns: &[u8; 1024], j: usize, g: usize) -> bool
     requires { ⌜ Table (now rule) n k ⌝ }
     requires { ⌜ ColumnInside (now columns) n j ⌝ }
     requires { ⌜ g < n ⌝ }
     ensures { λ r. ⌜ BetweenAnswer (morphismAt (now (rule .entry)) n k) (now (columns .entry)) j g r ⌝ }
 {
+    let mut same = true;
     for x in 0..n {
         let gx = product(rule, n, g, x);
         let xh = columns[64 * j + x] as usize;
         let left = columns[64 * j + gx] as usize;
         let right = product(rule, n, g, xh);
         if left != right {
-            return false;
+            same = false;
         }
     }
-    true
+    same
 }
 
 // Whether this holds for every two letters' elements.

@@ -28,26 +28,10 @@ ghost use Rattle.rule_marks.specs.Faults.{FaultAnswer};
 ghost use Rattle.scratch.specs.Map.{markTableSize};
 ghost use Rattle.rule_check.specs.Answers.{reachChecks, BlankMarks, ContentAnswer, RuleVerdict, CheckPromise};
 
-// Whether every element is some word's value.
-fn reach_fault(rule: &[u8], n: usize, k: usize) -> Fault
+// The first triple that does not associate, and without one what words tell of a table that associates.
+fn triples_fault(rule: &[u8], n: usize, k: usize, told: Fault) -> Fault
     requires { ⌜ Table (now rule) n k ⌝ }
-    requires { ⌜ AllAssociate (morphismAt (now rule) n k) ⌝ }
-    ensures { λ r. ⌜ FaultAnswer (λ input. reachChecks input (morphismAt (now (rule .entry)) n k)) r ⌝ }
-{
-    let mut queue = [0u8; 256];
-    reach(rule, n, k, &mut queue);
-    match least_without(&queue, n) {
-        Found::At(s) => Fault::Refused {
-            refusal: Refusal::Unreachable,
-            place: s,
-        },
-        Found::Nothing => Fault::Nothing,
-    }
-}
-
-// The first triple that does not associate, and without one the least element that is no word's value.
-fn triples_fault(rule: &[u8], n: usize, k: usize) -> Fault
-    requires { ⌜ Table (now rule) n k ⌝ }
+    requires { ⌜ (AllAssociate (morphismAt (now rule) n k) → FaultAnswer (λ input. reachChecks input (morphismAt (now rule) n k)) told) ⌝ }
     ensures { λ r. ⌜ FaultAnswer (λ input. tableChecks input (morphismAt (now (rule .entry)) n k)) r ⌝ }
 {
     match first_not_associative(rule, n, k) {
@@ -55,7 +39,7 @@ fn triples_fault(rule: &[u8], n: usize, k: usize) -> Fault
             refusal: Refusal::NotAssociative,
             place: a * 4096 + b * 64 + c,
         },
-        Triple::Nothing => reach_fault(rule, n, k),
+        Triple::Nothing => told,
     }
 }
 
@@ -69,14 +53,18 @@ fn table_fault(rule: &[u8], n: usize, k: usize) -> Fault
     let count = reach(rule, n, k, &mut queue);
     match least_without(&queue, n) {
         Found::At(s) => {
-            return triples_fault(rule, n, k);
+            let told = Fault::Refused {
+                refusal: Refusal::Unreachable,
+                place: s,
+            };
+            return triples_fault(rule, n, k, told);
         }
         Found::Nothing => {}
     }
     if associates(rule, n, k, &queue, count) {
         return Fault::Nothing;
     }
-    triples_fault(rule, n, k)
+    triples_fault(rule, n, k, Fault::Nothing)
 }
 
 // What follows the last section of an input.

@@ -1,5 +1,6 @@
--- The loop holds that (y·p)·h is y·s for every y that was passed. The measure is the number of elements left. Assumes nothing.
+-- The loop holds that (y·p)·h is y·s for every y that was passed, where the flag stands. The measure is the number of elements left. Assumes nothing.
 use Prim.Native.Nat.{_<_, _-_}
+use mathlib.Core.Logic.{inl, inr, ⊎-elim}
 use native.Mathlib.Omega.{arith}
 use Rattle.rule_table.proofs.Facts.{table-place, product-below}
 use Rattle.rule_associating.proofs.Passed.{AlongBefore, along-start, along-next, along-all}
@@ -7,10 +8,10 @@ use Rattle.rule_associating.proofs.along.Statement.{statement}
 use Rattle.rule_associating.proofs.along.Tie as tie
 
 abbrev Inv-loop : tie.InvT-loop
-Inv-loop rule n k columns j p s x₀ x = AlongBefore rule n k columns j p s x
+Inv-loop rule n k columns j p s same₀ x₀ same x = AlongBefore rule n k columns j p s same x
 
 abbrev μ-loop : tie.MeasureT-loop
-μ-loop rule n k columns j p s x₀ x = n - x
+μ-loop rule n k columns j p s same₀ x₀ same x = n - x
 
 loop-holds : tie.Need-loop-holds Inv-loop μ-loop
 loop-holds c = along-start (c .before .pre .0) (c .before .pre .1 .0) (c .before .pre .1 .1)
@@ -43,9 +44,6 @@ cast-left c =
 product-requires-2 : tie.Need-product-requires-2 Inv-loop μ-loop
 product-requires-2 c κs = table-place (c .before .before .before .loop .inv .table) (omega arith) (omega arith)
 
-returns : tie.Need-returns Inv-loop μ-loop
-returns c = tt
-
 add-x : tie.Need-add-x Inv-loop μ-loop
 add-x c = omega arith
 
@@ -54,10 +52,11 @@ loop-less c = omega arith
 
 loop-again : tie.Need-loop-again Inv-loop μ-loop
 loop-again c =
-    along-next (c .before .before .before .before .before .loop .inv) (c .before .before .before .product .ensures) (c .before .product2 .ensures) (c .if1 .left)
+    along-next (c .before .before .before .before .before .loop .inv) (c .before .before .before .product .ensures) (c .before .product2 .ensures)
+    (⊎-elim (λ w. inl (w .1)) (λ w. inr (w .0 .left, w .1)) (c .if1 .came))
 
-returns-2 : tie.Need-returns-2 Inv-loop μ-loop
-returns-2 c = along-all (c .before .loop .inv) (c .loop-test .left)
+returns : tie.Need-returns Inv-loop μ-loop
+returns c = along-all _ (c .before .loop .inv) (c .loop-test .left)
 
 pub along-spec : {M : Type 1} → statement M
 along-spec =
@@ -72,8 +71,7 @@ along-spec =
     element-copy-out-left
     cast-left
     product-requires-2
-    returns
     add-x
     loop-less
     loop-again
-    returns-2)
+    returns)

@@ -1,5 +1,6 @@
--- The loop holds that (g·y)·h is g·(y·h) for every y that was passed. The measure is the number of elements left. Assumes nothing.
+-- The loop holds that (g·y)·h is g·(y·h) for every y that was passed, where the flag stands. The measure is the number of elements left. Assumes nothing.
 use Prim.Native.Nat.{_<_, _-_}
+use mathlib.Core.Logic.{inl, inr, ⊎-elim}
 use native.Mathlib.Omega.{arith}
 use Rattle.rule_table.proofs.Facts.{table-place, product-below}
 use Rattle.rule_associating.proofs.Passed.{BetweenBefore, between-start, between-next, between-all}
@@ -7,10 +8,10 @@ use Rattle.rule_associating.proofs.between.Statement.{statement}
 use Rattle.rule_associating.proofs.between.Tie as tie
 
 abbrev Inv-loop : tie.InvT-loop
-Inv-loop rule n k columns j g x₀ x = BetweenBefore rule n k columns j g x
+Inv-loop rule n k columns j g same₀ x₀ same x = BetweenBefore rule n k columns j g same x
 
 abbrev μ-loop : tie.MeasureT-loop
-μ-loop rule n k columns j g x₀ x = n - x
+μ-loop rule n k columns j g same₀ x₀ same x = n - x
 
 loop-holds : tie.Need-loop-holds Inv-loop μ-loop
 loop-holds c = between-start (c .before .pre .0) (c .before .pre .1 .0) (c .before .pre .1 .1)
@@ -59,9 +60,6 @@ product-requires-2 c κs =
     let here = c .before .before .before .before .loop in
     table-place (here .inv .table) (here .inv .inside) (here .inv .column .inside (here .x) (c .before .before .before .loop-test .taken))
 
-returns : tie.Need-returns Inv-loop μ-loop
-returns c = tt
-
 add-x : tie.Need-add-x Inv-loop μ-loop
 add-x c = omega arith
 
@@ -70,10 +68,11 @@ loop-less c = omega arith
 
 loop-again : tie.Need-loop-again Inv-loop μ-loop
 loop-again c =
-    between-next (c .before .before .before .before .before .before .loop .inv) (c .before .before .before .before .product .ensures) (c .before .product2 .ensures) (c .if1 .left)
+    between-next (c .before .before .before .before .before .before .loop .inv) (c .before .before .before .before .product .ensures) (c .before .product2 .ensures)
+    (⊎-elim (λ w. inl (w .1)) (λ w. inr (w .0 .left, w .1)) (c .if1 .came))
 
-returns-2 : tie.Need-returns-2 Inv-loop μ-loop
-returns-2 c = between-all (c .before .loop .inv) (c .loop-test .left)
+returns : tie.Need-returns Inv-loop μ-loop
+returns c = between-all _ (c .before .loop .inv) (c .loop-test .left)
 
 pub between-spec : {M : Type 1} → statement M
 between-spec =
@@ -92,8 +91,7 @@ between-spec =
     element-copy-out-left
     cast-left
     product-requires-2
-    returns
     add-x
     loop-less
     loop-again
-    returns-2)
+    returns)

@@ -1,10 +1,10 @@
 -- `rule_check::table_fault` meets its contract: where words find every element and the tests with letters hold, nothing is refused; else the
--- triples decide. Assumes nothing.
+-- triples decide, and where they associate, what words found. Assumes nothing.
 use native.Mathlib.Omega.{arith}
 use lib.ListN.{length-replicate}
 use Prim.Native.Nat.{ℕ}
 use borrow.Author.Needs.{needs}
-use Rattle.rule_check.proofs.Faults.{blank-queue, all-found, letters-pass}
+use Rattle.rule_check.proofs.Faults.{blank-queue, all-found, unreached, all-reached, letters-pass}
 use Rattle.rule_check.proofs.table_fault.Statement.{statement}
 use Rattle.rule_check.proofs.table_fault.Tie as tie
 
@@ -24,7 +24,13 @@ enum-known-s : tie.Need-enum-known-s
 enum-known-s c = search needs
 
 triples-fault-requires : tie.Need-triples-fault-requires
-triples-fault-requires c κs = search needs
+triples-fault-requires c κs =
+    let d = c .before in
+    let b = d .before .before .before .before .before .before .before .before in (
+      b .pre,
+      λ all. unreached (b .args .rule .now) (b .args .n) (b .args .k) (b .pre) all (d .before .before .before .before .before .reach .ensures)
+          (d .before .before .least-without .result) (d .before .before .least-without .ensures) (d .s .given .1),
+    )
 
 returns : tie.Need-returns
 returns c = search needs
@@ -52,7 +58,13 @@ returns-2 c =
     (c .before .associates .result) (c .before .associates .ensures) (c .if1 .taken)
 
 triples-fault-requires-2 : tie.Need-triples-fault-requires-2
-triples-fault-requires-2 c κs = search needs
+triples-fault-requires-2 c κs =
+    let d = c .before .before .before in
+    let b = d .before .before .before .before .before .before .before .before in (
+      b .pre,
+      λ all. all-reached (b .args .rule .now) (b .args .n) (b .args .k) (b .pre) all (d .before .before .before .before .before .reach .ensures)
+          (d .before .before .least-without .result) (d .before .before .least-without .ensures) (d .enum-told .given .1),
+    )
 
 returns-3 : tie.Need-returns-3
 returns-3 c = search needs

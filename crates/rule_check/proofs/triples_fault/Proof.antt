@@ -1,5 +1,5 @@
--- `rule_check::triples_fault` meets its contract: the first triple that does not associate, and after an associative table the
--- reached elements. Assumes nothing.
+-- `rule_check::triples_fault` meets its contract: the first triple that does not associate, and after an associative table
+-- what words tell. Assumes nothing.
 use native.Mathlib.Omega.{arith}
 use Rattle.formats.specs.Table.{morphismAt}
 use Rattle.rule_table.specs.Answers.{FirstTriple}
@@ -22,35 +22,29 @@ found c =
     let a = c .before .before .before .before .before .args in
     triple-at (a .rule .now) (a .n) (a .k) (c .before .before .before .first-not-associative .result) (c .before .before .before .first-not-associative .ensures) (c .before .a .given .1)
 
-mul-t10 : tie.Need-mul-t10
-mul-t10 c = omega (arith, found c .a-inside, found c .b-inside, found c .c-inside, c .before .before .before .before .before .pre .small)
-
 mul-t11 : tie.Need-mul-t11
-mul-t11 c = omega (arith, found c .a-inside, found c .b-inside, found c .c-inside, c .before .before .before .before .before .pre .small)
+mul-t11 c = omega (arith, found c .a-inside, found c .b-inside, found c .c-inside, c .before .before .before .before .before .pre .0 .small)
 
-add-t12 : tie.Need-add-t12
-add-t12 c = omega (arith, found c .a-inside, found c .b-inside, found c .c-inside, c .before .before .before .before .before .pre .small)
+mul-t12 : tie.Need-mul-t12
+mul-t12 c = omega (arith, found c .a-inside, found c .b-inside, found c .c-inside, c .before .before .before .before .before .pre .0 .small)
 
 add-t13 : tie.Need-add-t13
-add-t13 c = omega (arith, found c .a-inside, found c .b-inside, found c .c-inside, c .before .before .before .before .before .pre .small)
+add-t13 c = omega (arith, found c .a-inside, found c .b-inside, found c .c-inside, c .before .before .before .before .before .pre .0 .small)
+
+add-t14 : tie.Need-add-t14
+add-t14 c = omega (arith, found c .a-inside, found c .b-inside, found c .c-inside, c .before .before .before .before .before .pre .0 .small)
 
 enum-told : tie.Need-enum-told
 enum-told c = search needs
-
-reach-fault-requires : tie.Need-reach-fault-requires
-reach-fault-requires c κs =
-    let b = c .before .before .before .before in
-    (b .pre, triple-none (b .args .rule .now) (b .args .n) (b .args .k) (c .before .before .first-not-associative .result) (c .before .before .first-not-associative .ensures) (c .enum-told .given .1))
 
 returns : tie.Need-returns
 returns c = not-associative (found c)
 
 returns-2 : tie.Need-returns-2
 returns-2 c =
-    let b = c .before .before .before .before .before in
-    let all = triple-none (b .args .rule .now) (b .args .n) (b .args .k) (c .before .before .before .first-not-associative .result) (c .before .before .before .first-not-associative .ensures)
-    (c .before .enum-told .given .1) in
-    associative _ (c .reach-fault .result) all (c .reach-fault .ensures)
+    let b = c .before .before .before .before in
+    let all = triple-none (b .args .rule .now) (b .args .n) (b .args .k) (c .before .before .first-not-associative .result) (c .before .before .first-not-associative .ensures) (c .enum-told .given .1) in
+    associative _ (b .args .told) all (b .pre .1 all)
 
 pub triples-fault-spec : {M : Type 1} → statement M
 triples-fault-spec =
@@ -58,11 +52,10 @@ triples-fault-spec =
     (tie.spec
     first-not-associative-requires
     enum-known-a
-    mul-t10
     mul-t11
-    add-t12
+    mul-t12
     add-t13
+    add-t14
     enum-told
-    reach-fault-requires
     returns
     returns-2)
