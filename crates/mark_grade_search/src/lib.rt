@@ -3,7 +3,6 @@
 use mark_search::Escape;
 use mark_search::first_escape;
 use sections::greater;
-use std::num::wrapping_sub_u8;
 ghost use mathlib.Core.Path.{_≡_};
 ghost use Prim.Native.Nat.{_+_, _≤_, _<_};
 ghost use lib.ListN.{length};
@@ -27,9 +26,9 @@ fn highest_below(scratch: &[u8], count: usize, first: usize, below: u8) -> u8
     requires { ⌜ (0 < below) × (first + count ≤ length (now scratch)) ⌝ }
     ensures { λ r. ⌜ HighestBelow (now (scratch .entry)) first count below r ⌝ }
 {
-    let mut top = wrapping_sub_u8(0, below);
+    let mut top = std::num::wrapping_sub_u8(0, below);
     for i in 0..count {
-        let shifted = wrapping_sub_u8(scratch[first + i], below);
+        let shifted = std::num::wrapping_sub_u8(scratch[first + i], below);
         top = greater(top, shifted);
     }
     shifted_back(top, below)

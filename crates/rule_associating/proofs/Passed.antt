@@ -11,7 +11,7 @@ use lib.ListN.{length, getD, set, length-set}
 use lib.Seq.{getD-set-same, getD-set-other}
 use Rattle.rule_table.specs.Table.{Table}
 use Rattle.formats.specs.Table.{productAt, imageAt, morphismAt}
-use Rattle.rule_associating.specs.Tests.{LetterEntries, Column, LetterColumns, ColumnInside, Along, ColumnAlong, AlongAnswer, WordAlong, WordsAlong, Between, ColumnBetween, BetweenAnswer, LettersBetween}
+use Rattle.rule_associating.specs.Tests.{LetterEntries, Column, LetterColumns, ColumnInside, Along, AlongAnswer, WordAlong, WordsAlong, Between, ColumnBetween, BetweenAnswer, LettersBetween}
 
 pub true-apart : not false ≡ false → ⊥
 true-apart e = let z : _≡_ {A = ℕ} 0 1 = cc in omega arith
