@@ -37,6 +37,19 @@ raised-start p before = record {
   );
 }
 
+-- all fail that were tried
+pub raised-none : (p : ℕ → ℕ → Bool) (j : ℕ) → ((g i : ℕ) → 1 ≤ g → i < j → ¬ T (p g i)) → Raised (λ g. anyBelow j (p g)) 0 0
+raised-none p j none = record {
+  least = λ g some. (
+    λ l. inl l,
+    λ k. ⊎-elim (λ l. l) (λ t. let f = any-elim j (p g) t in absurd (none g (f .at) some (f .below) (f .holds))) k,
+  );
+}
+
+-- where 0 stays, all fail
+pub none-raised : (p : ℕ → ℕ → Bool) {j : ℕ} → Raised (λ g. anyBelow j (p g)) 0 0 → (g i : ℕ) → 1 ≤ g → i < j → ¬ T (p g i)
+none-raised p {j} a g i some h t = let z : g ≤ 0 = a .least g some .1 (inr (any-intro j (p g) i h t)) in omega (arith, some, z)
+
 -- one more was tried
 pub raised-next : (p : ℕ → ℕ → Bool) {q : ℕ → Bool} {j before high high′ : ℕ} → Raised (λ g. anyBelow j (p g)) before high → Raised q high high′
     → ((g : ℕ) → q g ≡ p g j) → Raised (λ g. anyBelow (j + 1) (p g)) before high′

@@ -1,4 +1,4 @@
--- The highest mark at the cuts of a turn: the loop's invariant, and what it gives where the loop ends. Assumes nothing.
+-- The highest mark at the cuts of a turn: the invariant of both loops over them, and what it gives where a loop ends. Assumes nothing.
 use Prim.Native.Nat.{ℕ, _+_, _≤_, _<_}
 use mathlib.Core.Path.{_≡_, refl, sym, _∙_, subst}
 use mathlib.Core.Bool.{Bool}
@@ -10,7 +10,7 @@ use lib.Dec.{T}
 use Rattle.finite.specs.Search.{anyBelow}
 use Rattle.finite.proofs.Numbers.{le-or-lt}
 use Rattle.finite.proofs.Search.{any-intro, any-elim}
-use Rattle.theory.specs.Rules.{Lawful, level}
+use Rattle.theory.specs.Rules.{Morphism, Marking, Lawful, level}
 use Rattle.theory.proofs.Gradings.{level-down}
 use Rattle.theory.proofs.Powers.{times-inside, idempotent-of, idempotent-inside}
 use Rattle.theory.proofs.Conjugacy.{semigroup}
@@ -19,9 +19,9 @@ use Rattle.scratch.specs.Map.{marksFrom}
 use Rattle.rule_table.specs.Table.{Table}
 use Rattle.formats.specs.Table.{productAt, morphismAt}
 use Rattle.rule_table.proofs.Facts.{product-below}
-use Rattle.lasso_turns.specs.Cuts.{CutValues, turnValue, cutAt, someCut}
+use Rattle.lasso_turns.specs.Cuts.{CutValues, turnValue, cutAt, someCut, CutHere, UnmarkedBefore}
 use Rattle.lasso_turns.specs.Raising.{Raised, MarksUpTo}
-use Rattle.lasso_turns.proofs.Raises.{raised-start, raised-next}
+use Rattle.lasso_turns.proofs.Raises.{raised-none, none-raised, raised-next}
 use Rattle.lasso_turns.proofs.Cutting.{turn-value-inner, turn-value-last}
 
 -- the look at the cut after j + 1 letters, for a grade
@@ -29,102 +29,110 @@ unfoldable pub cutFor : List ℕ → ℕ → ℕ → List ℕ → ℕ → ℕ �
 cutFor bytes n k scratch s len g j = cutAt (morphismAt bytes n k) (level g (marksFrom scratch 0)) s scratch len j
 
 -- high is the highest mark at the cuts before the one after j + 1 letters
-pub record CutLooked (bytes : List ℕ) (n k : ℕ) (scratch : List ℕ) (s len top high j : ℕ) : Type 0 where
+pub record CutLooked (bytes : List ℕ) (n k : ℕ) (scratch : List ℕ) (s len high j : ℕ) : Type 0 where
   pub table : Table bytes n k
   pub law : Lawful (morphismAt bytes n k)
   pub values : CutValues scratch n len
   pub inside : s < n
-  pub up-to : MarksUpTo n (marksFrom scratch 0) top
   pub raised : Raised (λ g. anyBelow j (cutFor bytes n k scratch s len g)) 0 high
   pub within : j ≤ len
-
--- r is the value of the turn at the cut after j + 1 letters
-pub record TurnHere (bytes : List ℕ) (n k : ℕ) (scratch : List ℕ) (len j r : ℕ) : Type 0 where
-  pub inside : r < n
-  pub is-turn : r ≡ turnValue (morphismAt bytes n k) scratch len j
 
 -- the value of the end behind a cut is an element
 pub end-behind : {scratch : List ℕ} {n len : ℕ} → CutValues scratch n len → (j : ℕ) → j + 1 < len → getD scratch (8320 + j + 1) 0 < n
 end-behind {scratch} {n} v j h =
     subst (λ (i : ℕ). getD scratch i 0 < n) (let z : 8320 + (j + 1) ≡ 8320 + j + 1 = omega arith in z) (v .end-inside (j + 1) h)
 
-module _ {bytes : List ℕ} {n k : ℕ} {scratch : List ℕ} {s len top : ℕ} where
-  -- no cut was looked at
-  pub cut-start : Table bytes n k → Lawful (morphismAt bytes n k) → CutValues scratch n len → s < n → MarksUpTo n (marksFrom scratch 0) top
-      → CutLooked bytes n k scratch s len top 0 0
-  cut-start t law values h up = record {
+-- the turn's value at a cut is an element
+turn-inside : {bytes : List ℕ} {n k : ℕ} {scratch : List ℕ} {len : ℕ} → Table bytes n k → CutValues scratch n len → (i : ℕ) → i < len → turnValue (morphismAt bytes n k) scratch len i < n
+turn-inside {bytes} {n} {k} {scratch} {len} t v i h =
+    ⊎-elim (λ (last : len ≤ i + 1). subst (λ (x : ℕ). x < n) (sym (turn-value-last (morphismAt bytes n k) scratch len i last)) (v .beginning-inside i h))
+    (λ inner.
+    subst (λ (x : ℕ). x < n) (sym (turn-value-inner (morphismAt bytes n k) scratch len i inner))
+    (product-below t (end-behind v i inner) (v .beginning-inside i h) refl)) (le-or-lt len (i + 1))
+
+-- no cut is before the first
+pub unmarked-start : (m : Morphism) (marks : Marking) (s : ℕ) (bytes : List ℕ) (len : ℕ) → UnmarkedBefore m marks s bytes len 0
+unmarked-start m marks s bytes len = record { within = omega arith; unmarked = λ g i some h. absurd (omega arith) }
+
+module _ {bytes : List ℕ} {n k : ℕ} {scratch : List ℕ} {s len : ℕ} where
+  -- p is the value before the cut after j + 1 letters
+  module _ {j p r : ℕ} (t : Table bytes n k) (v : CutValues scratch n len) (hs : s < n) (h : j < len) (ep : p ≡ productAt bytes n s (getD scratch (4096 + j) 0)) where
+    cut-here : r ≡ turnValue (morphismAt bytes n k) scratch len j → CutHere (morphismAt bytes n k) s scratch len j p r
+    cut-here er = record {
+      before-inside = product-below t hs (v .beginning-inside j h) ep;
+      turn-inside = rw er (turn-inside t v j h);
+      is-before = ep;
+      is-turn = er;
+    }
+
+    -- the values at a cut that letters follow
+    pub cut-inner : j + 1 < len → r ≡ productAt bytes n (getD scratch (8320 + j + 1) 0) (getD scratch (4096 + j) 0)
+        → CutHere (morphismAt bytes n k) s scratch len j p r
+    cut-inner inner e = cut-here (e ∙ sym (turn-value-inner (morphismAt bytes n k) scratch len j inner))
+
+    -- the values at the last cut
+    pub cut-last : len ≤ j + 1 → r ≡ getD scratch (4096 + j) 0 → CutHere (morphismAt bytes n k) s scratch len j p r
+    cut-last last e = cut-here (e ∙ sym (turn-value-last (morphismAt bytes n k) scratch len j last))
+
+  -- no cut before the first shows a mark
+  pub cut-start : {first : ℕ} → Table bytes n k → Lawful (morphismAt bytes n k) → CutValues scratch n len → s < n
+      → UnmarkedBefore (morphismAt bytes n k) (marksFrom scratch 0) s scratch len first → CutLooked bytes n k scratch s len 0 first
+  unfolding cutFor
+  cut-start {first} t law values h none = record {
     table = t;
     law = law;
     values = values;
     inside = h;
-    up-to = up;
-    raised = raised-start (cutFor bytes n k scratch s len) 0;
-    within = omega arith;
+    raised = raised-none (cutFor bytes n k scratch s len) first (none .unmarked);
+    within = none .within;
   }
 
-  -- the turn's value where letters follow the cut
-  pub turn-inner : {high j r : ℕ} → CutLooked bytes n k scratch s len top high j → j + 1 < len
-      → r ≡ productAt bytes n (getD scratch (8320 + j + 1) 0) (getD scratch (4096 + j) 0) → TurnHere bytes n k scratch len j r
-  turn-inner {j = j} {r} l h e = record {
-    inside = product-below (l .table) (end-behind (l .values) j h) (l .values .beginning-inside j (omega arith)) e;
-    is-turn = e ∙ sym (turn-value-inner (morphismAt bytes n k) scratch len j h);
-  }
+  -- none of those that were looked at shows a mark
+  pub cut-unmarked : {j : ℕ} → CutLooked bytes n k scratch s len 0 j → UnmarkedBefore (morphismAt bytes n k) (marksFrom scratch 0) s scratch len j
+  unfolding cutFor
+  cut-unmarked l = record { within = l .within; unmarked = none-raised (cutFor bytes n k scratch s len) (l .raised) }
 
-  -- the turn's value at the last cut
-  pub turn-last : {high j r : ℕ} → CutLooked bytes n k scratch s len top high j → j < len → len ≤ j + 1 → r ≡ getD scratch (4096 + j) 0
-      → TurnHere bytes n k scratch len j r
-  turn-last {j = j} {r} l h g e = record {
-    inside = rw e (l .values .beginning-inside j h);
-    is-turn = e ∙ sym (turn-value-last (morphismAt bytes n k) scratch len j g);
-  }
+  -- all cuts were looked at, and none shows a mark
+  pub all-unmarked : {j : ℕ} → CutLooked bytes n k scratch s len 0 j → len ≤ j → UnmarkedBefore (morphismAt bytes n k) (marksFrom scratch 0) s scratch len len
+  all-unmarked {j} l h = subst (UnmarkedBefore (morphismAt bytes n k) (marksFrom scratch 0) s scratch len) (let z : j ≡ len = omega (arith, l .within) in z) (cut-unmarked l)
 
-  -- the cut after j + 1 letters was looked at, with p, the value before it, and r, that of the turn
-  pub cut-next : {high high′ j p r : ℕ} → CutLooked bytes n k scratch s len top high j → j < len → TurnHere bytes n k scratch len j r
-      → p ≡ productAt bytes n s (getD scratch (4096 + j) 0)
-      → Raised (λ g. turn-test (morphismAt bytes n k) (level g (marksFrom scratch 0)) p r) high high′
-      → CutLooked bytes n k scratch s len top high′ (j + 1)
+  -- the cut after j + 1 letters was looked at, with its values
+  pub cut-next : {high high′ j p r : ℕ} → CutLooked bytes n k scratch s len high j → j < len → CutHere (morphismAt bytes n k) s scratch len j p r
+      → Raised (λ g. turn-test (morphismAt bytes n k) (level g (marksFrom scratch 0)) p r) high high′ → CutLooked bytes n k scratch s len high′ (j + 1)
   unfolding cutFor cutAt
-  cut-next l h turn ep raised = record {
+  cut-next l h here raised = record {
     table = l .table;
     law = l .law;
     values = l .values;
     inside = l .inside;
-    up-to = l .up-to;
-    raised = raised-next (cutFor bytes n k scratch s len) (l .raised) raised (λ g. cc (ep, turn .is-turn));
+    raised = raised-next (cutFor bytes n k scratch s len) (l .raised) raised (λ g. cc (here .is-before, here .is-turn));
     within = omega (arith, h);
   }
 
   -- all cuts were looked at
-  pub cut-ends : {high j : ℕ} → CutLooked bytes n k scratch s len top high j → len ≤ j
+  pub cut-ends : {high j : ℕ} → CutLooked bytes n k scratch s len high j → len ≤ j
       → Raised (λ g. someCut (morphismAt bytes n k) (level g (marksFrom scratch 0)) s scratch len) 0 high
   unfolding someCut cutFor
   cut-ends {high} {j} l h = subst (λ (i : ℕ). Raised (λ g. anyBelow i (cutFor bytes n k scratch s len g)) 0 high) (let z : j ≡ len = omega (arith, l .within) in z) (l .raised)
 
-  turn-inside : {high j : ℕ} → CutLooked bytes n k scratch s len top high j → (i : ℕ) → i < len → turnValue (morphismAt bytes n k) scratch len i < n
-  turn-inside l i h =
-      ⊎-elim (λ (last : len ≤ i + 1). subst (λ (x : ℕ). x < n) (sym (turn-value-last (morphismAt bytes n k) scratch len i last)) (l .values .beginning-inside i h))
-      (λ inner.
-      subst (λ (x : ℕ). x < n) (sym (turn-value-inner (morphismAt bytes n k) scratch len i inner))
-      (product-below (l .table) (end-behind (l .values) i inner) (l .values .beginning-inside i h) refl)) (le-or-lt len (i + 1))
+  module _ {top high j : ℕ} (l : CutLooked bytes n k scratch s len high j) (up-to : MarksUpTo n (marksFrom scratch 0) top) where
+    -- a cut that passes at a grade shows a mark of that grade or more
+    passing-small : (g i : ℕ) → i < len → T (cutFor bytes n k scratch s len g i) → g ≤ top
+    unfolding cutFor cutAt turn-test turn-look
+    passing-small g i h t =
+        let m = morphismAt bytes n k in
+        let hp = product-below (l .table) (l .inside) (l .values .beginning-inside i h) refl in
+        let hr = turn-inside (l .table) (l .values) i h in
+        let f = any-elim n (turn-look m (level g (marksFrom scratch 0)) (m .product s (getD scratch (4096 + i) 0)) (turnValue m scratch len i) (idempotent-of n (m .product) (turnValue m scratch len i))) t in
+        let he = idempotent-inside (semigroup (l .law)) hr in
+        omega (arith, level-down (marksFrom scratch 0) g _ _ (f .holds), up-to .small _ _ (times-inside (semigroup (l .law)) (l .law .closed _ _ hp he) hr (f .at)) he)
 
-  -- a cut that passes at a grade shows a mark of that grade or more
-  passing-small : {high j : ℕ} → CutLooked bytes n k scratch s len top high j → (g i : ℕ) → i < len → T (cutFor bytes n k scratch s len g i) → g ≤ top
-  unfolding cutFor cutAt turn-test turn-look
-  passing-small l g i h t =
-      let m = morphismAt bytes n k in
-      let hp = product-below (l .table) (l .inside) (l .values .beginning-inside i h) refl in
-      let hr = turn-inside l i h in
-      let f = any-elim n (turn-look m (level g (marksFrom scratch 0)) (m .product s (getD scratch (4096 + i) 0)) (turnValue m scratch len i) (idempotent-of n (m .product) (turnValue m scratch len i))) t in
-      let he = idempotent-inside (semigroup (l .law)) hr in
-      omega (arith, level-down (marksFrom scratch 0) g _ _ (f .holds), l .up-to .small _ _ (times-inside (semigroup (l .law)) (l .law .closed _ _ hp he) hr (f .at)) he)
-
-  -- the highest mark of all was found
-  pub cut-top : {high j : ℕ} → CutLooked bytes n k scratch s len top high j → top ≤ high
-      → Raised (λ g. someCut (morphismAt bytes n k) (level g (marksFrom scratch 0)) s scratch len) 0 high
-  unfolding someCut cutFor
-  cut-top {high} {j} l enough = record {
-    least = λ g some. (
-      λ x. ⊎-elim (λ (i : g ≤ 0). inl i) (λ t. let f = any-elim j (cutFor bytes n k scratch s len g) t in inr (any-intro len (cutFor bytes n k scratch s len g) (f .at) (omega (arith, l .within, f .below)) (f .holds))) (l .raised .least g some .0 x),
-      λ y. ⊎-elim (λ (i : g ≤ 0). let z : g ≤ high = omega arith in z) (λ t. let f = any-elim len (cutFor bytes n k scratch s len g) t in omega (arith, enough, passing-small l g (f .at) (f .below) (f .holds))) y,
-    );
-  }
+    -- the highest mark of all was found
+    pub cut-top : top ≤ high → Raised (λ g. someCut (morphismAt bytes n k) (level g (marksFrom scratch 0)) s scratch len) 0 high
+    unfolding someCut cutFor
+    cut-top enough = record {
+      least = λ g some. (
+        λ x. ⊎-elim (λ (i : g ≤ 0). inl i) (λ t. let f = any-elim j (cutFor bytes n k scratch s len g) t in inr (any-intro len (cutFor bytes n k scratch s len g) (f .at) (omega (arith, l .within, f .below)) (f .holds))) (l .raised .least g some .0 x),
+        λ y. ⊎-elim (λ (i : g ≤ 0). let z : g ≤ high = omega arith in z) (λ t. let f = any-elim len (cutFor bytes n k scratch s len g) t in omega (arith, enough, passing-small g (f .at) (f .below) (f .holds))) y,
+      );
+    }

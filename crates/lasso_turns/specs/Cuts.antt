@@ -5,9 +5,9 @@ use mathlib.Core.Path.{_≡_}
 use mathlib.Core.Bool.{Bool, cond}
 use mathlib.Core.List.{List}
 use lib.ListN.{length, getD, take, drop}
-use lib.Dec.{ltb}
+use lib.Dec.{T, ltb}
 use Rattle.finite.specs.Search.{anyBelow}
-use Rattle.theory.specs.Rules.{Morphism, Pairs, element, value}
+use Rattle.theory.specs.Rules.{Morphism, Pairs, Marking, level, element, value}
 use Rattle.theory.proofs.Membership.{turn-test}
 use Rattle.scratch.specs.Map.{beginningsBase, endsBase, wordsEnd}
 use Rattle.scratch.specs.Bytes.{UnchangedOutside}
@@ -44,3 +44,15 @@ cutAt m P s bytes len j = turn-test m P (m .product s (getD bytes (beginningsBas
 -- one of the len cuts of a turn does
 unfoldable pub someCut : Morphism → Pairs → ℕ → List ℕ → ℕ → Bool
 someCut m P s bytes len = anyBelow len (cutAt m P s bytes len)
+
+-- p and r are the values at the cut after j + 1 letters, after a start of value s: of what comes before it, and of the turn
+pub record CutHere (m : Morphism) (s : ℕ) (bytes : List ℕ) (len j p r : ℕ) : Type 0 where
+  pub before-inside : p < m .size
+  pub turn-inside : r < m .size
+  pub is-before : p ≡ m .product s (getD bytes (beginningsBase + j) 0)
+  pub is-turn : r ≡ turnValue m bytes len j
+
+-- none of the first j of len cuts passes at a grade of 1 or more
+pub record UnmarkedBefore (m : Morphism) (marks : Marking) (s : ℕ) (bytes : List ℕ) (len j : ℕ) : Type 0 where
+  pub within : j ≤ len
+  pub unmarked : (g i : ℕ) → 1 ≤ g → i < j → ¬ T (cutAt m (level g marks) s bytes len i)
