@@ -4,19 +4,19 @@ use mathlib.Core.Path.{_≡_, refl, sym, ap, _∙_}
 use mathlib.Core.List.{List, [], _∷_}
 use native.Mathlib.Omega.{arith}
 use Rattle.answer.specs.declared.Refusal.{Refusal}
-use Rattle.answer.specs.declared.Refusal.the-variants.{Truncated, CountOutOfRange, EntryOutOfRange, TrailingBytes, NotAssociative, Unreachable, NotLinked, Duplicate, UnknownLetter, WordLength, NotStrong, BufferTooShort, TooManyMatrices, NameOutOfRange, NameNeverKept}
+use Rattle.answer.specs.declared.Refusal.the-variants.{Truncated, CountOutOfRange, EntryOutOfRange, TrailingBytes, NotAssociative, Unreachable, NotLinked, Duplicate, UnknownLetter, WordLength, NotStrong, BufferTooShort, TooManyMatrices, NameOutOfRange, NameNeverKept, LimitOutOfRange}
 use Rattle.answer.specs.Refusals.{numberOf}
 
 -- the place of a number in a list, the last refusal where the list ends
 unfoldable at : List Refusal → ℕ → Refusal
-at [] n = NameNeverKept
+at [] n = LimitOutOfRange
 at (r ∷ rs) zero = r
 at (r ∷ rs) (suc n) = at rs n
 
--- the refusal of a number; 0 and 9, which none has, have the last
+-- the refusal of a number; 0, 9 and others that none has have the last
 unfoldable refusalOf : ℕ → Refusal
 unfolding at
-refusalOf n = at (NameNeverKept ∷ Truncated ∷ CountOutOfRange ∷ EntryOutOfRange ∷ TrailingBytes ∷ NotAssociative ∷ Unreachable ∷ NotLinked ∷ Duplicate ∷ NameNeverKept ∷ UnknownLetter ∷ WordLength ∷ NotStrong ∷ BufferTooShort ∷ TooManyMatrices ∷ NameOutOfRange ∷ []) n
+refusalOf n = at (LimitOutOfRange ∷ Truncated ∷ CountOutOfRange ∷ EntryOutOfRange ∷ TrailingBytes ∷ NotAssociative ∷ Unreachable ∷ NotLinked ∷ Duplicate ∷ LimitOutOfRange ∷ UnknownLetter ∷ WordLength ∷ NotStrong ∷ BufferTooShort ∷ TooManyMatrices ∷ NameOutOfRange ∷ NameNeverKept ∷ []) n
 
 back : (r : Refusal) → refusalOf (numberOf r) ≡ r
 unfolding refusalOf at
@@ -35,6 +35,7 @@ back BufferTooShort = refl
 back TooManyMatrices = refl
 back NameOutOfRange = refl
 back NameNeverKept = refl
+back LimitOutOfRange = refl
 
 pub same-number : (r r′ : Refusal) → numberOf r ≡ numberOf r′ → r ≡ r′
 same-number r r′ e = sym (back r) ∙ ap refusalOf e ∙ back r′
@@ -56,3 +57,4 @@ nine-unused BufferTooShort e = omega (arith, e)
 nine-unused TooManyMatrices e = omega (arith, e)
 nine-unused NameOutOfRange e = omega (arith, e)
 nine-unused NameNeverKept e = omega (arith, e)
+nine-unused LimitOutOfRange e = omega (arith, e)

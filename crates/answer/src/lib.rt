@@ -35,6 +35,8 @@ pub enum Refusal {
     NameOutOfRange,
     // Document 02, Job 1: return to a name never kept.
     NameNeverKept,
+    // Document 02, Job 9: limit above 64.
+    LimitOutOfRange,
 }
 
 // The number of a refusal in the table. 9 is no refusal's number.
@@ -57,5 +59,6 @@ pub fn number(r: Refusal) -> u8
         Refusal::TooManyMatrices => 14,
         Refusal::NameOutOfRange => 15,
         Refusal::NameNeverKept => 16,
+        Refusal::LimitOutOfRange => 20,
     }
 }

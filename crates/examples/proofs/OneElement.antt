@@ -23,8 +23,7 @@ use Rattle.formats.proofs.Agree.{Agree}
 use Rattle.formats.proofs.Same.{SameMarks, file-same}
 use Rattle.formats.proofs.ReadBack.{written-rule}
 use Rattle.formats.specs.Front.{AtFront}
-use Rattle.promises.proofs.SameReductions.{reductions-size}
-use Rattle.examples.proofs.Reductions.{same-self}
+use Rattle.theory.proofs.SameGrades.{same-self, reductions-size}
 
 -- every pair is marked with 3
 abbrev pub all-marked : Marking

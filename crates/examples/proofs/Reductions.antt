@@ -18,7 +18,7 @@ use Rattle.minimality.proofs.Settle.{unchanged, settleFrom, settle}
 use Rattle.minimality.proofs.ReduceModel.{heads, headsOf, finalBlocks, reduced-size, reduce-model-right}
 use Rattle.rule_check.specs.GoodRule.{GoodRule}
 use Rattle.promises.specs.Reduce.{ruleOf}
-use Rattle.promises.proofs.SameReductions.{reductions-size}
+use Rattle.theory.proofs.SameGrades.{same-self, reductions-size}
 use Rattle.formats.specs.RuleFile.{morphismOf, markingOf}
 use Rattle.examples.specs.Files.{W, Z₀}
 use Rattle.examples.specs.Examples.{FileStrong, RuleReducesTo, ReducesTo}
@@ -31,9 +31,6 @@ unfolding reading reduced-size finalBlocks headsOf heads settle settleFrom uncha
 reducing = true
 
 -- ---- rules with the same grades
-
-pub same-self : (r : Rule) → SameGrades r r
-same-self r = record { same-letters = refl; both-or-neither = λ g some u v l. (λ a. a, λ a. a) }
 
 -- ---- the model's number is that of every reduction
 

@@ -2,11 +2,14 @@
 -- two calls that give one number gave one answer (`-told`). An answer that meets its call's promise keeps to the limits of packing
 -- (`-fits`): the refusals by Limits, the results by what their promises say. Assumes nothing.
 use Prim.Native.Nat.{ℕ, _+_, _*_, _≤_}
-use mathlib.Core.Path.{_≡_, sym, ap, _∙_, subst}
+use mathlib.Core.Path.{_≡_, refl, sym, ap, _∙_, subst}
+use mathlib.Core.Logic.{⊎-elim}
+use mathlib.Core.Bool.{Bool, true, false}
 use mathlib.Core.List.{List, [], _∷_, _++_}
 use native.Mathlib.Omega.{arith}
 use native.Mathlib.Nat.{mul-le-mul}
-use Rattle.answer.proofs.Order.{passed-first, passes-tail}
+use Rattle.finite.proofs.Numbers.{le-or-lt}
+use Rattle.answer.proofs.Order.{passed-first, passed-last, passes-head, passes-tail}
 use Rattle.answer.proofs.Limits.{Limited, limited-nil, limited-cons, limited-append}
 use Rattle.theory.specs.Rules.{Morphism, Marking}
 use Rattle.theory.specs.Pairs.{LinkedPairs, Classes, LeastExponent}
@@ -44,15 +47,18 @@ use Rattle.promises.specs.declared.Moved.the-variants.{To, Refused as Not-moved
 use Rattle.promises.specs.declared.Reduced.{Reduced}
 use Rattle.promises.specs.declared.Reduced.the-variants.{Rule as Reduced-rule, Refused as Not-reduced}
 use Rattle.promises.specs.Reduce.{ReducePromise}
+use Rattle.promises.specs.declared.Partition.{Partition}
+use Rattle.promises.specs.declared.Partition.the-variants.{Blocks, Refused as Not-partitioned}
+use Rattle.promises.specs.Rounds.{LimitOutOfRangeAt, limitCheck, RoundsPromise}
 use Rattle.promises.specs.declared.Strength.{Strength}
 use Rattle.promises.specs.declared.Strength.the-variants.{Strong, Weak, Refused as Not-decided}
 use Rattle.promises.specs.Strong.{StrongPromise}
 use Rattle.promises.specs.declared.MonitorVerdict.{MonitorVerdict}
 use Rattle.promises.specs.declared.MonitorVerdict.the-variants.{Decided as Judged, Refused as Not-judged}
-use Rattle.packing.specs.Packing.{unpack, listedContents, strengthContents, membershipContents, complementedContents, reducedContents, translatedContents, inclusionContents, monitorContents, movedContents, monitorVerdictContents, packMonitor}
+use Rattle.packing.specs.Packing.{unpack, listedContents, strengthContents, membershipContents, complementedContents, reducedContents, bit, partitionContents, translatedContents, inclusionContents, monitorContents, movedContents, monitorVerdictContents, packMonitor}
 use Rattle.packing.proofs.ReadBack.{FieldsFit, Fits, read-back}
-use Rattle.packing.proofs.Contents.{listed-told, strength-told, membership-told, complemented-told, reduced-told, translated-told, inclusion-told, judged-told, moved-told}
-use Rattle.exports.specs.Exports.{ExportedClasses, ExportedStrength, ExportedMember, ExportedComplement, ExportedInclusion, ExportedEvent, ExportedMark, ExportedKeep, ExportedReturn, ExportedReduction, ExportedVerdict, ExportedAutomaton}
+use Rattle.packing.proofs.Contents.{listed-told, strength-told, membership-told, complemented-told, reduced-told, partition-told, translated-told, inclusion-told, judged-told, moved-told}
+use Rattle.exports.specs.Exports.{ExportedClasses, ExportedStrength, ExportedMember, ExportedComplement, ExportedInclusion, ExportedEvent, ExportedMark, ExportedKeep, ExportedReturn, ExportedReduction, ExportedRounds, ExportedVerdict, ExportedAutomaton}
 use Rattle.exports.proofs.Limits.{Near, refused-fits, at-zero, buffer-limited, checked-limited, second-limited, lasso-limited}
 use Rattle.exports.proofs.AutomatonLimits.{translated-limited}
 use Rattle.exports.proofs.Monitors.{mark-fits, event-fits, keep-fits, return-fits}
@@ -116,6 +122,22 @@ complement-fits {bytes} {entry = entry} (Not-complemented r i place) p = refused
 reduce-fits : {bytes before after entry exit : List ℕ} (answer : Reduced) → ReducePromise bytes before after entry exit answer → Fits (reducedContents answer)
 reduce-fits (Reduced-rule length) p = written-fits (p .answered .written)
 reduce-fits {bytes} {entry = entry} (Not-reduced r i place) p = refused-fits r (strong-rule-limited bytes entry) (p .refusal)
+
+-- reduce_rounds: the limit passed its check, so that it is at most 64
+bit-small : (b : Bool) → bit b ≤ 1
+bit-small false = omega arith
+bit-small true = omega arith
+
+rounds-fits : {bytes : List ℕ} {limit : ℕ} {before after entry exit : List ℕ} (answer : Partition) → RoundsPromise bytes limit before after entry exit answer
+    → Fits (partitionContents answer)
+rounds-fits {bytes} {limit} {entry = entry} (Blocks rounds finished) p =
+    let few = passes-head (passed-last (checkedChecks 1 bytes entry) (limitCheck limit ∷ weakCheck 1 bytes ∷ []) (passes-tail (p .refusal))) in
+    let most : limit ≤ 64 = ⊎-elim (λ h. h) (λ h. absurd (few .nowhere 0 (record { above = h; is-place = refl }))) (le-or-lt limit 64) in
+    record { first = omega (arith, p .answered .within); second = omega (arith, bit-small finished); third = omega arith }
+rounds-fits {bytes} {limit} {entry = entry} (Not-partitioned r i place) p =
+    refused-fits r (buffer-limited (limited-append (checkedChecks 1 bytes entry) (checked-limited bytes entry)
+    (λ _. limited-cons (λ place (f : LimitOutOfRangeAt _ place). at-zero (f .is-place))
+    (λ _. limited-cons (λ place (f : WeakAt _ place). at-zero (f .is-place)) (λ _. limited-nil))))) (p .refusal)
 
 -- automaton_rule
 automaton-fits : {bytes before after entry exit : List ℕ} (answer : Translated) → RulePromise bytes before after entry exit answer
@@ -218,6 +240,9 @@ module _ {bytes entry exit : List ℕ} {r : ℕ} where
     pub reduce-read : (x : ExportedReduction bytes before after entry exit r) → unpack r ≡ reducedContents (x .answer)
     reduce-read x = ap unpack (x .packed) ∙ read-back _ (reduce-fits (x .answer) (x .promise))
 
+    pub rounds-read : {limit : ℕ} (x : ExportedRounds bytes limit before after entry exit r) → unpack r ≡ partitionContents (x .answer)
+    rounds-read x = ap unpack (x .packed) ∙ read-back _ (rounds-fits (x .answer) (x .promise))
+
     pub automaton-rule-read : (x : ExportedAutomaton bytes before after entry exit r) → unpack r ≡ translatedContents (x .answer)
     automaton-rule-read x = ap unpack (x .packed) ∙ read-back _ (automaton-fits (x .answer) (x .promise))
 
@@ -266,6 +291,10 @@ module _ {bytes entry exit bytes′ entry′ exit′ : List ℕ} {r : ℕ} where
     pub reduce-told : (x : ExportedReduction bytes before after entry exit r) (y : ExportedReduction bytes′ before′ after′ entry′ exit′ r)
         → x .answer ≡ y .answer
     reduce-told x y = reduced-told _ _ (sym (reduce-read x) ∙ reduce-read y)
+
+    pub rounds-told : {limit limit′ : ℕ} (x : ExportedRounds bytes limit before after entry exit r) (y : ExportedRounds bytes′ limit′ before′ after′ entry′ exit′ r)
+        → x .answer ≡ y .answer
+    rounds-told x y = partition-told _ _ (sym (rounds-read x) ∙ rounds-read y)
 
     pub automaton-rule-told : (x : ExportedAutomaton bytes before after entry exit r) (y : ExportedAutomaton bytes′ before′ after′ entry′ exit′ r)
         → x .answer ≡ y .answer

@@ -16,13 +16,15 @@ use Rattle.promises.specs.declared.Monitor.{Monitor}
 use Rattle.promises.specs.declared.Moved.{Moved}
 use Rattle.promises.specs.Moves.{EventPromise, MarkPromise}
 use Rattle.promises.specs.Points.{KeepPromise, ReturnPromise}
+use Rattle.promises.specs.declared.Partition.{Partition}
+use Rattle.promises.specs.Rounds.{RoundsPromise}
 use Rattle.promises.specs.declared.Reduced.{Reduced}
 use Rattle.promises.specs.Reduce.{ReducePromise}
 use Rattle.promises.specs.declared.Strength.{Strength}
 use Rattle.promises.specs.Strong.{StrongPromise}
 use Rattle.promises.specs.declared.MonitorVerdict.{MonitorVerdict}
 use Rattle.promises.specs.Verdict.{VerdictPromise}
-use Rattle.packing.specs.Packing.{packListed, packStrength, packMembership, packComplemented, packReduced, packTranslated, packInclusion, packMoved, packMonitorVerdict}
+use Rattle.packing.specs.Packing.{packListed, packStrength, packMembership, packComplemented, packReduced, packPartition, packTranslated, packInclusion, packMoved, packMonitorVerdict}
 
 pub record ExportedClasses (bytes out-entry out-exit entry exit : List ℕ) (r : ℕ) : Type 0 where
   pub answer : Listed
@@ -73,6 +75,11 @@ pub record ExportedReduction (bytes out-entry out-exit entry exit : List ℕ) (r
   pub answer : Reduced
   pub promise : ReducePromise bytes out-entry out-exit entry exit answer
   pub packed : r ≡ packReduced answer
+
+pub record ExportedRounds (bytes : List ℕ) (limit : ℕ) (blocks-entry blocks-exit entry exit : List ℕ) (r : ℕ) : Type 0 where
+  pub answer : Partition
+  pub promise : RoundsPromise bytes limit blocks-entry blocks-exit entry exit answer
+  pub packed : r ≡ packPartition answer
 
 pub record ExportedVerdict (bytes : List ℕ) (m : Monitor) (entry exit : List ℕ) (r : ℕ) : Type 0 where
   pub answer : MonitorVerdict

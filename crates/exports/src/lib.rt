@@ -8,6 +8,7 @@ use packing::pack_listed;
 use packing::pack_membership;
 use packing::pack_monitor_verdict;
 use packing::pack_moved;
+use packing::pack_partition;
 use packing::pack_reduced;
 use packing::pack_strength;
 use packing::pack_translated;
@@ -15,7 +16,7 @@ use promises::Monitor;
 ghost use mathlib.Core.Path.{_≡_};
 ghost use Rattle.promises.specs.Monitor.{freshMonitor};
 ghost use Rattle.packing.specs.Packing.{packMonitor};
-ghost use Rattle.exports.specs.Exports.{ExportedClasses, ExportedStrength, ExportedMember, ExportedComplement, ExportedInclusion, ExportedEvent, ExportedMark, ExportedKeep, ExportedReturn, ExportedReduction, ExportedAutomaton, ExportedVerdict};
+ghost use Rattle.exports.specs.Exports.{ExportedClasses, ExportedStrength, ExportedMember, ExportedComplement, ExportedInclusion, ExportedEvent, ExportedMark, ExportedKeep, ExportedReturn, ExportedReduction, ExportedRounds, ExportedAutomaton, ExportedVerdict};
 
 // The linked pairs, the classes and the joins; each pair's class in `out`.
 #[no_mangle]
@@ -143,6 +144,19 @@ pub extern "C" fn duknavet_reduce(rule: &[u8], out: &mut [u8], scratch: &mut [u8
     ensures { λ r. ⌜ ExportedReduction (now (rule .entry)) (now (out .entry)) (now (out .exit)) (now (scratch .entry)) (now (scratch .exit)) r ⌝ }
 {
     pack_reduced(rules::reduce(rule, out, scratch))
+}
+
+// How many rounds of the reduction were done within the limit, and 1 if one more would change nothing; the blocks in `blocks`.
+#[no_mangle]
+pub extern "C" fn duknavet_reduce_rounds(
+    rule: &[u8],
+    limit: usize,
+    blocks: &mut [u8],
+    scratch: &mut [u8],
+) -> u64
+    ensures { λ r. ⌜ ExportedRounds (now (rule .entry)) limit (now (blocks .entry)) (now (blocks .exit)) (now (scratch .entry)) (now (scratch .exit)) r ⌝ }
+{
+    pack_partition(rules::reduce_rounds(rule, limit, blocks, scratch))
 }
 
 // How many bytes the rule made from an automaton has, which stands in `out`.

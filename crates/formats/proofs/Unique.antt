@@ -1,7 +1,7 @@
 -- The numbering by first words leaves no choice: where two tables numbered so are renumberings of one another, each element keeps its
 -- number. Assumes nothing.
 use Prim.Native.Nat.{ℕ, zero, suc, _+_, _-_, _≤_, _<_}
-use mathlib.Core.Path.{_≡_, refl, sym, ap, _∙_, subst}
+use mathlib.Core.Path.{_≡_, sym, ap, _∙_, subst}
 use mathlib.Core.Logic.{inl, inr}
 use mathlib.Core.List.{List}
 use native.Mathlib.Omega.{arith}
@@ -9,10 +9,10 @@ use native.Mathlib.Decide.{ℕ-discrete}
 use Rattle.finite.proofs.Numbers.{Compared, lesser, level, greater, compared}
 use Rattle.finite.specs.Shortlex.{Before, NotAfter}
 use Rattle.finite.proofs.Shortlex.{before-irrefl, before-trans}
-use Rattle.theory.specs.Words.{Over, over-nil, over-cons}
-use Rattle.theory.specs.Rules.{Morphism, Lawful, Value, none, element, join, value}
+use Rattle.theory.specs.Words.{Over}
+use Rattle.theory.specs.Rules.{Morphism, Lawful}
 use Rattle.theory.specs.Smallest.{Renumbered}
-use Rattle.theory.proofs.Values.{Inside, inside-none, inside-element, element-same, element-apart, value-inside}
+use Rattle.theory.proofs.Carried.{renamed, renumbered-value, value-back}
 use Rattle.formats.specs.FirstWords.{ByFirstWords}
 
 -- two words neither of which stands after the other are one
@@ -35,26 +35,6 @@ module _ (f : ℕ → ℕ) (n : ℕ) (keeps : (s t : ℕ) → s < t → t < n �
   order-fixes s h = omega (arith, climbs 0 s (omega arith) h, climbs s (n - 1) (omega arith) (omega arith), inside (n - 1) (omega arith))
 
 module _ {a b : Morphism} (law : Lawful a) (f : Renumbered a b) where
-  -- a value with its element renumbered
-  unfoldable carried : Value → Value
-  carried none = none
-  carried (element s) = element (f .to s)
-
-  letter-too : (x : ℕ) → x < a .letters → x < b .letters
-  letter-too x h = subst (λ k. x < k) (f .same-letters) h
-
-  carried-join : {x : ℕ} {y : Value} → x < a .letters → Inside a y → join b (element (b .image x)) (carried y) ≡ carried (join a (element (a .image x)) y)
-  unfolding carried join
-  carried-join {x} h inside-none = ap element (sym (f .images x (letter-too x h)))
-  carried-join {x} h (inside-element {s = t} l) =
-      ap element (ap (λ (i : ℕ). b .product i (f .to t)) (sym (f .images x (letter-too x h))) ∙ sym (f .products (a .image x) t (law .images x h) l))
-
-  -- a word's value is renumbered
-  value-carried : {w : List ℕ} → Over (a .letters) w → value b w ≡ carried (value a w)
-  unfolding value carried
-  value-carried over-nil = refl
-  value-carried (over-cons {a = x} h o) = ap (join b (element (b .image x))) (value-carried o) ∙ carried-join h (value-inside law o)
-
   over-too : {w : List ℕ} → Over (a .letters) w → Over (b .letters) w
   over-too {w} o = subst (λ k. Over k w) (f .same-letters) o
 
@@ -62,22 +42,16 @@ module _ {a b : Morphism} (law : Lawful a) (f : Renumbered a b) where
   over-back {w} o = subst (λ k. Over k w) (sym (f .same-letters)) o
 
   module _ (p : ByFirstWords a) (q : ByFirstWords b) where
-    -- a word whose value is renumbered from that of s has the value s
-    value-back : (s : ℕ) → s < a .size → (w : List ℕ) → (x : Value) → value a w ≡ x → Inside a x → carried x ≡ element (f .to s) → value a w ≡ element s
-    unfolding carried
-    value-back s h w x e inside-none d = absurd (element-apart (sym d))
-    value-back s h w x e (inside-element {s = t} l) d = e ∙ ap element (f .one-to-one t s l h (element-same d))
-
     -- the first word of an element is that of its number in the other table
     same-word : (s : ℕ) → s < a .size → p .word s ≡ q .word (f .to s)
-    unfolding carried
+    unfolding renamed
     same-word s h =
         let left = p .first s h in
         let right = q .first (f .to s) (f .inside s h) in
         let o = over-back (right .over) in
         not-after-both
-        (left .least (q .word (f .to s)) o (value-back s h (q .word (f .to s)) (value a (q .word (f .to s))) refl (value-inside law o) (sym (value-carried o) ∙ right .its-value)))
-        (right .least (p .word s) (over-too (left .over)) (value-carried (left .over) ∙ ap carried (left .its-value)))
+        (left .least (q .word (f .to s)) o (value-back law f h o (right .its-value)))
+        (right .least (p .word s) (over-too (left .over)) (renumbered-value law f (left .over) ∙ ap (renamed (f .to)) (left .its-value)))
 
     keeps-order : (s t : ℕ) → s < t → t < a .size → f .to s < f .to t
     keeps-order s t h l = go (compared (f .to s) (f .to t))

@@ -8,10 +8,12 @@ use lib.ListN.{length, getD, replicate}
 use Rattle.answer.specs.declared.Refusal.{Refusal}
 use Rattle.theory.specs.Rules.{Morphism, Lawful, AllReached, level}
 use Rattle.theory.specs.Pairs.{LinkedOnly}
+use Rattle.theory.specs.Grades.{StrongMarking}
 use Rattle.theory.proofs.Gradings.{GradedMarks}
+use Rattle.theory.proofs.ClosureGrades.{closure-grade}
 use Rattle.rule_table.specs.Table.{Table}
 use Rattle.formats.specs.Table.{morphismAt}
-use Rattle.formats.specs.RuleFile.{morphismOf, markingOf}
+use Rattle.formats.specs.RuleFile.{elementsOf, morphismOf, markingOf}
 use Rattle.rule_layout.specs.declared.Shape.{Shape}
 use Rattle.rule_check.specs.declared.Checked.the-variants.{Rule, Refused as Checked-refused}
 use Rattle.rule_check.specs.Answers.{CheckPromise}
@@ -19,7 +21,7 @@ use Rattle.formats.specs.Calls.{afterCall}
 use Rattle.rule_check.specs.GoodRule.{GoodRule}
 use Rattle.rule_check.proofs.CheckedRule.{marking-small}
 use Rattle.rule_check.proofs.Calls.{scratch-long, called-good, zeros-left, checked-length, shape-morphism, shape-table}
-use Rattle.scratch.specs.Map.{marksFrom, MarkingAt}
+use Rattle.scratch.specs.Map.{secondBase, marksFrom, MarkingAt}
 use Rattle.mark_closure.proofs.Agreement.{graded-agrees}
 use Rattle.mark_strong.specs.Deciding.{DecideNeeds, StrongIf, Decided}
 use Rattle.promises.specs.Strong.{StrongPromise}
@@ -72,6 +74,18 @@ module _ (input : ℕ) (bytes entry : List ℕ) {shape : Shape} {mid : List ℕ}
     pub decided-file : StrongIf (morphismOf bytes) (markingOf bytes) answer
     decided-file = subst (λ (m : Morphism). StrongIf m (markingOf bytes) answer) (shape-morphism (p .scratch .shape-is)) (d .decision (markingOf bytes) checked-graded marks-stand)
 
+    pub decided-strong : answer ≡ true → StrongMarking (morphismOf bytes) (markingOf bytes)
+    decided-strong e = subst (StrongIf (morphismOf bytes) (markingOf bytes)) e decided-file
+
+    -- the closure of the file's marks stands in scratch
+    pub closure-stands : MarkingAt (elementsOf bytes) (closure-grade (morphismOf bytes) (markingOf bytes)) exit secondBase
+    closure-stands =
+        subst (λ (m : Morphism). MarkingAt (m .size) (closure-grade m (markingOf bytes)) exit secondBase) (shape-morphism (p .scratch .shape-is))
+        (d .closure (markingOf bytes) checked-graded marks-stand)
+
+    pub decided-room : scratchSize ≤ length exit
+    decided-room = omega (arith, checked-room, d .same-length)
+
     pub decided-left : (was end : List ℕ) → length was ≡ length exit → end ≡ replicate (length was) 0 → end ≡ afterCall entry
     decided-left was end e z = zeros-left input bytes entry (p .refusal) was end (e ∙ d .same-length ∙ checked-length (p .scratch)) z
 
@@ -85,7 +99,7 @@ module _ (bytes entry : List ℕ) where
     pub says-strong : answer ≡ true → StrongPromise bytes entry end Is-strong
     says-strong e = record {
       refusal = p .refusal;
-      answered = subst (StrongIf (morphismOf bytes) (markingOf bytes)) e (decided-file 1 bytes entry p d);
+      answered = decided-strong 1 bytes entry p d e;
       scratch = decided-left 1 bytes entry p d exit end refl z;
     }
 

@@ -3,19 +3,20 @@
 use Prim.Native.Nat.{ℕ, zero, suc, _+_, _≤_, _<_}
 use native.Mathlib.Nat.{not-suc-le-zero, le-of-suc-le-suc, le-antisymm}
 use native.Mathlib.Omega.{arith}
-use mathlib.Core.Path.{_≡_, refl, ap, _∙_}
+use mathlib.Core.Path.{_≡_, refl, sym, ap, _∙_}
 use mathlib.Core.Bool.{Bool, _&&_}
 use mathlib.Core.Logic.{_↔_, ⊎-elim}
 use mathlib.Core.List.{List, [], _∷_}
 use lib.Dec.{T, eqb, eqb→eq}
 use lib.ListN.{length, getD}
+use lib.Seq.{ext-getD}
 use mir.Facts.{yes-eqb}
 use Rattle.finite.proofs.Tests.{T-and, T-and-left, T-and-right}
-use Rattle.finite.proofs.Numbers.{le-or-lt}
+use Rattle.finite.proofs.Numbers.{le-or-lt, Compared, lesser, level, greater, compared}
 use Rattle.finite.proofs.Search.{allBelow, all-intro, all-elim, leastBelow, least-holds, least-bound, least-first}
 use Rattle.theory.specs.Rules.{Morphism, Lawful}
-use Rattle.minimality.specs.Rounds.{SameOutcomes, StillTogether, Together}
-use Rattle.minimality.proofs.Rounds.{together-refl, together-sym, together-trans}
+use Rattle.theory.specs.Rounds.{SameOutcomes, StillTogether, Together, IsBlocks}
+use Rattle.minimality.proofs.Rounds.{together-refl, together-sym, together-trans, still-carry}
 
 -- the values of f at the n numbers from i on
 unfoldable pub tabFrom : ℕ → ℕ → (ℕ → ℕ) → List ℕ
@@ -66,13 +67,6 @@ unfoldable pub blocksAfter : Morphism → (ℕ → ℕ → ℕ) → ℕ → List
 blocksAfter m acc zero = firstBlocks m acc
 blocksAfter m acc (suc i) = nextBlocks m (blocksAfter m acc i)
 
--- the list has for each of n elements the least that is related to it
-pub record IsBlocks (n : ℕ) (R : ℕ → ℕ → Type 0) (blocks : List ℕ) : Type 0 where
-  pub count : length blocks ≡ n
-  pub at-most : (s : ℕ) → s < n → getD blocks s 0 ≤ s
-  pub related : (s : ℕ) → s < n → R (getD blocks s 0) s
-  pub least : (s t : ℕ) → s < n → t < getD blocks s 0 → R t s → ⊥
-
 -- the least that pass a test that decides R, as a list
 module _ (n : ℕ) (R : ℕ → ℕ → Type 0) (test : ℕ → ℕ → Bool) (right : (s t : ℕ) → s < n → t < n → T (test s t) ↔ R s t) (reflexive : (s : ℕ) → R s s) where
   least-at : (s : ℕ) → s < n → getD (leastOf n test) s 0 ≡ leastBelow n (λ t. test t s)
@@ -111,6 +105,19 @@ module _ {n : ℕ} {R : ℕ → ℕ → Type 0} {blocks : List ℕ} (b : IsBlock
 
   pub related-equal : (s t : ℕ) → s < n → t < n → R s t → getD blocks s 0 ≡ getD blocks t 0
   related-equal s t hs ht r = le-antisymm (entry-below s t hs ht r) (entry-below t s ht hs (symmetric s t r))
+
+-- relations that agree on the elements have one list of blocks
+pub one-blocks : {n : ℕ} {R S : ℕ → ℕ → Type 0} {blocks blocks′ : List ℕ} → ((s t : ℕ) → s < n → t < n → R s t ↔ S s t) → IsBlocks n R blocks → IsBlocks n S blocks′
+    → blocks ≡ blocks′
+one-blocks {n} {blocks = blocks} {blocks′ = blocks′} agree b c = ext-getD 0 blocks blocks′ (b .count ∙ sym (c .count)) (λ s h. same s (rw (b .count) at h))
+  where
+    same : (s : ℕ) → s < n → getD blocks s 0 ≡ getD blocks′ s 0
+    same s h = go (compared (getD blocks s 0) (getD blocks′ s 0))
+      where
+        go : Compared (getD blocks s 0) (getD blocks′ s 0) → getD blocks s 0 ≡ getD blocks′ s 0
+        go (lesser l) = absurd (c .least s (getD blocks s 0) h l (agree (getD blocks s 0) s (omega (arith, b .at-most s h)) h .0 (b .related s h)))
+        go (level e) = e
+        go (greater l) = absurd (b .least s (getD blocks′ s 0) h l (agree (getD blocks′ s 0) s (omega (arith, c .at-most s h)) h .1 (c .related s h)))
 
 -- two equations tested
 both : (a b c d : ℕ) → T (eqb a b && eqb c d) ↔ ((a ≡ b) × (c ≡ d))
@@ -161,15 +168,6 @@ module _ (m : Morphism) (blocks : List ℕ) (s t : ℕ) where
   )
 
 module _ {m : Morphism} (law : Lawful m) (acc : ℕ → ℕ → ℕ) where
-  -- relations that agree on elements keep the same elements together
-  still-together : {R S : ℕ → ℕ → Type 0} → ((s t : ℕ) → s < m .size → t < m .size → R s t → S s t)
-      → (s t : ℕ) → s < m .size → t < m .size → StillTogether m R s t → StillTogether m S s t
-  still-together f s t hs ht r = record {
-    before = f s t hs ht (r .before);
-    on-right = λ a h. f _ _ (law .closed s _ hs (law .images a h)) (law .closed t _ ht (law .images a h)) (r .on-right a h);
-    on-left = λ a h. f _ _ (law .closed _ s (law .images a h) hs) (law .closed _ t (law .images a h) ht) (r .on-left a h);
-  }
-
   -- one more round
   pub blocks-next : (i : ℕ) {blocks : List ℕ} → IsBlocks (m .size) (Together m acc i) blocks
       → IsBlocks (m .size) (Together m acc (suc i)) (nextBlocks m blocks)
@@ -177,8 +175,8 @@ module _ {m : Morphism} (law : Lawful m) (acc : ℕ → ℕ → ℕ) where
   blocks-next i {blocks} b =
       least-blocks (m .size) (Together m acc (suc i)) (keptTest m blocks)
       (λ s t hs ht. (
-        λ p. still-together equal s t hs ht (kept-test m blocks s t .0 p),
-        λ r. kept-test m blocks s t .1 (still-together related s t hs ht r),
+        λ p. still-carry (law .closed) (law .images) equal s t hs ht (kept-test m blocks s t .0 p),
+        λ r. kept-test m blocks s t .1 (still-carry (law .closed) (law .images) related s t hs ht r),
       ))
       (together-refl m acc (suc i))
     where

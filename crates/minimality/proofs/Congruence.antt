@@ -6,7 +6,7 @@ use mathlib.Core.List.{List}
 use Rattle.theory.specs.Words.{Over, over-nil, over-cons}
 use Rattle.theory.specs.Rules.{Morphism, Lawful, Value, none, value, AllReached}
 use Rattle.theory.proofs.Values.{Inside, inside-none, inside-element, value-inside}
-use Rattle.minimality.specs.Rounds.{SameOutcomes, Together, Stable}
+use Rattle.theory.specs.Rounds.{SameOutcomes, Together, Stable}
 use Rattle.minimality.proofs.Rounds.{together-refl, together-sym, together-trans, together-dec, together-outcomes}
 use Rattle.minimality.proofs.Contexts.{after, ahead, around, Indistinct, ahead-inside, after-join, ahead-join, indistinct-around, value-word}
 

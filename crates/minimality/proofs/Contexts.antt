@@ -7,7 +7,7 @@ use Rattle.theory.specs.Words.{Over, over-nil}
 use Rattle.theory.specs.Rules.{Morphism, Lawful, Value, none, element, join, value, ValueWord, AllReached}
 use Rattle.theory.proofs.Values.{Inside, inside-none, inside-element, join-inside, value-append}
 use Rattle.theory.proofs.Words.{over-append}
-use Rattle.minimality.specs.Rounds.{SameOutcomes}
+use Rattle.theory.specs.Rounds.{SameOutcomes}
 
 -- s with the value y after it
 unfoldable pub after : Morphism → ℕ → Value → ℕ

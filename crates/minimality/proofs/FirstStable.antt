@@ -10,7 +10,7 @@ use Rattle.theory.specs.Rules.{Morphism}
 use Rattle.finite.proofs.Tests.{decide, decide-intro, decide-elim}
 use Rattle.finite.proofs.Numbers.{Compared, lesser, level, greater, compared}
 use Rattle.finite.proofs.Search.{First, least-dec, dec-all, dec-any, countBelow, count-le, count-strict}
-use Rattle.minimality.specs.Rounds.{Together, Stable}
+use Rattle.theory.specs.Rounds.{Together, Stable}
 use Rattle.minimality.proofs.Rounds.{together-refl, together-sym, together-trans, together-before, together-dec}
 
 -- s is the least of its block after round i

@@ -10,7 +10,7 @@ use Rattle.finite.proofs.Tests.{decide, decide-intro, decide-elim}
 use Rattle.finite.proofs.Numbers.{Compared, lesser, level, greater, compared}
 use Rattle.finite.proofs.Search.{leastBelow, least-holds, least-bound}
 use Rattle.theory.specs.Rules.{Morphism, Lawful, AllReached}
-use Rattle.minimality.specs.Rounds.{Together, Stable}
+use Rattle.theory.specs.Rounds.{Together, Stable}
 use Rattle.minimality.proofs.Rounds.{together-sym}
 use Rattle.minimality.proofs.FirstStable.{leads, leads-elim, blockCount, Leader, leader-of, leader-leads}
 use Rattle.minimality.proofs.Congruence.{Congruence, stable-congruence}

@@ -3,10 +3,11 @@
 use Prim.Native.Nat.{ℕ, _<_}
 use mathlib.Core.Path.{_≡_, refl, sym, subst₂, ap, _∙_}
 use mathlib.Core.List.{List}
-use Rattle.theory.specs.Words.{Over, over-nil, over-cons, Lasso}
-use Rattle.theory.specs.Rules.{Morphism, Lawful, Value, none, element, join, value, WordOf, AllReached}
-use Rattle.theory.proofs.Values.{Inside, inside-none, inside-element, value-inside}
-use Rattle.minimality.specs.Rounds.{SameOutcomes}
+use Rattle.theory.specs.Words.{Over, Lasso}
+use Rattle.theory.specs.Rules.{Morphism, Lawful, Value, element, value, WordOf, AllReached}
+use Rattle.theory.proofs.Values.{Inside, inside-none, inside-element}
+use Rattle.theory.proofs.Carried.{renamed, value-carried}
+use Rattle.theory.specs.Rounds.{SameOutcomes}
 use Rattle.minimality.proofs.Contexts.{after, ahead, around, ahead-inside, around-inside, Indistinct, HasValue}
 use Rattle.minimality.proofs.Smallest.{outcome, outcome-started, outcome-at, LassoValues, lasso-values, values-outcome, Factors, Syntactic}
 
@@ -35,11 +36,6 @@ quotient {m} {acc} {c} b = record {
 -- the outcome of two blocks is that of their leaders
 unfoldable pub quotient-acc : {m : Morphism} {acc : ℕ → ℕ → ℕ} {c : ℕ} → Numbering m acc c → ℕ → ℕ → ℕ
 quotient-acc {acc = acc} b i j = acc (b .leader i) (b .leader j)
-
--- a value with its element replaced by its number
-unfoldable pub renamed : (ℕ → ℕ) → Value → Value
-renamed f none = none
-renamed f (element s) = element (f s)
 
 module _ {m : Morphism} {acc : ℕ → ℕ → ℕ} {c : ℕ} (law : Lawful m) (b : Numbering m acc c) where
   leader-number : (s : ℕ) → s < m .size → b .leader (b .number s) < m .size
@@ -88,20 +84,10 @@ module _ {m : Morphism} {acc : ℕ → ℕ → ℕ} {c : ℕ} (law : Lawful m) (
   renamed-inside inside-none = inside-none
   renamed-inside (inside-element {s} h) = inside-element (b .number-below s h)
 
-  renamed-join : {x y : Value} → Inside m x → Inside m y
-      → renamed (b .number) (join m x y) ≡ join (quotient b) (renamed (b .number) x) (renamed (b .number) y)
-  unfolding renamed join
-  renamed-join inside-none hy = refl
-  renamed-join (inside-element h) inside-none = refl
-  renamed-join (inside-element {s} h) (inside-element {s = t} h′) = ap element (number-product s t h h′)
-
   -- a word's value is the number of its value before
   pub quotient-value : {w : List ℕ} → Over (m .letters) w → value (quotient b) w ≡ renamed (b .number) (value m w)
-  unfolding value quotient renamed
-  quotient-value over-nil = refl
-  quotient-value (over-cons {a} h o) =
-      ap (join (quotient b) (element (quotient b .image a))) (quotient-value o)
-      ∙ sym (renamed-join (inside-element (law .images a h)) (value-inside law o))
+  unfolding quotient
+  quotient-value = value-carried law (record { products = number-product; images = λ a h. refl })
 
   pub quotient-has : {w : List ℕ} {s : ℕ} → HasValue m w (element s) → HasValue (quotient b) w (element (b .number s))
   unfolding quotient renamed

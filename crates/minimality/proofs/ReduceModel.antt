@@ -15,13 +15,13 @@ use Rattle.theory.specs.Rules.{Morphism, Lawful, Rule, Marking, AllReached}
 use Rattle.theory.specs.Grades.{RuleStrong}
 use Rattle.theory.specs.Smallest.{Reduction}
 use Rattle.theory.proofs.Gradings.{GradedMarks}
-use Rattle.minimality.specs.Rounds.{Together, Stable}
+use Rattle.theory.specs.Rounds.{Together, Stable, IsBlocks}
 use Rattle.minimality.proofs.FirstStable.{StableRound, stable-round}
 use Rattle.minimality.proofs.Congruence.{Congruence, stable-congruence}
 use Rattle.minimality.proofs.Quotient.{Numbering, quotient, quotient-acc}
 use Rattle.minimality.proofs.Listed.{passing, Holds, Listed, listed, entries-distinct}
 use Rattle.minimality.proofs.Numbering.{Leaders, number-is, numbering-of-leaders}
-use Rattle.minimality.proofs.Blocks.{blocksAfter, IsBlocks, related-equal, blocks-right}
+use Rattle.minimality.proofs.Blocks.{blocksAfter, related-equal, blocks-right}
 use Rattle.minimality.proofs.Settle.{Settled, settle, settledAt, settleFrom, settle-right}
 use Rattle.minimality.proofs.Saturation.{saturated}
 use Rattle.minimality.proofs.GradeOutcomes.{grading}

@@ -8,7 +8,7 @@ use mathlib.Core.Path.{_≡_, refl, sym, subst, _∙_}
 use mathlib.Core.Logic.{⊎-elim, _↔_, Dec·and, Dec·of-iff}
 use Rattle.theory.specs.Rules.{Morphism, Lawful}
 use Rattle.finite.proofs.Search.{dec-all}
-use Rattle.minimality.specs.Rounds.{SameOutcomes, StillTogether, Together, Stable}
+use Rattle.theory.specs.Rounds.{SameOutcomes, StillTogether, Together, Stable}
 
 -- what each number hands to the next holds of every later number
 upward : (P : ℕ → Type 0) → ((k : ℕ) → P k → P (suc k)) → {i j : ℕ} → i ≤ j → P i → P j
@@ -107,3 +107,43 @@ module _ (m : Morphism) (acc : ℕ → ℕ → ℕ) where
         upward (λ k. Stable m acc k × Together m acc k s t)
         (λ k p. (stable-next k (p .0), p .0 .kept s t hs ht (p .1)))
         h (st, r) .1
+
+-- ---- relations and outcomes that agree on elements
+
+-- relations of which one implies the other on elements
+pub still-carry : {m : Morphism} {R S : ℕ → ℕ → Type 0} → ((a b : ℕ) → a < m .size → b < m .size → m .product a b < m .size)
+    → ((a : ℕ) → a < m .letters → m .image a < m .size) → ((s t : ℕ) → s < m .size → t < m .size → R s t → S s t)
+    → (s t : ℕ) → s < m .size → t < m .size → StillTogether m R s t → StillTogether m S s t
+still-carry closed images f s t hs ht r = record {
+  before = f s t hs ht (r .before);
+  on-right = λ a h. f _ _ (closed s _ hs (images a h)) (closed t _ ht (images a h)) (r .on-right a h);
+  on-left = λ a h. f _ _ (closed _ s (images a h) hs) (closed _ t (images a h) ht) (r .on-left a h);
+}
+
+-- outcomes that agree on elements give the same answer
+pub same-outcomes-carry : {m : Morphism} {f g : ℕ → ℕ → ℕ} → ((s z : ℕ) → s < m .size → z < m .size → f s z ≡ g s z)
+    → (s t : ℕ) → s < m .size → t < m .size → SameOutcomes m f s t ↔ SameOutcomes m g s t
+same-outcomes-carry agree s t hs ht = (
+  λ o. record {
+    as-start = λ z h. sym (agree s z hs h) ∙ o .as-start z h ∙ agree t z ht h;
+    as-cycle = λ z h. sym (agree z s h hs) ∙ o .as-cycle z h ∙ agree z t h ht;
+  },
+  λ o. record {
+    as-start = λ z h. agree s z hs h ∙ o .as-start z h ∙ sym (agree t z ht h);
+    as-cycle = λ z h. agree z s h hs ∙ o .as-cycle z h ∙ sym (agree z t h ht);
+  },
+)
+
+-- so elements stand together by both after every round
+module _ {m : Morphism} (law : Lawful m) where
+  pub together-carry : {f g : ℕ → ℕ → ℕ} → ((s z : ℕ) → s < m .size → z < m .size → f s z ≡ g s z) → (i s t : ℕ) → s < m .size → t < m .size
+      → Together m f i s t → Together m g i s t
+  unfolding Together
+  together-carry agree zero s t hs ht = same-outcomes-carry agree s t hs ht .0
+  together-carry agree (suc i) s t hs ht = still-carry (law .closed) (law .images) (together-carry agree i) s t hs ht
+
+  pub stable-carry : {f g : ℕ → ℕ → ℕ} → ((s z : ℕ) → s < m .size → z < m .size → f s z ≡ g s z) → (i : ℕ) → Stable m f i → Stable m g i
+  stable-carry agree i st = record {
+    kept = λ s t hs ht r.
+        together-carry agree (suc i) s t hs ht (st .kept s t hs ht (together-carry (λ s z h k. sym (agree s z h k)) i s t hs ht r));
+  }

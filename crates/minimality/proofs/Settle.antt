@@ -13,10 +13,10 @@ use Rattle.finite.proofs.Tests.{true-T}
 use Rattle.finite.proofs.Numbers.{le-or-lt}
 use Rattle.finite.proofs.Search.{allBelow, all-intro, all-elim}
 use Rattle.theory.specs.Rules.{Morphism, Lawful}
-use Rattle.minimality.specs.Rounds.{Stable}
+use Rattle.theory.specs.Rounds.{Stable, IsBlocks}
 use Rattle.minimality.proofs.Rounds.{together-before}
 use Rattle.minimality.proofs.FirstStable.{StableRound}
-use Rattle.minimality.proofs.Blocks.{firstBlocks, nextBlocks, blocksAfter, IsBlocks, blocks-right, blocks-together}
+use Rattle.minimality.proofs.Blocks.{firstBlocks, nextBlocks, blocksAfter, blocks-right, blocks-together}
 
 -- two lists have the same n entries
 unfoldable pub unchanged : ℕ → List ℕ → List ℕ → Bool

@@ -16,7 +16,7 @@ use Rattle.theory.specs.Rules.{Morphism, Lawful, Value, none, element, join, va
 use Rattle.theory.specs.Smallest.{Renumbered}
 use Rattle.theory.proofs.Values.{inside-element, element-apart, element-same, join-elements, value-append, Element, value-element}
 use Rattle.theory.proofs.Starts.{start-or-turn, first-value, first-value-again, value-started, lasso-started, started-values}
-use Rattle.minimality.specs.Rounds.{SameOutcomes}
+use Rattle.theory.specs.Rounds.{SameOutcomes}
 use Rattle.minimality.proofs.Contexts.{around, Indistinct, HasValue, word-has, value-word, has-append, has-around}
 
 -- the outcome of two values, 0 where one of them is of an empty word

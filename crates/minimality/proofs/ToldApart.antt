@@ -7,7 +7,7 @@ use mathlib.Core.Logic.{_⊎_, inl, inr, ⊎-elim, by-cases, Dec·not}
 use Rattle.finite.proofs.Search.{First, least-dec}
 use Rattle.theory.specs.Rules.{Morphism, Lawful, Value, none, join}
 use Rattle.theory.proofs.Values.{Inside, inside-none, inside-element, join-inside}
-use Rattle.minimality.specs.Rounds.{SameOutcomes, Together}
+use Rattle.theory.specs.Rounds.{SameOutcomes, Together}
 use Rattle.minimality.proofs.Rounds.{together-dec}
 use Rattle.minimality.proofs.Contexts.{after, ahead, around, around-around, Indistinct}
 

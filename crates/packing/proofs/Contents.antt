@@ -1,6 +1,8 @@
 -- What a number holds tells the answer: two answers that hold the same are one. Assumes nothing.
 use Prim.Native.Nat.{ℕ}
-use mathlib.Core.Path.{_≡_, refl, sym, ap, _∙_}
+use mathlib.Core.Path.{_≡_, refl, sym, ap, ap₂, _∙_}
+use mathlib.Core.Bool.{Bool, true, false}
+use native.Mathlib.Omega.{arith}
 use Rattle.answer.specs.Checks.{numbered}
 use Rattle.answer.proofs.Verdicts.{same-refusal}
 use Rattle.promises.specs.declared.Translated.{Translated}
@@ -19,11 +21,13 @@ use Rattle.promises.specs.declared.Monitor.{Monitor}
 use Rattle.promises.specs.declared.Moved.{Moved}
 use Rattle.promises.specs.declared.Moved.the-variants.{To, Refused as Not-moved}
 use Rattle.promises.specs.Moves.{HandsBack}
+use Rattle.promises.specs.declared.Partition.{Partition}
+use Rattle.promises.specs.declared.Partition.the-variants.{Blocks, Refused as Not-partitioned}
 use Rattle.promises.specs.declared.Reduced.{Reduced}
 use Rattle.promises.specs.declared.Reduced.the-variants.{Rule as Reduced-rule, Refused as Not-reduced}
 use Rattle.promises.specs.declared.Strength.{Strength}
 use Rattle.promises.specs.declared.Strength.the-variants.{Strong, Weak, Refused as Not-decided}
-use Rattle.packing.specs.Packing.{refusal-at, monitorContents, movedContents, listedContents, strengthContents, membershipContents, complementedContents, reducedContents, translatedContents, inclusionContents, monitorVerdictContents}
+use Rattle.packing.specs.Packing.{refusal-at, monitorContents, movedContents, listedContents, strengthContents, membershipContents, complementedContents, reducedContents, bit, partitionContents, translatedContents, inclusionContents, monitorVerdictContents}
 
 -- a refusal's contents are its verdict
 verdict-of : {n n′ i i′ p p′ : ℕ} → refusal-at n i p ≡ refusal-at n′ i′ p′ → numbered n i p ≡ numbered n′ i′ p′
@@ -63,6 +67,21 @@ reduced-told (Reduced-rule a) (Reduced-rule a′) e = cc
 reduced-told (Reduced-rule a) (Not-reduced r′ i′ p′) e = cc
 reduced-told (Not-reduced r i p) (Reduced-rule a′) e = cc
 reduced-told (Not-reduced r i p) (Not-reduced r′ i′ p′) e = same-refusal Not-reduced r r′ i i′ p p′ (verdict-of e)
+
+bit-told : (x y : Bool) → bit x ≡ bit y → x ≡ y
+bit-told false false e = refl
+bit-told false true e = absurd (let z : _≡_ {A = ℕ} 0 1 = e in omega arith)
+bit-told true false e = absurd (let z : _≡_ {A = ℕ} 1 0 = e in omega arith)
+bit-told true true e = refl
+
+pub partition-told : (x y : Partition) → partitionContents x ≡ partitionContents y → x ≡ y
+partition-told (Blocks a f) (Blocks a′ f′) e =
+    let rounds : a ≡ a′ = cc in
+    let finished : bit f ≡ bit f′ = cc in
+    ap₂ Blocks rounds (bit-told f f′ finished)
+partition-told (Blocks a f) (Not-partitioned r′ i′ p′) e = cc
+partition-told (Not-partitioned r i p) (Blocks a′ f′) e = cc
+partition-told (Not-partitioned r i p) (Not-partitioned r′ i′ p′) e = same-refusal Not-partitioned r r′ i i′ p p′ (verdict-of e)
 
 pub translated-told : (x y : Translated) → translatedContents x ≡ translatedContents y → x ≡ y
 translated-told (Automaton-rule a) (Automaton-rule a′) e = cc

@@ -4,7 +4,7 @@
 -- bit 16 on. A result has three fields of 16 bits, from bits 16, 32 and 48 on; what they hold is said at each answer. Nothing that a
 -- call answers reaches these limits, so `unpack` reads every exported number back: `exports/proofs/NothingLost`.
 use Prim.Native.Nat.{ℕ, _+_, _*_, _/_, _%_}
-use mathlib.Core.Bool.{cond}
+use mathlib.Core.Bool.{Bool, cond}
 use lib.Dec.{eqb}
 use Rattle.answer.specs.Refusals.{numberOf}
 use Rattle.promises.specs.declared.Translated.{Translated}
@@ -22,6 +22,8 @@ use Rattle.promises.specs.declared.Moved.{Moved}
 use Rattle.promises.specs.declared.Moved.the-variants.{To, Refused as Not-moved}
 use Rattle.promises.specs.declared.Reduced.{Reduced}
 use Rattle.promises.specs.declared.Reduced.the-variants.{Rule as Reduced-rule, Refused as Not-reduced}
+use Rattle.promises.specs.declared.Partition.{Partition}
+use Rattle.promises.specs.declared.Partition.the-variants.{Blocks, Refused as Not-partitioned}
 use Rattle.promises.specs.declared.Strength.{Strength}
 use Rattle.promises.specs.declared.Strength.the-variants.{Strong, Weak, Refused as Not-decided}
 use Rattle.promises.specs.declared.MonitorVerdict.{MonitorVerdict}
@@ -91,6 +93,18 @@ reducedContents (Not-reduced refusal input place) = refusal-at (numberOf refusal
 abbrev pub packReduced : Reduced → ℕ
 packReduced answer = pack (reducedContents answer)
 
+-- the rounds done, and 1 where they are finished
+abbrev pub bit : Bool → ℕ
+bit b = cond b 1 0
+
+abbrev pub partitionContents : Partition → Contents
+partitionContents (Blocks rounds finished) = fields rounds (bit finished) 0
+partitionContents (Not-partitioned refusal input place) = refusal-at (numberOf refusal) input place
+
+abbrev pub packPartition : Partition → ℕ
+packPartition answer = pack (partitionContents answer)
+
+-- how many bytes were written
 abbrev pub translatedContents : Translated → Contents
 translatedContents (Automaton-rule length) = fields length 0 0
 translatedContents (Not-translated refusal input place) = refusal-at (numberOf refusal) input place

@@ -7,12 +7,13 @@ use promises::Listed;
 use promises::Membership;
 use promises::MonitorVerdict;
 use promises::Moved;
+use promises::Partition;
 use promises::Reduced;
 use promises::Strength;
 use promises::Translated;
 ghost use mathlib.Core.Path.{_≡_};
 ghost use Rattle.answer.specs.Refusals.{numberOf};
-ghost use Rattle.packing.specs.Packing.{packRefusal, packFields, packListed, packStrength, packMembership, packComplemented, packInclusion, packMoved, packReduced, packTranslated, packMonitorVerdict};
+ghost use Rattle.packing.specs.Packing.{packRefusal, packFields, packListed, packStrength, packMembership, packComplemented, packInclusion, packMoved, packReduced, bit, packPartition, packTranslated, packMonitorVerdict};
 
 pub fn pack_refusal(refusal: Refusal, input: usize, place: usize) -> u64
     ensures { λ r. ⌜ r ≡ packRefusal (numberOf refusal) input place ⌝ }
@@ -124,6 +125,30 @@ pub fn pack_reduced(answer: Reduced) -> u64
     match answer {
         Reduced::Rule(length) => pack_fields(length, 0, 0),
         Reduced::Refused {
+            refusal,
+            input,
+            place,
+        } => pack_refusal(refusal, input, place),
+    }
+}
+
+// 1 for yes.
+fn bit_of(b: bool) -> usize
+    ensures { λ r. ⌜ r ≡ bit b ⌝ }
+{
+    if b {
+        return 1;
+    }
+    0
+}
+
+// The rounds done, and whether they are finished.
+pub fn pack_partition(answer: Partition) -> u64
+    ensures { λ r. ⌜ r ≡ packPartition answer ⌝ }
+{
+    match answer {
+        Partition::Blocks { rounds, finished } => pack_fields(rounds, bit_of(finished), 0),
+        Partition::Refused {
             refusal,
             input,
             place,

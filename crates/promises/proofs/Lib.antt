@@ -8,6 +8,7 @@ pub mod OneMove
 pub mod OneMoveInPlace
 pub mod OnePoint
 pub mod OneReduction
+pub mod OneRounds
 pub mod OneStrength
 pub mod OneSummary
 pub mod OneTranslation

@@ -9,7 +9,8 @@ use Rattle.answer.proofs.Verdicts.{same-refusal, not-passed}
 use Rattle.theory.proofs.TableTests.{counts-same}
 use Rattle.formats.proofs.Buffers.{buffer-single}
 use Rattle.formats.proofs.OneVerdict.{checked-single}
-use Rattle.promises.proofs.SameReductions.{same-rule, reductions-grades}
+use Rattle.theory.proofs.SameGrades.{reductions-grades}
+use Rattle.promises.proofs.SameReductions.{same-rule}
 use Rattle.promises.specs.declared.Summary.{Summary}
 use Rattle.promises.specs.declared.Summary.the-variants.{Counts, Refused}
 use Rattle.promises.specs.Summary.{summaryChecks, summaryVerdict, StrongReduced, ReducesTo, SummaryCounts, SummaryAnswer, workAfter, SummaryPromise}

@@ -29,7 +29,8 @@ use Rattle.promises.specs.declared.Reduced.the-variants.{Rule as Is-rule
 use Rattle.promises.specs.Reduce.{reduceChecks, reducedVerdict, ruleOf, ReducedTo, ReducePromise}
 use Rattle.promises.specs.Printed.{Prints}
 use Rattle.promises.proofs.OneStrength.{strong-rule-single}
-use Rattle.promises.proofs.SameReductions.{same-rule, same-back, same-on, reductions-file}
+use Rattle.theory.proofs.SameGrades.{same-back, same-on}
+use Rattle.promises.proofs.SameReductions.{same-rule, reductions-file}
 
 -- ---- a printed file means a rule with the grades of the rule that was reduced
 

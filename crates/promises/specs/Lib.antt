@@ -17,3 +17,4 @@ pub mod Summary
 pub mod Verdict
 pub mod Weak
 pub mod Printed
+pub mod Rounds

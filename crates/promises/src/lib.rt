@@ -82,6 +82,24 @@ pub enum Reduced {
     },
 }
 
+// The bytes of the result of reduce_rounds, and how many rounds its limit may allow, as specs/Rounds has them.
+pub const BLOCKS_SIZE: usize = 64;
+
+pub const MOST_ROUNDS: usize = 64;
+
+// How many rounds were done after round 0, and whether one more would change nothing.
+pub enum Partition {
+    Blocks {
+        rounds: usize,
+        finished: bool,
+    },
+    Refused {
+        refusal: Refusal,
+        input: usize,
+        place: usize,
+    },
+}
+
 // The number of bytes that were written.
 pub enum Translated {
     Rule(usize),

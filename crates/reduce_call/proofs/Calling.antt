@@ -6,15 +6,13 @@ use mathlib.Core.Bool.{Bool, true, false}
 use mathlib.Core.List.{List, [], _∷_}
 use native.Mathlib.Omega.{arith}
 use lib.ListN.{length, replicate}
-use Rattle.scratch.specs.Map.{secondBase, MarkingAt}
 use Rattle.answer.specs.declared.Refusal.{Refusal}
 use Rattle.answer.specs.declared.Refusal.the-variants.{NotStrong, BufferTooShort}
 use Rattle.answer.proofs.Order.{first-passes, first-fails, none-left, passed-before, refused-before}
 use Rattle.theory.specs.Rules.{Morphism}
 use Rattle.theory.specs.Grades.{StrongMarking}
-use Rattle.theory.proofs.ClosureGrades.{closure-grade}
 use Rattle.formats.specs.Table.{morphismAt}
-use Rattle.formats.specs.RuleFile.{elementsOf, morphismOf, markingOf}
+use Rattle.formats.specs.RuleFile.{morphismOf, markingOf}
 use Rattle.formats.specs.RuleChecks.{ruleSize}
 use Rattle.formats.proofs.Buffers.{buffer-short, buffer-long}
 use Rattle.rule_layout.specs.declared.Shape.{Shape}
@@ -26,7 +24,7 @@ use Rattle.rule_check.proofs.Left.{short-left, long-left}
 use Rattle.rule_check.proofs.CheckedRule.{graded-marks}
 use Rattle.rule_check.proofs.Calls.{called-good, shape-morphism}
 use Rattle.mark_strong.specs.Deciding.{StrongIf, Decided}
-use Rattle.mark_strong.proofs.Calling.{checked-lawful, checked-reached, checked-graded, checked-room, marks-stand, decided-file, decided-left}
+use Rattle.mark_strong.proofs.Calling.{checked-lawful, checked-reached, decided-file, decided-strong, closure-stands, decided-room, decided-left}
 use Rattle.promises.specs.declared.Reduced.the-variants.{Rule as Is-rule, Refused}
 use Rattle.reduce_rule.specs.Steps.{ReduceNeeds, ReducedWritten}
 use Rattle.promises.specs.Weak.{weakCheck}
@@ -65,7 +63,7 @@ module _ (bytes out entry : List ℕ) (long : ruleSize ≤ length out) where
       lawful = checked-lawful 1 bytes entry p;
       reached = checked-reached 1 bytes entry p;
       letters-some = omega (arith, good .letters-some, p .scratch .shape-is .letters);
-      room = omega (arith, checked-room 1 bytes entry p, d .same-length);
+      room = decided-room 1 bytes entry p d;
       out-room = long;
     }
 
@@ -82,12 +80,7 @@ module _ (bytes out entry : List ℕ) (long : ruleSize ≤ length out) where
     module _ {exit after : List ℕ} {length-of : ℕ} (w : ReducedWritten (morphismAt bytes (shape .elements) (shape .letters)) decided exit out after length-of)
         (e : answer ≡ true) where
       strong : StrongMarking (morphismOf bytes) (markingOf bytes)
-      strong = subst (StrongIf (morphismOf bytes) (markingOf bytes)) e (decided-file 1 bytes entry p d)
-
-      closure-stands : MarkingAt (elementsOf bytes) (closure-grade (morphismOf bytes) (markingOf bytes)) decided secondBase
-      closure-stands =
-          subst (λ (m : Morphism). MarkingAt (m .size) (closure-grade m (markingOf bytes)) decided secondBase) same
-          (d .closure (markingOf bytes) (checked-graded 1 bytes entry p) (marks-stand 1 bytes entry p))
+      strong = decided-strong 1 bytes entry p d e
 
       written : ReducedWritten (morphismOf bytes) decided exit out after length-of
       written = subst (λ (m : Morphism). ReducedWritten m decided exit out after length-of) same w
@@ -95,7 +88,7 @@ module _ (bytes out entry : List ℕ) (long : ruleSize ≤ length out) where
       reduced-to : ReducedTo bytes out after length-of
       reduced-to =
           let t = good .table in
-          let q = reduces (ruleOf bytes (good .lawful)) (t .small) (good .letters-some) (t .letters-small) (good .reached) (graded-marks good) strong closure-stands written in
+          let q = reduces (ruleOf bytes (good .lawful)) (t .small) (good .letters-some) (t .letters-small) (good .reached) (graded-marks good) strong (closure-stands 1 bytes entry p d) written in
           record { lawful = good .lawful; reduced = q .reduced; reduction = q .reduction; numbered = q .numbered; written = q .written }
 
       pub reduce-strong : (end : List ℕ) → end ≡ replicate (length exit) 0 → ReducePromise bytes out after entry end (Is-rule length-of)

@@ -6,7 +6,8 @@ use Rattle.finite.specs.Shortlex.{NotAfter}
 use Rattle.theory.specs.Words.{Over}
 use Rattle.theory.specs.Rules.{Morphism, Lawful, Value, element, value}
 use Rattle.theory.proofs.Values.{Inside, inside-none, inside-element, element-same, element-apart, value-inside}
-use Rattle.minimality.proofs.Quotient.{quotient, renamed, quotient-value}
+use Rattle.theory.proofs.Carried.{renamed}
+use Rattle.minimality.proofs.Quotient.{quotient, quotient-value}
 use Rattle.formats.specs.FirstWords.{ByFirstWords}
 use Rattle.reduce_numbering.specs.Numbering.{NumberedAs, WordsInOrder}
 

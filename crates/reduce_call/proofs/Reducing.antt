@@ -17,11 +17,13 @@ use Rattle.minimality.proofs.Saturation.{saturated}
 use Rattle.minimality.proofs.GradeOutcomes.{grading, grading-small}
 use Rattle.minimality.proofs.Saturation.{saturated-small}
 use Rattle.minimality.proofs.Reductions.{RuleNumbering, reduced-rule, reduction-right, reduced-linked}
+use Rattle.minimality.proofs.Rounds.{same-outcomes-carry}
 use Rattle.reduce_first_round.specs.Map.{outcomeOf, outcomeAt}
-use Rattle.reduce_rounds.specs.Rounds.{RoundsSettled}
+use Rattle.reduce_rounds.specs.declared.Refined.{Refined}
+use Rattle.reduce_rounds.specs.Rounds.{RoundsRefined}
+use Rattle.reduce_rounds.proofs.Settling.{refined-finished}
 use Rattle.scratch.proofs.Unchanged.{unchanged-room}
 use Rattle.reduce_first_round.proofs.OutcomeBytes.{outcome-below, outcome-grading}
-use Rattle.reduce_first_round.proofs.Comparing.{same-outcomes-carry}
 use Rattle.reduce_numbering.specs.Steps.{leaderAt}
 use Rattle.formats.specs.FirstWords.{ByFirstWords}
 use Rattle.reduce_numbering.specs.Numbering.{NumberedAs, BlocksNumbered}
@@ -33,15 +35,16 @@ use Rattle.formats.specs.ReadBack.{WrittenRule}
 use Rattle.formats.specs.WrittenFile.{fileOf}
 use Rattle.formats.specs.Front.{AtFront}
 use Rattle.reduce_rule.specs.Steps.{QuotientNeeds, QuotientWritten, ReduceNeeds, ReducedWritten}
+use Rattle.promises.specs.Rounds.{mostRounds}
 use Rattle.reduce_call.proofs.Order.{quotient-by-first-words}
 use Rattle.formats.proofs.Front.{front-same}
 
 -- from the blocks of the last round to the file
-module _ {m : Morphism} {entry settled numbered out : List ℕ} {i c : ℕ} (small : m .size ≤ 64)
-    (p : ReduceNeeds m entry out) (r : RoundsSettled m entry settled i) (b : BlocksNumbered m c settled numbered) where
+module _ {m : Morphism} {entry settled numbered out : List ℕ} {c : ℕ} {refined : Refined} (small : m .size ≤ 64)
+    (p : ReduceNeeds m entry out) (r : RoundsRefined m mostRounds entry settled refined) (b : BlocksNumbered m c settled numbered) where
   -- the numbering by the outcomes that the table of marks gave
   numbering-of : NumberedAs m (outcomeOf m entry) c numbered
-  numbering-of = b .numbered (outcomeOf m entry) i (r .blocks) (r .stable)
+  numbering-of = b .numbered (outcomeOf m entry) (refined .rounds) (r .blocks) (refined-finished small r)
 
   leader-inside : (j : ℕ) → j < c → leaderAt numbered j < m .size
   leader-inside j h = rw (← numbering-of .leaders j) (numbering-of .numbering .leader-below j h)

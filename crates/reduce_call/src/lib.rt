@@ -4,9 +4,10 @@
 use answer::Refusal;
 use formats::RULE_SIZE;
 use mark_strong::decide;
+use promises::MOST_ROUNDS;
 use promises::Reduced;
 use reduce_numbering::number_blocks;
-use reduce_rounds::refine_until_stable;
+use reduce_rounds::refine;
 use reduce_rule::write_quotient;
 use rule_check::Checked;
 use rule_check::check;
@@ -22,7 +23,7 @@ fn write_reduced(rule: &[u8], n: usize, k: usize, scratch: &mut [u8], out: &mut 
     requires { ⌜ ReduceNeeds (morphismAt (now rule) n k) (now scratch) (now out) ⌝ }
     ensures { λ r. ⌜ ReducedWritten (morphismAt (now (rule .entry)) n k) (now (scratch .entry)) (now (scratch .exit)) (now (out .entry)) (now (out .exit)) r ⌝ }
 {
-    refine_until_stable(rule, n, k, scratch);
+    refine(rule, n, k, MOST_ROUNDS, scratch);
     let c = number_blocks(rule, n, k, scratch);
     write_quotient(rule, n, k, c, scratch, out)
 }

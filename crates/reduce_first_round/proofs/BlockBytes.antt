@@ -10,7 +10,8 @@ use native.Mathlib.Decide.{ℕ-discrete}
 use lib.ListN.{length, getD, set}
 use lib.Seq.{getD-set-same, getD-set-other}
 use Rattle.finite.proofs.Numbers.{Compared, lesser, level, greater, compared}
-use Rattle.minimality.proofs.Blocks.{tabFrom, length-tab, getD-tab, IsBlocks, equal-related, related-equal}
+use Rattle.minimality.proofs.Blocks.{tabFrom, length-tab, getD-tab, equal-related, related-equal}
+use Rattle.theory.specs.Rounds.{IsBlocks}
 use Rattle.reduce_first_round.specs.Map.{BlocksAt}
 use Rattle.finite.specs.Tells.{Tells}
 use Rattle.reduce_first_round.specs.Steps.{LeastRelated, BlocksWritten}

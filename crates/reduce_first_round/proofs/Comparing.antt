@@ -3,11 +3,11 @@
 use Prim.Native.Nat.{ℕ, _+_, _≤_, _<_}
 use mathlib.Core.Path.{_≡_, refl, sym, _∙_}
 use mathlib.Core.Bool.{Bool, true, false, not}
-use mathlib.Core.Logic.{_≢_, _↔_}
+use mathlib.Core.Logic.{_≢_}
 use native.Mathlib.Omega.{arith}
 use native.Mathlib.Decide.{ℕ-discrete}
 use Rattle.theory.specs.Rules.{Morphism}
-use Rattle.minimality.specs.Rounds.{SameOutcomes}
+use Rattle.theory.specs.Rounds.{SameOutcomes}
 use Rattle.finite.specs.Tells.{Tells}
 use Rattle.finite.proofs.Tells.{told-yes, told-no}
 
@@ -59,17 +59,3 @@ module _ {acc : ℕ → ℕ → ℕ} {s t : ℕ} where
 -- every element has its own outcomes
 pub same-refl : (m : Morphism) (acc : ℕ → ℕ → ℕ) (s : ℕ) → SameOutcomes m acc s s
 same-refl m acc s = record { as-start = λ z h. refl; as-cycle = λ z h. refl }
-
--- outcomes that agree on elements give the same answer
-pub same-outcomes-carry : {m : Morphism} {f g : ℕ → ℕ → ℕ} → ((s z : ℕ) → s < m .size → z < m .size → f s z ≡ g s z)
-    → (s t : ℕ) → s < m .size → t < m .size → SameOutcomes m f s t ↔ SameOutcomes m g s t
-same-outcomes-carry agree s t hs ht = (
-  λ o. record {
-    as-start = λ z h. sym (agree s z hs h) ∙ o .as-start z h ∙ agree t z ht h;
-    as-cycle = λ z h. sym (agree z s h hs) ∙ o .as-cycle z h ∙ agree z t h ht;
-  },
-  λ o. record {
-    as-start = λ z h. agree s z hs h ∙ o .as-start z h ∙ sym (agree t z ht h);
-    as-cycle = λ z h. agree z s h hs ∙ o .as-cycle z h ∙ sym (agree z t h ht);
-  },
-)

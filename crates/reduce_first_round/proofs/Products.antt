@@ -12,7 +12,7 @@ use Rattle.scratch.specs.Map.{blocksBase}
 use Rattle.theory.specs.Rules.{Morphism}
 use Rattle.rule_table.specs.Table.{Table}
 use Rattle.formats.specs.Table.{imageAt}
-use Rattle.minimality.specs.Rounds.{StillTogether}
+use Rattle.theory.specs.Rounds.{StillTogether}
 use Rattle.reduce_first_round.specs.Map.{InOneBlock}
 use Rattle.finite.specs.Tells.{Tells}
 use Rattle.finite.proofs.Tells.{told-yes, told-no}
@@ -77,16 +77,6 @@ module _ {m : Morphism} {R : ℕ → ℕ → Type 0} {s t : ℕ} where
     on-right = λ b l. w .products b (omega arith) .on-right;
     on-left = λ b l. w .products b (omega arith) .on-left;
   })
-
--- relations of which one implies the other on elements
-pub still-carry : {m : Morphism} {R S : ℕ → ℕ → Type 0} → ((a b : ℕ) → a < m .size → b < m .size → m .product a b < m .size)
-    → ((a : ℕ) → a < m .letters → m .image a < m .size) → ((s t : ℕ) → s < m .size → t < m .size → R s t → S s t)
-    → (s t : ℕ) → s < m .size → t < m .size → StillTogether m R s t → StillTogether m S s t
-still-carry closed images f s t hs ht r = record {
-  before = f s t hs ht (r .before);
-  on-right = λ a h. f _ _ (closed s _ hs (images a h)) (closed t _ ht (images a h)) (r .on-right a h);
-  on-left = λ a h. f _ _ (closed _ s (images a h) hs) (closed _ t (images a h) ht) (r .on-left a h);
-}
 
 -- every element is kept together with itself
 pub still-refl : (m : Morphism) (scratch : List ℕ) (s : ℕ) → StillTogether m (InOneBlock scratch) s s

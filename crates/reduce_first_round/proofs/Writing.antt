@@ -6,13 +6,12 @@ use native.Mathlib.Omega.{arith}
 use lib.ListN.{length, getD, set}
 use Rattle.scratch.specs.Map.{blocksBase, nextBlocksBase}
 use Rattle.theory.specs.Rules.{Morphism}
-use Rattle.minimality.specs.Rounds.{SameOutcomes, StillTogether, Together}
+use Rattle.theory.specs.Rounds.{SameOutcomes, StillTogether, Together}
+use Rattle.minimality.proofs.Rounds.{same-outcomes-carry, still-carry}
 use Rattle.reduce_first_round.specs.Map.{outcomeAt, InOneBlock}
 use Rattle.reduce_first_round.specs.Steps.{LeastRelated, BlocksWritten}
 use Rattle.reduce_first_round.proofs.OutcomeBytes.{outcome-below}
-use Rattle.reduce_first_round.proofs.Comparing.{same-outcomes-carry}
 use Rattle.reduce_first_round.proofs.BlockBytes.{least-carry, written-more}
-use Rattle.reduce_first_round.proofs.Products.{still-carry}
 use Rattle.formats.specs.RuleChecks.{scratchSize}
 
 module _ {m : Morphism} (small : m .size ≤ 64) {entry now : List ℕ} (room : scratchSize ≤ length entry) {s r : ℕ} (hs : s < m .size) where

@@ -13,7 +13,7 @@ ghost use Rattle.theory.specs.Rules.{Lawful};
 ghost use Rattle.rule_table.specs.Table.{Table};
 ghost use Rattle.formats.specs.Table.{productAt, morphismAt};
 ghost use Rattle.scratch.specs.Map.{blocksBase, secondBase, marksFrom};
-ghost use Rattle.minimality.specs.Rounds.{SameOutcomes, Together};
+ghost use Rattle.theory.specs.Rounds.{SameOutcomes, Together};
 ghost use Rattle.reduce_first_round.specs.Map.{outcomeAt};
 ghost use Rattle.reduce_first_round.specs.Steps.{LeastRelated, ColumnWritten, OutcomesWritten, BlocksWritten};
 ghost use Rattle.formats.specs.RuleChecks.{scratchSize};

@@ -15,7 +15,7 @@ use Rattle.rule_table.specs.Table.{Table}
 use Rattle.formats.specs.Table.{morphismAt}
 use Rattle.rule_reach.specs.Reach.{placeAt, entryAt, Empty, WordOrder}
 use Rattle.rule_reach.proofs.Words.{wordAt, FoundWord, found-word, entries-increase, reached-found}
-use Rattle.minimality.specs.Rounds.{Together, Stable}
+use Rattle.theory.specs.Rounds.{Together, Stable}
 use Rattle.minimality.proofs.Rounds.{together-sym, together-trans}
 use Rattle.minimality.proofs.Congruence.{Congruence, stable-congruence}
 use Rattle.reduce_first_round.specs.Map.{BlocksAt}

@@ -6,7 +6,7 @@ use mathlib.Core.List.{List}
 use Rattle.finite.specs.Shortlex.{Before, NotAfter}
 use Rattle.theory.specs.Words.{Over}
 use Rattle.theory.specs.Rules.{Morphism, element, value}
-use Rattle.minimality.specs.Rounds.{Together, Stable}
+use Rattle.theory.specs.Rounds.{Together, Stable}
 use Rattle.minimality.proofs.Quotient.{Numbering}
 use Rattle.reduce_first_round.specs.Map.{BlocksAt}
 use Rattle.scratch.specs.Bytes.{UnchangedOutside}

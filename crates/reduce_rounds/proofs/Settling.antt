@@ -1,35 +1,36 @@
--- A round meets the definition of the rounds, and rounds until one changes nothing end at the first stable round.
--- Assumes nothing.
+-- A round that is looked at meets the definition of the rounds, and rounds until one would change nothing, or a limit is reached, end no later
+-- than at the first stable round. Assumes nothing.
 use Prim.Native.Nat.{ℕ, suc, _+_, _≤_, _<_}
-use mathlib.Core.Path.{_≡_, sym, subst, _∙_}
+use mathlib.Core.Path.{_≡_, refl, sym, subst, _∙_}
 use mathlib.Core.Bool.{Bool, true, false}
-use mathlib.Core.Logic.{_≢_}
+use mathlib.Core.Logic.{_≢_, by-cases}
 use mathlib.Core.List.{List}
 use native.Mathlib.Omega.{arith}
 use native.Mathlib.Decide.{ℕ-discrete}
 use native.Mathlib.Numerals.{add-one}
 use lib.ListN.{getD}
+use Rattle.finite.specs.Tells.{Tells}
+use Rattle.finite.proofs.Tells.{told-yes, told-no}
 use Rattle.theory.specs.Rules.{Morphism}
-use Rattle.minimality.specs.Rounds.{StillTogether, Together, Stable}
-use Rattle.minimality.proofs.Rounds.{together-sym, together-trans, together-next, together-before}
+use Rattle.theory.specs.Rounds.{StillTogether, Together, Stable}
+use Rattle.minimality.proofs.Rounds.{together-sym, together-trans, together-next, together-before, same-outcomes-carry, still-carry}
 use Rattle.minimality.proofs.FirstStable.{blocks-many, blocks-at-most}
 use Rattle.reduce_first_round.specs.Map.{outcomeOf, outcomeAt, InOneBlock, BlocksAt}
 use Rattle.scratch.specs.Bytes.{UnchangedOutside}
-use Rattle.reduce_first_round.specs.Steps.{OutcomesWritten, BlocksWritten, TakenOver}
+use Rattle.reduce_first_round.specs.Steps.{OutcomesWritten, BlocksWritten}
 use Rattle.scratch.specs.Map.{blocksBase, nextBlocksBase, numbersBase, outcomesBase}
-use Rattle.reduce_rounds.specs.Rounds.{RoundDone, RoundsSettled}
+use Rattle.reduce_rounds.specs.declared.Refined.{Refined}
+use Rattle.reduce_rounds.specs.Rounds.{BlockChanges, RoundSeen, TakenOver, RoundsRefined}
 use Rattle.scratch.proofs.Unchanged.{unchanged-none, unchanged-both, unchanged-wider}
 use Rattle.reduce_first_round.proofs.OutcomeBytes.{outcome-below}
-use Rattle.reduce_first_round.proofs.Comparing.{same-outcomes-carry}
 use Rattle.reduce_first_round.proofs.BlockBytes.{least-carry, least-unique, least-at, blocks-carry, blocks-moved, bytes-related, related-bytes}
-use Rattle.reduce_first_round.proofs.Products.{still-carry}
 
 module _ {m : Morphism} (closed : (a b : ℕ) → a < m .size → b < m .size → m .product a b < m .size)
     (images : (a : ℕ) → a < m .letters → m .image a < m .size) where
   -- from the blocks of an equivalence to those of what a round keeps together
   pub still-blocks : {R : ℕ → ℕ → Type 0} {entry exit : List ℕ} → ((s t : ℕ) → R s t → R t s) → ((s t u : ℕ) → R s t → R t u → R s u)
-      → BlocksAt (m .size) R entry blocksBase → BlocksAt (m .size) (StillTogether m (InOneBlock entry)) exit blocksBase
-      → BlocksAt (m .size) (StillTogether m R) exit blocksBase
+      → BlocksAt (m .size) R entry blocksBase → BlocksAt (m .size) (StillTogether m (InOneBlock entry)) exit nextBlocksBase
+      → BlocksAt (m .size) (StillTogether m R) exit nextBlocksBase
   unfolding InOneBlock
   still-blocks {R} {entry} symmetric transitive b next =
       blocks-carry (λ t s ht hs. (
@@ -37,46 +38,40 @@ module _ {m : Morphism} (closed : (a b : ℕ) → a < m .size → b < m .size �
         still-carry closed images (related-bytes b symmetric transitive) t s ht hs,
       )) next
 
-  -- the two steps of a round
-  pub round-done : {entry now exit : List ℕ} {answer : Bool} → m .size ≤ 64 → BlocksWritten (m .size) (StillTogether m (InOneBlock entry)) nextBlocksBase entry now
-      → TakenOver (m .size) now exit answer → RoundDone m entry exit answer
-  round-done {entry} {now} {exit} {answer} small w v = record {
-    next = next;
-    after = λ acc i b. blocks-carry (λ t s ht hs. together-next m acc i) (still-blocks (together-sym m acc i) (together-trans m acc i) b next);
-    changed = λ e.
-        let d = v .changed e in
-        record {
-          at = d .at;
-          below = d .below;
-          differs = λ q. d .differs (sym (v .blocks (d .at) (d .below)) ∙ q ∙ sym (old (d .at) (d .below)));
-        };
-    unchanged = λ e s h. v .blocks s h ∙ v .unchanged e s h ∙ old s h;
-    kept = unchanged-both (unchanged-wider (omega arith) (omega arith) (w .kept)) (unchanged-wider (omega arith) (omega arith) (v .kept));
+  -- a round looked at
+  pub round-seen : {entry exit : List ℕ} {answer : Bool} → m .size ≤ 64 → BlocksWritten (m .size) (StillTogether m (InOneBlock entry)) nextBlocksBase entry exit
+      → Tells (BlockChanges (m .size) exit) answer → RoundSeen m entry exit answer
+  round-seen small w told = record {
+    next = λ acc i b. blocks-carry (λ t s ht hs. together-next m acc i) (still-blocks (together-sym m acc i) (together-trans m acc i) b (w .blocks));
+    changes = told;
+    kept = unchanged-wider (omega arith) (omega arith) (w .kept);
   }
-    where
-      next : BlocksAt (m .size) (StillTogether m (InOneBlock entry)) exit blocksBase
-      next = blocks-moved (v .blocks) (w .blocks)
 
-      old : (s : ℕ) → s < m .size → getD now (blocksBase + s) 0 ≡ getD entry (blocksBase + s) 0
-      old s h = w .kept .before (blocksBase + s) (omega arith)
+-- the blocks still stand when a round was looked at
+seen-blocks : {m : Morphism} {R : ℕ → ℕ → Type 0} {entry exit : List ℕ} {answer : Bool} → m .size ≤ 64 → BlocksAt (m .size) R entry blocksBase → RoundSeen m entry exit answer
+    → BlocksAt (m .size) R exit blocksBase
+seen-blocks small b r = blocks-moved (λ s h. r .kept .before (blocksBase + s) (omega arith)) b
 
-module _ {m : Morphism} {acc : ℕ → ℕ → ℕ} {i : ℕ} {entry exit : List ℕ} {answer : Bool} (b : BlocksAt (m .size) (Together m acc i) entry blocksBase)
-    (r : RoundDone m entry exit answer) where
-  -- a round that changes nothing is stable
+module _ {m : Morphism} {acc : ℕ → ℕ → ℕ} {i : ℕ} {entry exit : List ℕ} {answer : Bool} (small : m .size ≤ 64) (b : BlocksAt (m .size) (Together m acc i) entry blocksBase)
+    (r : RoundSeen m entry exit answer) where
+  -- a round that would change nothing is stable
   pub unchanged-is-stable : answer ≡ false → Stable m acc i
   unchanged-is-stable e = record {
     kept = λ s t hs ht q.
-        bytes-related (r .after acc i b) (together-sym m acc (suc i)) (together-trans m acc (suc i)) s t hs ht
-        (r .unchanged e s hs ∙ related-bytes b (together-sym m acc i) (together-trans m acc i) s t hs ht q ∙ sym (r .unchanged e t ht));
+        bytes-related (r .next acc i b) (together-sym m acc (suc i)) (together-trans m acc (suc i)) s t hs ht
+        (same s hs ∙ related-bytes (seen-blocks small b r) (together-sym m acc i) (together-trans m acc i) s t hs ht q ∙ sym (same t ht));
   }
+    where
+      same : (s : ℕ) → s < m .size → getD exit (nextBlocksBase + s) 0 ≡ getD exit (blocksBase + s) 0
+      same s h = by-cases (ℕ-discrete _ _) (λ q. q) (λ g. absurd (r .changes .fails e (record { at = s; below = h; differs = g })))
 
-  -- one that changes a block is not
+  -- one that would change a block is not
   pub changed-not-stable : answer ≡ true → Stable m acc i → ⊥
   changed-not-stable e st =
-      let d = r .changed e in
-      d .differs (least-unique (least-at (r .after acc i b) (d .at) (d .below))
+      let d = r .changes .holds e in
+      d .differs (least-unique (least-at (r .next acc i b) (d .at) (d .below))
       (least-carry (λ t h. (st .kept t (d .at) (omega (arith, d .below)) (d .below), together-before m acc i t (d .at)))
-      (least-at b (d .at) (d .below))))
+      (least-at (seen-blocks small b r) (d .at) (d .below))))
 
 -- round 0 stands there
 pub record Started (m : Morphism) (entry start : List ℕ) : Type 0 where
@@ -117,31 +112,56 @@ module _ {m : Morphism} {start now : List ℕ} {i : ℕ} (w : Running m start no
       let acc = outcomeOf m entry in
       omega (arith, blocks-many m acc i h (w .runs acc (st .blocks) .unstable), blocks-at-most m acc i)
 
-  -- after a round that changed a block
-  pub running-next : {next : List ℕ} {answer : Bool} → RoundDone m now next answer → answer ≡ true → Running m start next (i + 1)
-  running-next {next} {answer} r e = rw add-one (record {
-    runs = λ acc b. record {
-      blocks = r .after acc i (w .runs acc b .blocks);
-      unstable = λ j h. before acc b j h (ℕ-discrete j i);
-    };
-    kept = unchanged-both (w .kept) (r .kept);
-  })
-    where
-      before : (acc : ℕ → ℕ → ℕ) → BlocksAt (m .size) (Together m acc 0) start blocksBase → (j : ℕ) → j < suc i → Dec (j ≡ i) → Stable m acc j → ⊥
-      before acc b j h (yes q) st = changed-not-stable (w .runs acc b .blocks) r e (subst (Stable m acc) q st)
-      before acc b j h (no g) st = let d : j ≢ i = g in w .runs acc b .unstable j (omega arith) st
+  module _ {next : List ℕ} {answer : Bool} (small : m .size ≤ 64) (r : RoundSeen m now next answer) where
+    -- after a round that was taken, since it changed a block
+    pub running-next : {taken : List ℕ} → answer ≡ true → TakenOver (m .size) next taken → Running m start taken (i + 1)
+    running-next {taken} e o = rw add-one (record {
+      runs = λ acc b. record {
+        blocks = blocks-moved (o .blocks) (r .next acc i (w .runs acc b .blocks));
+        unstable = λ j h. before acc b j h (ℕ-discrete j i);
+      };
+      kept = unchanged-both (w .kept) (unchanged-both (unchanged-wider (omega arith) (omega arith) (r .kept)) (unchanged-wider (omega arith) (omega arith) (o .kept)));
+    })
+      where
+        before : (acc : ℕ → ℕ → ℕ) → BlocksAt (m .size) (Together m acc 0) start blocksBase → (j : ℕ) → j < suc i → Dec (j ≡ i) → Stable m acc j → ⊥
+        before acc b j h (yes q) st = changed-not-stable small (w .runs acc b .blocks) r e (subst (Stable m acc) q st)
+        before acc b j h (no g) st = let d : j ≢ i = g in w .runs acc b .unstable j (omega arith) st
 
-  -- after a round that changed none
-  pub running-settled : {entry next : List ℕ} {answer : Bool} → m .size ≤ 64 → 1 ≤ m .size → Started m entry start → RoundDone m now next answer
-      → answer ≡ false → RoundsSettled m entry next i
-  running-settled {entry} small some st r e =
-      let run = w .runs (outcomeOf m entry) (st .blocks) in
-      record {
-        bound = running-bound st some;
-        blocks = blocks-moved (r .unchanged e) (run .blocks);
-        stable = unchanged-is-stable (run .blocks) r e;
-        first = run .unstable;
-        outcomes = λ s z hs hz.
-            outcome-below s z (omega arith) (omega arith) (omega arith) (unchanged-both (w .kept) (r .kept)) ∙ st .outcomes s z hs hz;
-        kept = unchanged-both (st .kept) (unchanged-wider (omega arith) (omega arith) (unchanged-both (w .kept) (r .kept)));
-      }
+    -- at the end, with an answer that tells whether the round that was looked at would change nothing
+    running-refined : {entry : List ℕ} {limit : ℕ} {finished : Bool} → 1 ≤ m .size → (st : Started m entry start) → i ≤ limit → Tells (Stable m (outcomeOf m entry) i) finished
+        → (finished ≡ false → i ≡ limit) → RoundsRefined m limit entry next (record { rounds = i; finished = finished })
+    running-refined {entry} some st within told at-limit =
+        let run = w .runs (outcomeOf m entry) (st .blocks) in
+        let kept = unchanged-both (w .kept) (unchanged-wider (omega arith) (omega arith) (r .kept)) in
+        record {
+          bound = running-bound st some;
+          within = within;
+          blocks = seen-blocks small (run .blocks) r;
+          first = run .unstable;
+          stable = told;
+          unfinished = at-limit;
+          outcomes = λ s z hs hz. outcome-below s z (omega arith) (omega arith) (omega arith) kept ∙ st .outcomes s z hs hz;
+          kept = unchanged-both (st .kept) (unchanged-wider (omega arith) (omega arith) kept);
+        }
+
+    -- it would change nothing
+    pub running-finished : {entry : List ℕ} {limit : ℕ} → 1 ≤ m .size → Started m entry start → i ≤ limit → answer ≡ false
+        → RoundsRefined m limit entry next (record { rounds = i; finished = true })
+    running-finished {entry} some st within e =
+        running-refined some st within (told-yes (unchanged-is-stable small (w .runs (outcomeOf m entry) (st .blocks) .blocks) r e))
+        (λ q. absurd (let z : _≡_ {A = ℕ} 0 1 = cc in omega arith))
+
+    -- it would change a block, and the limit is reached
+    pub running-stopped : {entry : List ℕ} {limit : ℕ} → 1 ≤ m .size → Started m entry start → i ≡ limit → answer ≡ true
+        → RoundsRefined m limit entry next (record { rounds = i; finished = false })
+    running-stopped {entry} some st at-limit e =
+        running-refined some st (omega (arith, at-limit)) (told-no (changed-not-stable small (w .runs (outcomeOf m entry) (st .blocks) .blocks) r e)) (λ q. at-limit)
+
+-- with a limit that the size does not exceed they are finished
+pub refined-finished : {m : Morphism} {limit : ℕ} {entry exit : List ℕ} {r : Refined} → m .size ≤ limit → RoundsRefined m limit entry exit r
+    → Stable m (outcomeOf m entry) (r .rounds)
+refined-finished {m} {entry = entry} {r = r} h w = go (r .finished) refl
+  where
+    go : (b : Bool) → r .finished ≡ b → Stable m (outcomeOf m entry) (r .rounds)
+    go true e = w .stable .holds e
+    go false e = absurd (omega (arith, w .bound, w .unfinished e))

@@ -1,5 +1,5 @@
 // The first half of the reduction of a rule: the outcomes of all pairs of values, and rounds on blocks of elements until a round
-// changes nothing (document 02, Job 9). All stands in one lent slice, as reduce_first_round/specs/Map says: the closure of the marks from 4096, the
+// would change nothing or a limit is reached (document 02, Job 9). All stands in one lent slice, as reduce_first_round/specs/Map says: the closure of the marks from 4096, the
 // outcomes from 8192, the least element of each element's block from 12288, and from 12352 the same after the round at hand.
 use reduce_first_round::first_blocks;
 use reduce_first_round::outcomes;
@@ -13,10 +13,10 @@ ghost use Rattle.finite.specs.Tells.{Tells};
 ghost use Rattle.theory.specs.Rules.{Lawful};
 ghost use Rattle.rule_table.specs.Table.{Table};
 ghost use Rattle.formats.specs.Table.{morphismAt};
-ghost use Rattle.minimality.specs.Rounds.{StillTogether};
+ghost use Rattle.theory.specs.Rounds.{StillTogether};
 ghost use Rattle.reduce_first_round.specs.Map.{InOneBlock};
-ghost use Rattle.reduce_first_round.specs.Steps.{LeastRelated, BlocksWritten, Moved, TakenOver, ProductsTogether};
-ghost use Rattle.reduce_rounds.specs.Rounds.{RoundDone, RoundsSettled};
+ghost use Rattle.reduce_first_round.specs.Steps.{LeastRelated, BlocksWritten, ProductsTogether};
+ghost use Rattle.reduce_rounds.specs.Rounds.{BlockChanges, RoundSeen, TakenOver, RoundsRefined};
 ghost use Rattle.scratch.specs.Map.{nextBlocksBase};
 ghost use Rattle.formats.specs.RuleChecks.{scratchSize};
 
@@ -94,59 +94,72 @@ fn next_blocks(rule: &[u8], n: usize, k: usize, scratch: &mut [u8])
     }
 }
 
-// Takes the new block of an element over; true if it differs, or something did before.
-fn take_block(scratch: &mut [u8], s: usize, changed: bool) -> bool
-    requires { ⌜ s < 64 ⌝ }
-    requires { ⌜ scratchSize ≤ length (now scratch) ⌝ }
-    ensures { λ r. ⌜ Moved s changed (now (scratch .entry)) (now (scratch .exit)) r ⌝ }
-{
-    let old = scratch[BLOCKS_BASE + s];
-    let new = scratch[NEXT_BLOCKS_BASE + s];
-    scratch[BLOCKS_BASE + s] = new;
-    if old == new {
-        return changed;
-    }
-    true
-}
-
-// Takes all new blocks over, and tells whether any differs.
-fn take_blocks(n: usize, scratch: &mut [u8]) -> bool
+// Whether an element's new block differs from its old one.
+fn changes(n: usize, scratch: &[u8]) -> bool
     requires { ⌜ n ≤ 64 ⌝ }
     requires { ⌜ scratchSize ≤ length (now scratch) ⌝ }
-    ensures { λ r. ⌜ TakenOver n (now (scratch .entry)) (now (scratch .exit)) r ⌝ }
+    ensures { λ r. ⌜ Tells (BlockChanges n (now (scratch .entry))) r ⌝ }
 {
-    let mut changed = false;
     for s in 0..n {
-        changed = take_block(scratch, s, changed);
+        if scratch[NEXT_BLOCKS_BASE + s] != scratch[BLOCKS_BASE + s] {
+            return true;
+        }
     }
-    changed
+    false
 }
 
-// One round: keeps elements together if they were and their products with every letter were. True if a block changed.
-pub fn round(rule: &[u8], n: usize, k: usize, scratch: &mut [u8]) -> bool
+// Looks at a further round and does not take it: its blocks are worked out beside those that stand. True if it would change one.
+fn look(rule: &[u8], n: usize, k: usize, scratch: &mut [u8]) -> bool
     requires { ⌜ Table (now rule) n k ⌝ }
     requires { ⌜ scratchSize ≤ length (now scratch) ⌝ }
-    ensures { λ r. ⌜ RoundDone (morphismAt (now (rule .entry)) n k) (now (scratch .entry)) (now (scratch .exit)) r ⌝ }
+    ensures { λ r. ⌜ RoundSeen (morphismAt (now (rule .entry)) n k) (now (scratch .entry)) (now (scratch .exit)) r ⌝ }
 {
     next_blocks(rule, n, k, scratch);
-    take_blocks(n, scratch)
+    changes(n, scratch)
 }
 
-// The outcomes, the blocks of round 0, and rounds until one changes nothing. Answers the first round after which none does.
-pub fn refine_until_stable(rule: &[u8], n: usize, k: usize, scratch: &mut [u8]) -> usize
+// Takes the round that was looked at: its blocks stand in the place of those before it.
+fn take(n: usize, scratch: &mut [u8])
+    requires { ⌜ n ≤ 64 ⌝ }
+    requires { ⌜ scratchSize ≤ length (now scratch) ⌝ }
+    ensures { λ r. ⌜ TakenOver n (now (scratch .entry)) (now (scratch .exit)) ⌝ }
+{
+    for s in 0..n {
+        scratch[BLOCKS_BASE + s] = scratch[NEXT_BLOCKS_BASE + s];
+    }
+}
+
+// The rounds done after round 0, and whether one more would change nothing.
+pub struct Refined {
+    pub rounds: usize,
+    pub finished: bool,
+}
+
+// The outcomes, the blocks of round 0, and rounds until one more would change nothing or as many as the limit are done. A round is looked
+// at before it is taken, so that the limit is never overstepped.
+pub fn refine(rule: &[u8], n: usize, k: usize, limit: usize, scratch: &mut [u8]) -> Refined
     requires { ⌜ Table (now rule) n k ⌝ }
     requires { ⌜ Lawful (morphismAt (now rule) n k) ⌝ }
     requires { ⌜ scratchSize ≤ length (now scratch) ⌝ }
-    ensures { λ r. ⌜ RoundsSettled (morphismAt (now (rule .entry)) n k) (now (scratch .entry)) (now (scratch .exit)) r ⌝ }
+    ensures { λ r. ⌜ RoundsRefined (morphismAt (now (rule .entry)) n k) limit (now (scratch .entry)) (now (scratch .exit)) r ⌝ }
 {
     outcomes(rule, n, k, scratch);
     first_blocks(rule, n, k, scratch);
-    let mut i = 0;
+    let mut rounds = 0;
     loop {
-        let changed = round(rule, n, k, scratch);
-        if !changed {
-            return i;
+        if !look(rule, n, k, scratch) {
+            return Refined {
+                rounds,
+                finished: true,
+            };
         }
-        i += 1;
+        if rounds == limit {
+            return Refined {
+                rounds,
+                finished: false,
+            };
+        }
+        take(n, scratch);
+        rounds += 1;
     }
 }

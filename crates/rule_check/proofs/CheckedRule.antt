@@ -7,7 +7,9 @@ use native.Mathlib.Omega.{arith}
 use lib.ListN.{length}
 use Rattle.answer.specs.Checks.{passed, FirstFailure}
 use Rattle.answer.proofs.Order.{passed-first, passed-last, passes-head, passes-tail}
+use Rattle.theory.specs.Grades.{StrongMarking}
 use Rattle.theory.proofs.Gradings.{GradedMarks}
+use Rattle.theory.proofs.GradedStrength.{marking-strong-dec}
 use Rattle.rule_table.proofs.Facts.{table-lawful}
 use Rattle.formats.specs.RuleFile.{marksAt, marksOf, ruleEnd, morphismOf, markingOf}
 use Rattle.formats.specs.RuleChecks.{layoutChecks, tableChecks, contentChecks, ruleChecks}
@@ -63,3 +65,11 @@ marking-small {bytes} good s e = marking-at-most bytes (marksAt bytes) (good .gr
 -- its marks are at most 3, and on linked pairs only
 pub graded-marks : {bytes : List ℕ} → GoodRule bytes → GradedMarks (morphismOf bytes) (markingOf bytes)
 graded-marks good = record { small = λ s e hs he. marking-small good s e; linked = good .linked }
+
+-- a good rule that is not weak is strong, since strength is decided
+pub strong-of : {bytes : List ℕ} → GoodRule bytes → ((StrongMarking (morphismOf bytes) (markingOf bytes) → ⊥) → ⊥) → StrongMarking (morphismOf bytes) (markingOf bytes)
+strong-of {bytes} good h = go (marking-strong-dec (good .lawful) (graded-marks good) (good .reached))
+  where
+    go : Dec (StrongMarking (morphismOf bytes) (markingOf bytes)) → StrongMarking (morphismOf bytes) (markingOf bytes)
+    go (yes strong) = strong
+    go (no weak) = absurd (h weak)

@@ -4,18 +4,18 @@ use Prim.Native.Nat.{ℕ, _+_, _*_, _-_, _/_, _%_, _≤_}
 use mathlib.Core.Path.{_≡_, refl, ap, _∙_}
 use mathlib.Core.List.{List, _∷_, _++_}
 use native.Mathlib.Omega.{arith}
-use native.Mathlib.Nat.{zero-add, mul-le-mul, div-add-mod'}
-use lib.ListN.{length, getD, take, drop, set, length-set, length-append}
+use native.Mathlib.Nat.{mul-le-mul, div-add-mod'}
+use lib.ListN.{length, getD, take, set, length-set, length-append}
 use lib.Seq.{length-take-le}
 use Rattle.theory.specs.Rules.{Morphism}
 use Rattle.formats.specs.RuleFile.{markWidth}
 use Rattle.formats.specs.RuleChecks.{ruleSize}
 use Rattle.formats.specs.WrittenFile.{elementsBytes, lettersBytes, marksBytes, fileOf}
 use Rattle.formats.specs.Front.{AtFront}
-use Rattle.rule_writer.specs.Writing.{placed, Written, tableMorphism, tableMarks, CopyNeeds, CountedNeeds, AllNeeds, MarksNeeds, MarksWritten, RuleNeeds, tableFile}
+use Rattle.rule_writer.specs.Writing.{Written, tableMorphism, tableMarks, CopyNeeds, CountedNeeds, AllNeeds, MarksNeeds, MarksWritten, RuleNeeds, tableFile}
 use Rattle.formats.proofs.Rows.{marksFrom, section-is}
 use Rattle.formats.proofs.Tabulated.{tabulate-take}
-use Rattle.rule_writer.proofs.Placed.{written-store, written-length, written-more, written-front}
+use Rattle.rule_writer.proofs.Placed.{written-store, written-length, written-more, written-at-front, written-front}
 use Rattle.formats.proofs.GoodSections.{file-short}
 use Rattle.rule_writer.proofs.Rows.{stretch-short}
 
@@ -116,11 +116,8 @@ module _ {table images marks : List ℕ} {n k : ℕ} {before : List ℕ} (p : Ru
 
       -- the whole file
       pub rule-written : {after : List ℕ} {end : ℕ} → MarksWritten marks n then marks-at after end → AtFront (tableFile table images marks n k) before after end
-      unfolding fileOf placed
-      rule-written {after} {end} u = record {
-        holds = whole .holds ∙ ap (λ (i : ℕ). file ++ drop i before) (zero-add (length file));
-        counts = whole .ends ∙ zero-add _;
-      }
+      unfolding fileOf
+      rule-written {after} {end} u = written-at-front whole
         where
           m : Morphism
           m = tableMorphism table images n k

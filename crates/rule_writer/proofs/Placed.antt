@@ -4,10 +4,11 @@ use Prim.Native.Nat.{ℕ, _+_, _≤_, _<_}
 use mathlib.Core.Path.{_≡_, refl, sym, ap, ap₂, _∙_}
 use mathlib.Core.List.{List, [], _∷_, _++_, append-assoc}
 use native.Mathlib.Omega.{arith}
-use native.Mathlib.Nat.{add-zero, add-assoc}
+use native.Mathlib.Nat.{add-zero, zero-add, add-assoc}
 use native.Mathlib.Numerals.{add-one}
 use lib.ListN.{length, take, drop, set, length-set, length-append, length-drop, take-append-drop}
 use lib.Seq.{length-take-le, take-at, drop-at, take-append-le, take-take, drop-drop, set-split}
+use Rattle.formats.specs.Front.{AtFront}
 use Rattle.rule_writer.specs.Writing.{placed, Written}
 
 -- nothing put anywhere
@@ -95,6 +96,12 @@ module _ {d : List ℕ} {at : ℕ} {x : List ℕ} {e : List ℕ} {mid : ℕ} (w 
     holds = v .holds ∙ ap₂ (λ (l : List ℕ) (i : ℕ). placed l i y) (w .holds) (w .ends) ∙ placed-after d at x y h;
     ends = omega (arith, v .ends, w .ends, length-append x y);
   }
+
+-- what was written at place 0 is at the front
+pub written-at-front : {before bytes after : List ℕ} {end : ℕ} → Written before 0 bytes after end → AtFront bytes before after end
+unfolding placed
+written-at-front {before} {bytes} w =
+    record { holds = w .holds ∙ ap (λ (k : ℕ). bytes ++ drop k before) (zero-add (length bytes)); counts = w .ends ∙ zero-add (length bytes) }
 
 -- two stores in a row wrote two bytes
 pub written-two : (d : List ℕ) (at a b : ℕ) → at + 2 ≤ length d → Written d at (a ∷ b ∷ []) (set (set d at a) (at + 1) b) (at + 2)

@@ -11,8 +11,7 @@ use Rattle.answer.specs.declared.Refusal.the-variants.{BufferTooShort}
 use Rattle.answer.specs.Checks.{passed, FirstFailure}
 use Rattle.answer.proofs.Order.{first-passes, none-left, passed-before, passed-last, passes-head, passes-tail}
 use Rattle.theory.specs.Grades.{StrongMarking}
-use Rattle.theory.proofs.GradedStrength.{marking-strong-dec}
-use Rattle.rule_check.proofs.CheckedRule.{graded-marks}
+use Rattle.rule_check.proofs.CheckedRule.{strong-of}
 use Rattle.formats.specs.RuleFile.{morphismOf, markingOf}
 use Rattle.formats.specs.RuleChecks.{ruleSize, scratchSize}
 use Rattle.formats.proofs.Buffers.{buffer-short, buffer-long, buffer-single}
@@ -20,7 +19,6 @@ use Rattle.promises.specs.declared.Inspected.{Inspected}
 use Rattle.promises.specs.declared.Inspected.the-variants.{Rule as Inspected-rule, Refused as Inspected-refused}
 use Rattle.promises.specs.Inspect.{RuleCounts, InspectPromise}
 use Rattle.formats.specs.Calls.{checkedChecks, afterCall, scratchLeft}
-use Rattle.rule_check.specs.GoodRule.{GoodRule}
 use Rattle.rule_check.proofs.Promise.{zeros-after}
 use Rattle.formats.proofs.OneVerdict.{checked-single}
 use Rattle.rule_check.proofs.Left.{short-left, long-left}
@@ -39,14 +37,6 @@ use Rattle.promises.specs.declared.Summary.the-variants.{Counts, Refused}
 use Rattle.promises.specs.Summary.{summaryChecks, SummaryPromise}
 use Rattle.summary.specs.Steps.{CheckedNeeds, SizeFound, Measured}
 use Rattle.summary.proofs.Passing.{not-refused}
-
--- a good rule that is not weak is strong, since strength is decided
-strong-of : {bytes : List ℕ} → GoodRule bytes → ((StrongMarking (morphismOf bytes) (markingOf bytes) → ⊥) → ⊥) → StrongMarking (morphismOf bytes) (markingOf bytes)
-strong-of {bytes} good h = go (marking-strong-dec (good .lawful) (graded-marks good) (good .reached))
-  where
-    go : Dec (StrongMarking (morphismOf bytes) (markingOf bytes)) → StrongMarking (morphismOf bytes) (markingOf bytes)
-    go (yes strong) = strong
-    go (no weak) = absurd (h weak)
 
 -- below the check: the rule passes, and the buffers have their sizes
 module _ {bytes work entry : List ℕ} (p : CheckedNeeds bytes work entry) where

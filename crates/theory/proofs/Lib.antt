@@ -6,6 +6,8 @@ pub mod Powers
 pub mod Conjugacy
 pub mod IdempotentPowers
 pub mod BestConjugates
+pub mod Carried
+pub mod SameGrades
 pub mod Turns
 pub mod Cuts
 pub mod Membership
@@ -32,3 +34,4 @@ pub mod Examples
 pub mod Exclusions
 pub mod RivalExclusions
 pub mod SmallReductions
+pub mod RoundExclusions

@@ -5,3 +5,4 @@ pub mod Pairs
 pub mod Grades
 pub mod Smallest
 pub mod Inclusion
+pub mod Rounds

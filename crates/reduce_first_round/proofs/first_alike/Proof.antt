@@ -2,7 +2,7 @@
 use Prim.Native.Nat.{_-_}
 use native.Mathlib.Omega.{arith}
 use Rattle.formats.specs.Table.{morphismAt}
-use Rattle.minimality.specs.Rounds.{SameOutcomes}
+use Rattle.theory.specs.Rounds.{SameOutcomes}
 use Rattle.reduce_first_round.specs.Map.{outcomeAt}
 use Rattle.reduce_first_round.proofs.Comparing.{same-refl}
 use Rattle.reduce_first_round.proofs.BlockBytes.{NoneBelow, none-start, none-next, none-found, none-all}

@@ -3,7 +3,7 @@ use Prim.Native.Nat.{_-_}
 use native.Mathlib.Omega.{arith}
 use Rattle.scratch.specs.Map.{blocksBase}
 use Rattle.formats.specs.Table.{morphismAt}
-use Rattle.minimality.specs.Rounds.{Together}
+use Rattle.theory.specs.Rounds.{Together}
 use Rattle.reduce_first_round.specs.Map.{outcomeAt}
 use Rattle.reduce_first_round.specs.Steps.{BlocksWritten}
 use Rattle.scratch.proofs.Unchanged.{unchanged-room}
