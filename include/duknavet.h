@@ -3,7 +3,7 @@
  *
  * What a caller owes
  *   - Each pointer is not null, also for a length of 0, and good for its length.
- *   - A buffer that is written (out, scratch, u and v of duknavet_included, points of duknavet_keep) overlaps no other
+ *   - A buffer that is written (out, blocks, scratch, u and v of duknavet_included, points of duknavet_keep) overlaps no other
  *     argument's bytes during the call. Bytes that are only read may overlap.
  *   - Nothing else: any bytes of any length, and any numbers, have their answer. No call keeps a pointer, allocates, or
  *     uses memory shared between calls; calls on different buffers may run at the same time.
@@ -49,9 +49,13 @@ extern "C" {
 #define DUKNAVET_U 64          /* u of included */
 #define DUKNAVET_V 4224        /* v of included */
 #define DUKNAVET_POINTS 24     /* points of keep and return: three bytes for each of the names 0 to 7 */
+#define DUKNAVET_BLOCKS 64     /* blocks of reduce_rounds: a byte for each element */
 
 /* The most letters that u or v of a lasso may have; the fewest is 0 for u and 1 for v. */
 #define DUKNAVET_WORD 4224
+
+/* The highest limit of reduce_rounds. */
+#define DUKNAVET_MOST_ROUNDS 64
 
 /* The value of a monitor that stands for no letters. */
 #define DUKNAVET_NONE 64
@@ -62,7 +66,8 @@ extern "C" {
 /* Why a call refuses, in byte 0 of an answer, with the place that the answer holds. The first check that fails is
  * answered: 13, then 1 to 3 section by section, 4, 5, 6, 7 and 8 pair by pair, the second input's own, then 3 for a monitor's
  * values, 11 for u, then v, or for a verdict, 10 in u, then v, or for an event, 12. For an automaton: 13, 1 to 4, 8, 14. For
- * keep and return: 13, the rule's, 15, 16, 3 for the values of the monitor and of every kept name. */
+ * keep and return: 13, the rule's, 15, 16, 3 for the values of the monitor and of every kept name. For reduce_rounds: 13, the
+ * rule's, 20, 12. */
 enum duknavet_refusal {
     DUKNAVET_RESULT = 0,               /* no refusal */
     DUKNAVET_TRUNCATED = 1,            /* bytes end inside a count or section: the length of the input */
@@ -79,7 +84,8 @@ enum duknavet_refusal {
     DUKNAVET_BUFFER_TOO_SHORT = 13,    /* a lent buffer is too short: 0 */
     DUKNAVET_TOO_MANY_MATRICES = 14,   /* an automaton has more than 64 matrices: 0 */
     DUKNAVET_NAME_OUT_OF_RANGE = 15,   /* a point's name is above 7: 0 */
-    DUKNAVET_NAME_NEVER_KEPT = 16      /* a return goes to a name that was never kept: 0 */
+    DUKNAVET_NAME_NEVER_KEPT = 16,     /* a return goes to a name that was never kept: 0 */
+    DUKNAVET_LIMIT_OUT_OF_RANGE = 20   /* a limit of rounds is above 64: 0 */
 };
 
 /* The refusal of an answer; DUKNAVET_RESULT where it is a result. */
@@ -145,6 +151,17 @@ uint64_t duknavet_included(const uint8_t *rule, size_t rule_length,
 uint64_t duknavet_reduce(const uint8_t *rule, size_t rule_length,
                          uint8_t *out, size_t out_length,
                          uint8_t *scratch, size_t scratch_length);
+
+/* The reduction of a strong rule by rounds: which elements stand together after at most limit rounds (0 to DUKNAVET_MOST_ROUNDS)
+ * after round 0. Round 0 puts s and t together if, for every element z, lassos with the values (s, z) and (t, z) have equal
+ * grades, and so have those with (z, s) and (z, t). A further round keeps them together if their products with each letter's
+ * element, on the right and on the left, stood together too. The rounds stop at the first that one more would not change, or at the
+ * limit. Field 0: the rounds done after round 0. Field 1: 1 if one round more would change nothing; the blocks are then the elements
+ * of the smallest rule. blocks (DUKNAVET_BLOCKS) gets a byte for each element, the least element of its block. */
+uint64_t duknavet_reduce_rounds(const uint8_t *rule, size_t rule_length,
+                                size_t limit,
+                                uint8_t *blocks, size_t blocks_length,
+                                uint8_t *scratch, size_t scratch_length);
 
 /* The rule that gives grade 3 to the lassos on which some run of a Buchi automaton from an initial state meets a final state
  * again and again, and grade 0 to all others. The automaton file: a count of states, 1 to 6, a byte each (0 plain, 1 initial,

@@ -39,10 +39,12 @@ pub enum Refusal {
     NameOutOfRange = 15,
     /// A return goes to a name that was never kept.
     NameNeverKept = 16,
+    /// A limit of rounds is above [`MOST_ROUNDS`](crate::MOST_ROUNDS).
+    LimitOutOfRange = 20,
 }
 
 impl Refusal {
-    /// The refusal's number, 1 to 16, never 9.
+    /// The refusal's number, 1 to 20; never 9, and so far none from 17 to 19.
     pub fn number(self) -> u8 {
         self as u8
     }
@@ -65,6 +67,7 @@ impl Refusal {
             14 => Refusal::TooManyMatrices,
             15 => Refusal::NameOutOfRange,
             16 => Refusal::NameNeverKept,
+            20 => Refusal::LimitOutOfRange,
             _ => return None,
         })
     }
@@ -161,7 +164,7 @@ mod tests {
         for number in 0..=255 {
             match Refusal::from_number(number) {
                 Some(refusal) => assert_eq!(refusal.number(), number),
-                None => assert!(number == 0 || number == 9 || number > 16),
+                None => assert!(matches!(number, 0 | 9 | 17..=19) || number > 20),
             }
         }
     }

@@ -45,7 +45,7 @@ pub use markings::{classes, complement, included, strong};
 pub use markings::{Classes, Complemented, Inclusion, Strength};
 pub use monitors::{event, fresh, keep, mark, return_to, verdict};
 pub use monitors::{Monitor, NotMoved, Verdict};
-pub use reductions::{reduce, Reduced};
+pub use reductions::{reduce, reduce_rounds, Partition, Reduced};
 
 /// The bytes that a scratch must have; a longer one passes.
 pub const SCRATCH: usize = 65_536;
@@ -64,6 +64,12 @@ pub const V_OUT: usize = 4_224;
 
 /// The bytes that the named points of a monitor must have: three for each of the names 0 to 7.
 pub const POINTS: usize = 24;
+
+/// The bytes that a buffer for the blocks of a reduction's rounds must have.
+pub const BLOCKS: usize = 64;
+
+/// The most rounds that a reduction by rounds may be asked for.
+pub const MOST_ROUNDS: usize = 64;
 
 /// The most letters that u or v of a lasso may have; only u may have none.
 pub const WORD: usize = 4_224;

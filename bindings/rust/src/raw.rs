@@ -106,6 +106,15 @@ mod exported {
             scratch: *mut u8,
             scratch_length: usize,
         ) -> u64;
+        pub fn duknavet_reduce_rounds(
+            rule: *const u8,
+            rule_length: usize,
+            limit: usize,
+            blocks: *mut u8,
+            blocks_length: usize,
+            scratch: *mut u8,
+            scratch_length: usize,
+        ) -> u64;
         pub fn duknavet_automaton_rule(
             automaton: *const u8,
             automaton_length: usize,
@@ -296,6 +305,21 @@ pub fn reduce(rule: &[u8], out: &mut [u8], scratch: &mut [u8]) -> u64 {
             rule.len(),
             out.as_mut_ptr(),
             out.len(),
+            scratch.as_mut_ptr(),
+            scratch.len(),
+        )
+    }
+}
+
+pub fn reduce_rounds(rule: &[u8], limit: usize, blocks: &mut [u8], scratch: &mut [u8]) -> u64 {
+    // SAFETY: as for `classes`.
+    unsafe {
+        exported::duknavet_reduce_rounds(
+            rule.as_ptr(),
+            rule.len(),
+            limit,
+            blocks.as_mut_ptr(),
+            blocks.len(),
             scratch.as_mut_ptr(),
             scratch.len(),
         )

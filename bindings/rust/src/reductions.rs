@@ -1,6 +1,6 @@
-//! The smallest strong rule with the same grades.
+//! The smallest strong rule with the same grades, at once or by rounds.
 
-use crate::answer::unpack_length;
+use crate::answer::{foreign, unpack, unpack_length};
 use crate::{raw, Refused};
 
 /// A reduction that was written.
@@ -17,4 +17,37 @@ pub struct Reduced {
 pub fn reduce(rule: &[u8], out: &mut [u8], scratch: &mut [u8]) -> Result<Reduced, Refused> {
     let length = unpack_length(raw::reduce(rule, out, scratch), out.len())?;
     Ok(Reduced { length })
+}
+
+/// Where the rounds of a reduction stand.
+#[derive(Clone, Copy, Debug, PartialEq, Eq, Hash)]
+pub struct Partition {
+    /// How many rounds were done after round 0: at most the limit, and as many as that where they are not finished.
+    pub rounds: usize,
+    /// Whether one round more would change nothing. The blocks are then the elements of the smallest rule.
+    pub finished: bool,
+}
+
+/// The reduction of a strong rule by rounds: which elements stand together after at most `limit` rounds.
+///
+/// Round 0 puts s and t together if lassos with the values (s, z) and (t, z), and those with (z, s) and (z, t), have equal grades for
+/// every element z. A further round keeps them together if their products with each letter's element, on the right and on the left,
+/// stood together too. The rounds stop at the first that one more would not change, or at the limit.
+///
+/// The first bytes of `blocks`, one for each element, are the least elements of the elements' blocks; the others are kept. `blocks` has
+/// [`BLOCKS`](crate::BLOCKS) bytes or more, and `limit` is at most [`MOST_ROUNDS`](crate::MOST_ROUNDS); a weak rule is refused.
+pub fn reduce_rounds(
+    rule: &[u8],
+    limit: usize,
+    blocks: &mut [u8],
+    scratch: &mut [u8],
+) -> Result<Partition, Refused> {
+    let packed = raw::reduce_rounds(rule, limit, blocks, scratch);
+    match unpack(packed)? {
+        [rounds, finished @ 0..=1, 0] if rounds <= limit => Ok(Partition {
+            rounds,
+            finished: finished == 1,
+        }),
+        _ => foreign(packed, "the result is no number of rounds within the limit"),
+    }
 }

@@ -2,9 +2,11 @@
 //! of cycles.
 
 use duknavet::{automaton_rule, classes, complement, event, fresh, included, keep, mark, member};
-use duknavet::{reduce, return_to, strong, verdict, Classes, Inclusion, Membership, Monitor};
-use duknavet::{Refusal, Refused, Strength, Verdict};
-use duknavet::{CLASSES_OUT, NONE, POINTS, RULE_OUT, SCRATCH, U_OUT, V_OUT, WORD};
+use duknavet::{reduce, reduce_rounds, return_to, strong, verdict, Classes, Inclusion, Membership};
+use duknavet::{Monitor, Partition, Refusal, Refused, Strength, Verdict};
+use duknavet::{
+    BLOCKS, CLASSES_OUT, MOST_ROUNDS, NONE, POINTS, RULE_OUT, SCRATCH, U_OUT, V_OUT, WORD,
+};
 
 /// Letter 0 without end, over letters 0 and 1.
 const W: [u8; 13] = [2, 0, 0, 0, 1, 2, 0, 1, 1, 0, 0, 0, 3];
@@ -282,6 +284,33 @@ fn named_points_of_w() {
     let stray = return_to(&W, first, 7, points, scratch).expect_err("W has two elements");
     assert_eq!(stray.monitor, first);
     assert_eq!(Err::<(), _>(stray.refused), refused(3, 1, 0));
+}
+
+#[test]
+fn rounds_of_a_count() {
+    // How often letter 1 occurs, up to twice, and more often; grade 3 for just twice.
+    let rule = [
+        4, 0, 1, 2, 3, 1, 2, 3, 3, 2, 3, 3, 3, 3, 3, 3, 3, 2, 0, 1, 1, 0, 2, 0, 3,
+    ];
+    let within = |rule: &[u8], limit| {
+        let mut blocks = [9; BLOCKS];
+        let answer = reduce_rounds(rule, limit, &mut blocks, &mut scratch());
+        (answer, blocks[..5].to_vec())
+    };
+    let done = |rounds, finished| Ok(Partition { rounds, finished });
+    assert_eq!(within(&rule, 0), (done(0, false), vec![0, 1, 2, 1, 9]));
+    for limit in [1, 2, MOST_ROUNDS] {
+        assert_eq!(within(&rule, limit), (done(1, true), vec![0, 1, 2, 3, 9]));
+    }
+    assert_eq!(
+        within(&rule, MOST_ROUNDS + 1),
+        (refused(20, 1, 0), vec![9; 5])
+    );
+    // 20 comes before 12, and 13 before all.
+    assert_eq!(within(&Z, MOST_ROUNDS), (refused(12, 1, 0), vec![9; 5]));
+    assert_eq!(within(&Z, MOST_ROUNDS + 1), (refused(20, 1, 0), vec![9; 5]));
+    let short = reduce_rounds(&Z, MOST_ROUNDS + 1, &mut [9; BLOCKS - 1], &mut scratch());
+    assert_eq!(short, refused(13, 1, 0));
 }
 
 #[test]

@@ -6,7 +6,7 @@
 #include "duknavet.h"
 
 static uint8_t out[DUKNAVET_RULE], classes[DUKNAVET_CLASSES], u[DUKNAVET_U], v[DUKNAVET_V];
-static uint8_t points[DUKNAVET_POINTS], scratch[DUKNAVET_SCRATCH];
+static uint8_t points[DUKNAVET_POINTS], blocks[DUKNAVET_BLOCKS], scratch[DUKNAVET_SCRATCH];
 static int failures;
 
 static void expect(const char *what, int holds)
@@ -32,6 +32,8 @@ int main(void)
     static const uint8_t three_grades[] = {2, 0, 0, 0, 1, 2, 0, 1, 3, 0, 0, 0, 3, 0, 1, 2, 1, 1, 1};
     static const uint8_t automaton[] = {2, 1, 2, 2, 4, 0, 0, 0, 1, 0, 1, 0, 1, 0, 1, 1, 1, 0};
     static const uint8_t sums[] = {2, 0, 1, 1, 0, 2, 1, 0, 1, 0, 0, 0, 2};
+    static const uint8_t just_twice[] = {4, 0, 1, 2, 3, 1, 2, 3, 3, 2, 3, 3, 3, 3, 3, 3, 3, 2, 0, 1, 1, 0, 2, 0, 3};
+    static const uint8_t first_blocks[] = {0, 1, 2, 1, 0}, last_blocks[] = {0, 1, 2, 3, 0};
     static const uint8_t one_letter[] = {2, 0, 1, 1, 0, 1, 1, 0, 0};
     static const uint8_t letter[] = {0, 1, 2};
     uint64_t answer;
@@ -47,6 +49,12 @@ int main(void)
     expect("complement", is_result(duknavet_complement(rule, sizeof rule, out, sizeof out, scratch, sizeof scratch), 16, 0, 0));
     expect("reduce", is_result(duknavet_reduce(every_mark, sizeof every_mark, out, sizeof out, scratch, sizeof scratch), 10, 0, 0));
     expect("reduced", memcmp(out, one_element, sizeof one_element) == 0);
+    answer = duknavet_reduce_rounds(just_twice, sizeof just_twice, 0, blocks, sizeof blocks, scratch, sizeof scratch);
+    expect("rounds", is_result(answer, 0, 0, 0) && memcmp(blocks, first_blocks, 5) == 0);
+    answer = duknavet_reduce_rounds(just_twice, sizeof just_twice, DUKNAVET_MOST_ROUNDS, blocks, sizeof blocks, scratch, sizeof scratch);
+    expect("finished", is_result(answer, 1, 1, 0) && memcmp(blocks, last_blocks, 5) == 0);
+    answer = duknavet_reduce_rounds(sums, sizeof sums, DUKNAVET_MOST_ROUNDS + 1, blocks, sizeof blocks, scratch, sizeof scratch);
+    expect("limit", duknavet_refusal_of(answer) == DUKNAVET_LIMIT_OUT_OF_RANGE && duknavet_input_of(answer) == 1);
     answer = duknavet_included(rule, sizeof rule, no_marks, sizeof no_marks, u, sizeof u, v, sizeof v, scratch, sizeof scratch);
     expect("included", duknavet_refusal_of(answer) == DUKNAVET_RESULT && duknavet_field(answer, 0) == 0);
     expect("witness", is_result(duknavet_member(rule, sizeof rule, u, duknavet_field(answer, 1), v, duknavet_field(answer, 2),

@@ -45,7 +45,7 @@ type Refusals = (&'static str, &'static [(u8, &'static [u8])]);
 
 /// Which refusals each call can answer, with their inputs: every number that applies to it.
 /// A rule's checks are 1 to 8; a second marks section has no table and no letters, so not 5 and 6.
-const REFUSALS: [Refusals; 12] = [
+const REFUSALS: [Refusals; 13] = [
     ("classes", &[(1, &[1, 2, 3, 4, 5, 6, 7, 8, 13])]),
     ("strong", &[(1, &[1, 2, 3, 4, 5, 6, 7, 8, 13])]),
     (
@@ -63,11 +63,15 @@ const REFUSALS: [Refusals; 12] = [
     ("keep", &[(1, &[1, 2, 3, 4, 5, 6, 7, 8, 13, 15])]),
     ("return_to", &[(1, &[1, 2, 3, 4, 5, 6, 7, 8, 13, 15, 16])]),
     ("reduce", &[(1, &[1, 2, 3, 4, 5, 6, 7, 8, 12, 13])]),
+    (
+        "reduce_rounds",
+        &[(1, &[1, 2, 3, 4, 5, 6, 7, 8, 12, 13, 20])],
+    ),
     ("automaton_rule", &[(1, &[1, 2, 3, 4, 8, 13, 14])]),
 ];
 
 /// Outcomes that must occur at least so often.
-const LEAST: [(&str, &str, u64); 121] = [
+const LEAST: [(&str, &str, u64); 129] = [
     ("classes", "counts", 1000),
     ("strong", "weak", 100),
     ("strong", "strong, marks closed", 1000),
@@ -154,6 +158,14 @@ const LEAST: [(&str, &str, u64); 121] = [
     ("reduce", "elements exchanged, and found", 1000),
     ("reduce", "the same from another numbering", 1000),
     ("reduce", "the same when reduced again", 5000),
+    ("reduce_rounds", "not finished", 200),
+    ("reduce_rounds", "finished in 0", 1000),
+    ("reduce_rounds", "finished in 1", 100),
+    ("reduce_rounds", "finished in 2 to 9", 50),
+    ("reduce_rounds", "finished in 10 or more", 100),
+    ("reduce_rounds", "finished at the limit", 500),
+    ("reduce_rounds", "61 rounds", 1),
+    ("reduce_rounds", "20 for a weak rule", 50),
     ("print", "equal: elements renumbered", 200),
     ("print", "equal: marks in another order", 50),
     ("print", "equal: marks closed", 30),
@@ -202,7 +214,7 @@ pub fn faults(tally: &Tally) -> Vec<String> {
     }
     for (call, inputs) in REFUSALS {
         for input in 1..=2 {
-            for number in 1..=16 {
+            for number in 1..=20 {
                 let here = |(i, numbers): &(u8, &[u8])| *i == input && numbers.contains(&number);
                 let applies = inputs.iter().any(here);
                 let occurred = tally.get(call, &refusal(number, input)) > 0;

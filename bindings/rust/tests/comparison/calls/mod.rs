@@ -7,6 +7,7 @@ mod monitors;
 mod points;
 mod prints;
 mod reductions;
+mod rounds;
 
 use crate::definitions::checks::Refusal;
 use crate::definitions::order;
@@ -23,6 +24,7 @@ pub use markings::{CLASSES_SIZES, COMPLEMENT_SIZES, INCLUDED_SIZES, STRONG_SIZES
 pub use monitors::MONITOR_SIZES;
 pub use points::POINTS_SIZES;
 pub use reductions::REDUCE_SIZES;
+pub use rounds::ROUNDS_SIZES;
 
 pub struct Comparison {
     pub random: Random,

@@ -8,6 +8,7 @@ pub mod contexts;
 pub mod cycles;
 pub mod equivalence;
 pub mod order;
+pub mod rounds;
 pub mod rule;
 pub mod settling;
 pub mod splits;

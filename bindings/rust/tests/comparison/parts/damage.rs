@@ -187,7 +187,7 @@ fn any_call(c: &mut Comparison, subject: &Subject, second: &[u8]) {
 }
 
 /// How many calls get a rule.
-const CALLS: usize = 11;
+const CALLS: usize = 12;
 
 /// A call by number, with further inputs that may be faulty too, and buffers that may be short.
 fn call(c: &mut Comparison, which: usize, subject: &Subject, second: &[u8]) {
@@ -207,6 +207,7 @@ fn call(c: &mut Comparison, which: usize, subject: &Subject, second: &[u8]) {
     };
     let letter = c.random.below(letters + 1) as u8;
     let name = c.random.below(9);
+    let limit = *c.random.pick(&[0, 1, 2, 63, 64, 64, 65]);
     let mut points = [0; POINTS];
     for bytes in points.chunks_mut(3) {
         bytes[0] = *c.random.pick(&[0, 0, 0, 1, 2, 255]);
@@ -260,9 +261,13 @@ fn call(c: &mut Comparison, which: usize, subject: &Subject, second: &[u8]) {
             let sizes = sizes(c, short, POINTS_SIZES);
             c.return_to(subject, monitor, name, &points, sizes);
         }
-        _ => {
+        10 => {
             let sizes = sizes(c, short, REDUCE_SIZES);
             c.reduce(subject, sizes)
+        }
+        _ => {
+            let sizes = sizes(c, short, ROUNDS_SIZES);
+            c.reduce_rounds(subject, limit, sizes);
         }
     }
 }

@@ -5,5 +5,6 @@ pub mod damage;
 pub mod large;
 pub mod logs;
 pub mod prints;
+pub mod rounds;
 pub mod rules;
 pub mod words;

@@ -65,6 +65,8 @@ pub fn every_call(c: &mut Comparison, subject: &Subject) {
     c.complement(subject, sizes);
     let sizes = c.enough(REDUCE_SIZES);
     c.reduce(subject, sizes);
+    let (limit, sizes) = (c.random.below(4), c.enough(ROUNDS_SIZES));
+    c.reduce_rounds(subject, limit, sizes);
     for _ in 0..4 {
         let most = if c.random.once_in(4) { 40 } else { 6 };
         let lengths = (c.random.within(0, most), c.random.within(1, most));
