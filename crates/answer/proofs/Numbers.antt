@@ -4,7 +4,7 @@ use mathlib.Core.Path.{_≡_, refl, sym, ap, _∙_}
 use mathlib.Core.List.{List, [], _∷_}
 use native.Mathlib.Omega.{arith}
 use Rattle.answer.specs.declared.Refusal.{Refusal}
-use Rattle.answer.specs.declared.Refusal.the-variants.{Truncated, CountOutOfRange, EntryOutOfRange, TrailingBytes, NotAssociative, Unreachable, NotLinked, Duplicate, UnknownLetter, WordLength, NotStrong, BufferTooShort, TooManyMatrices, NameOutOfRange, NameNeverKept, LimitOutOfRange}
+use Rattle.answer.specs.declared.Refusal.the-variants.{Truncated, CountOutOfRange, EntryOutOfRange, TrailingBytes, NotAssociative, Unreachable, NotLinked, Duplicate, UnknownLetter, WordLength, NotStrong, BufferTooShort, TooManyMatrices, NameOutOfRange, NameNeverKept, NoSuchState, LimitOutOfRange}
 use Rattle.answer.specs.Refusals.{numberOf}
 
 -- the place of a number in a list, the last refusal where the list ends
@@ -16,7 +16,7 @@ at (r ∷ rs) (suc n) = at rs n
 -- the refusal of a number; 0, 9 and others that none has have the last
 unfoldable refusalOf : ℕ → Refusal
 unfolding at
-refusalOf n = at (LimitOutOfRange ∷ Truncated ∷ CountOutOfRange ∷ EntryOutOfRange ∷ TrailingBytes ∷ NotAssociative ∷ Unreachable ∷ NotLinked ∷ Duplicate ∷ LimitOutOfRange ∷ UnknownLetter ∷ WordLength ∷ NotStrong ∷ BufferTooShort ∷ TooManyMatrices ∷ NameOutOfRange ∷ NameNeverKept ∷ []) n
+refusalOf n = at (LimitOutOfRange ∷ Truncated ∷ CountOutOfRange ∷ EntryOutOfRange ∷ TrailingBytes ∷ NotAssociative ∷ Unreachable ∷ NotLinked ∷ Duplicate ∷ LimitOutOfRange ∷ UnknownLetter ∷ WordLength ∷ NotStrong ∷ BufferTooShort ∷ TooManyMatrices ∷ NameOutOfRange ∷ NameNeverKept ∷ NoSuchState ∷ []) n
 
 back : (r : Refusal) → refusalOf (numberOf r) ≡ r
 unfolding refusalOf at
@@ -35,6 +35,7 @@ back BufferTooShort = refl
 back TooManyMatrices = refl
 back NameOutOfRange = refl
 back NameNeverKept = refl
+back NoSuchState = refl
 back LimitOutOfRange = refl
 
 pub same-number : (r r′ : Refusal) → numberOf r ≡ numberOf r′ → r ≡ r′
@@ -57,4 +58,5 @@ nine-unused BufferTooShort e = omega (arith, e)
 nine-unused TooManyMatrices e = omega (arith, e)
 nine-unused NameOutOfRange e = omega (arith, e)
 nine-unused NameNeverKept e = omega (arith, e)
+nine-unused NoSuchState e = omega (arith, e)
 nine-unused LimitOutOfRange e = omega (arith, e)

@@ -35,6 +35,8 @@ pub enum Refusal {
     NameOutOfRange,
     // Document 02, Job 1: return to a name never kept.
     NameNeverKept,
+    // Document 02, Job 5: no such state.
+    NoSuchState,
     // Document 02, Job 9: limit above 64.
     LimitOutOfRange,
 }
@@ -59,6 +61,7 @@ pub fn number(r: Refusal) -> u8
         Refusal::TooManyMatrices => 14,
         Refusal::NameOutOfRange => 15,
         Refusal::NameNeverKept => 16,
+        Refusal::NoSuchState => 17,
         Refusal::LimitOutOfRange => 20,
     }
 }

@@ -8,14 +8,15 @@ use native.Mathlib.Omega.{arith}
 use lib.Dec.{T, eqb}
 use mir.Facts.{eqb-yes}
 use Rattle.theory.specs.Words.{over-nil, over-cons}
-use Rattle.theory.specs.Rules.{level, join, value}
-use Rattle.theory.proofs.SmallRules.{Z₀, W₀, W₀-lawful}
+use Rattle.theory.specs.Rules.{Pairs, none, element, level, join, value}
+use Rattle.theory.proofs.SmallRules.{table, W, Z, Z₀, W₀, W₀-lawful}
 use Rattle.theory.proofs.Computing.{over-test, lasso-test, lasso-elim}
 use Rattle.theory.proofs.EveryLasso.{one}
 use Rattle.theory.proofs.Exclusions.{no-word}
 use Rattle.buchi.specs.Automata.{Automaton, WordPath, FinalPath, final-here, final-later, path-end, path-step, AcceptingRun}
 use Rattle.buchi.specs.Matrices.{Matrix, IsEntry}
 use Rattle.buchi.specs.Rule.{MatricesOf, Recurs, MarkedBy, AcceptsRuns, MoreMatrices}
+use Rattle.buchi.specs.RuleAutomaton.{isValue, isState, valueNumber, numberedValue, letterThen, thenCycle, leads, stateNumber, stateRest, stateCycle, numbersState, transition, ruleAutomaton}
 use Rattle.buchi.proofs.Paths.{path-from}
 use Rattle.buchi.proofs.Products.{same-trans, same-or-other}
 use Rattle.buchi.proofs.WordMatrices.{entry-unique, path-matrix, final-matrix, letter-is-matrix, matrix-unique, matrix-of, word-is-matrix}
@@ -151,3 +152,46 @@ no-marks k = k .accepts (1 ∷ []) (0 ∷ []) (lasso-elim 2 (1 ∷ []) (0 ∷ []
 -- M10 has no more than 3 matrices
 pub no-fourth : ¬ MoreMatrices M10 3
 no-fourth k = omega (arith, matrices-size M10-lawful M10-three 3 k)
+
+-- ---- the automaton of a rule
+
+-- in Z 1·1 is 0, so (0, 1) is no state; and with two elements (2, 0) is none
+pub not-idempotent : isState Z (element 0) 1 ≡ false
+unfolding isState isValue
+not-idempotent = refl
+
+pub not-an-element : isState Z (element 2) 0 ≡ false
+unfolding isState isValue
+not-an-element = refl
+
+-- so its number is not initial, whatever is marked, and no transition leads from it, though h(0) = 1 = 0·1
+pub not-initial : (P : Pairs) → ruleAutomaton Z P .initial (stateNumber Z (element 0) 1) ≡ false
+unfolding ruleAutomaton numbersState isState isValue stateNumber stateRest stateCycle valueNumber numberedValue
+not-initial P = refl
+
+pub not-left : transition Z (stateNumber Z (element 0) 1) 0 (stateNumber Z none 1) ≡ false
+unfolding transition numbersState isState isValue stateNumber stateRest stateCycle valueNumber numberedValue
+not-left = refl
+
+-- from W's (1, 0), not linked, letter 1 leads to none by h(1) = s and letter 0 by h(0) = se; from (none, 0) letter 1 does not
+pub leads-by-rest : leads W (element 1) 0 1 none ≡ true
+unfolding leads letterThen thenCycle valueNumber join
+leads-by-rest = refl
+
+pub leads-by-cycle : leads W (element 1) 0 0 none ≡ true
+unfolding leads letterThen thenCycle valueNumber join
+leads-by-cycle = refl
+
+pub leads-nowhere : leads W none 0 1 none ≡ false
+unfolding leads letterThen thenCycle valueNumber join
+leads-nowhere = refl
+
+-- where each product is its left factor, h(0)·1 is 0 and not 1
+pub letter-in-front : leads (table ((0 ∷ 0 ∷ []) ∷ (1 ∷ 1 ∷ []) ∷ []) (0 ∷ [])) (element 1) 0 0 (element 1) ≡ false
+unfolding leads letterThen thenCycle valueNumber join
+letter-in-front = refl
+
+-- and where each is its right factor, 1·0 is 0: from (1, 0) letter 0 leads to none by h(0) = se
+pub cycle-behind : leads (table ((0 ∷ 1 ∷ []) ∷ (0 ∷ 1 ∷ []) ∷ []) (0 ∷ [])) (element 1) 0 0 none ≡ true
+unfolding leads letterThen thenCycle valueNumber join
+cycle-behind = refl

@@ -8,6 +8,8 @@ pub mod Recurrence
 pub mod LassoRuns
 pub mod MatrixTests
 pub mod AutomatonRule
+pub mod RuleStates
+pub mod RuleRuns
 pub mod MatrixTables
 pub mod MatrixLists
 pub mod Numberings

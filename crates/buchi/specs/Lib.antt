@@ -1,3 +1,4 @@
 pub mod Automata
 pub mod Matrices
 pub mod Rule
+pub mod RuleAutomaton

@@ -8,18 +8,21 @@ use mathlib.Core.Bool.{Bool, true, false}
 use mathlib.Core.List.{List, [], _∷_, _++_}
 use native.Mathlib.Omega.{arith}
 use native.Mathlib.Nat.{mul-le-mul}
+use lib.ListN.{length}
+use Rattle.finite.specs.Select.{select}
 use Rattle.finite.proofs.Numbers.{le-or-lt}
 use Rattle.answer.proofs.Order.{passed-first, passed-last, passes-head, passes-tail}
 use Rattle.answer.proofs.Limits.{Limited, limited-nil, limited-cons, limited-append}
 use Rattle.theory.specs.Rules.{Morphism, Marking}
 use Rattle.theory.specs.Pairs.{LinkedPairs, Classes, LeastExponent}
-use Rattle.formats.specs.RuleFile.{elementsOf, lettersOf}
+use Rattle.formats.specs.RuleFile.{elementsOf, lettersOf, morphismOf}
 use Rattle.formats.specs.RuleChecks.{ruleSize, bufferCheck}
 use Rattle.formats.specs.Calls.{checkedChecks}
 use Rattle.rule_check.proofs.Calls.{called-good}
 use Rattle.rule_check.proofs.CheckedRule.{graded-marks}
 use Rattle.theory.proofs.Gradings.{graded-small, lassos-small}
 use Rattle.formats.specs.ReadBack.{WrittenRule}
+use Rattle.formats.proofs.Listed.{select-listed}
 use Rattle.promises.specs.Weak.{WeakAt, weakCheck}
 use Rattle.promises.specs.declared.Monitor.{Monitor}
 use Rattle.promises.specs.Monitor.{freshMonitor, MonitorValueOutOfRangeAt, monitorChecks}
@@ -50,18 +53,28 @@ use Rattle.promises.specs.Reduce.{ReducePromise}
 use Rattle.promises.specs.declared.Partition.{Partition}
 use Rattle.promises.specs.declared.Partition.the-variants.{Blocks, Refused as Not-partitioned}
 use Rattle.promises.specs.Rounds.{LimitOutOfRangeAt, limitCheck, RoundsPromise}
+use Rattle.promises.specs.declared.StateKind.{StateKind}
+use Rattle.promises.specs.declared.StateKind.the-variants.{Plain, Initial, Final, Refused as No-kind}
+use Rattle.promises.specs.declared.SuccessorList.{SuccessorList}
+use Rattle.promises.specs.declared.SuccessorList.the-variants.{Listed as Successors, Refused as No-successors}
+use Rattle.promises.specs.RuleAutomaton.{stateOf, LeastOutOfRangeAt, NoSuchStateAt, successorsOf, KindPromise, SuccessorsPromise}
+use Rattle.buchi.specs.RuleAutomaton.{transition}
 use Rattle.promises.specs.declared.Strength.{Strength}
 use Rattle.promises.specs.declared.Strength.the-variants.{Strong, Weak, Refused as Not-decided}
 use Rattle.promises.specs.Strong.{StrongPromise}
 use Rattle.promises.specs.declared.MonitorVerdict.{MonitorVerdict}
 use Rattle.promises.specs.declared.MonitorVerdict.the-variants.{Decided as Judged, Refused as Not-judged}
-use Rattle.packing.specs.Packing.{unpack, listedContents, strengthContents, membershipContents, complementedContents, reducedContents, bit, partitionContents, translatedContents, inclusionContents, monitorContents, movedContents, monitorVerdictContents, packMonitor}
+use Rattle.packing.specs.Packing.{unpack, listedContents, strengthContents, membershipContents, complementedContents, reducedContents, bit, partitionContents, translatedContents, inclusionContents, monitorContents, movedContents, monitorVerdictContents, kindContents, successorsContents, packMonitor}
 use Rattle.packing.proofs.ReadBack.{FieldsFit, Fits, read-back}
-use Rattle.packing.proofs.Contents.{listed-told, strength-told, membership-told, complemented-told, reduced-told, partition-told, translated-told, inclusion-told, judged-told, moved-told}
-use Rattle.exports.specs.Exports.{ExportedClasses, ExportedStrength, ExportedMember, ExportedComplement, ExportedInclusion, ExportedEvent, ExportedMark, ExportedKeep, ExportedReturn, ExportedReduction, ExportedRounds, ExportedVerdict, ExportedAutomaton}
+use Rattle.packing.proofs.Contents.{listed-told, strength-told, membership-told, complemented-told, reduced-told, partition-told, translated-told, inclusion-told, judged-told, moved-told, kind-told, successors-told}
+use Rattle.exports.specs.Exports.{ExportedClasses, ExportedStrength, ExportedMember, ExportedComplement, ExportedInclusion, ExportedEvent, ExportedMark, ExportedKeep, ExportedReturn, ExportedReduction, ExportedRounds, ExportedVerdict, ExportedAutomaton, ExportedKind, ExportedSuccessors}
 use Rattle.exports.proofs.Limits.{Near, refused-fits, at-zero, buffer-limited, checked-limited, second-limited, lasso-limited}
 use Rattle.exports.proofs.AutomatonLimits.{translated-limited}
 use Rattle.exports.proofs.Monitors.{mark-fits, event-fits, keep-fits, return-fits}
+
+-- a number below 2 to the power 16 alone
+one-fits : {a : ℕ} → a ≤ 65535 → FieldsFit a 0 0
+one-fits h = record { first = omega arith; second = omega arith; third = omega arith }
 
 -- yes or no
 bit-fits : {a : ℕ} → a ≤ 1 → FieldsFit a 0 0
@@ -206,6 +219,28 @@ verdict-fits {bytes} {f} {entry} (Not-judged r i place) p =
     (λ _. limited-cons (λ place (a : NoneAt _ place). at-zero (a .is-place))
     (λ _. limited-cons (λ place (a : WeakAt _ place). at-zero (a .is-place)) (λ _. limited-nil)))) (p .refusal)
 
+-- state_kind, successors
+kind-fits : {bytes : List ℕ} {s e least : ℕ} {entry exit : List ℕ} (answer : StateKind) → KindPromise bytes s e least entry exit answer → Fits (kindContents answer)
+kind-fits Plain p = one-fits (omega arith)
+kind-fits Initial p = one-fits (omega arith)
+kind-fits Final p = one-fits (omega arith)
+kind-fits {bytes} {entry = entry} (No-kind r i place) p =
+    refused-fits r (limited-append (checkedChecks 1 bytes entry) (checked-limited bytes entry)
+    (λ _. limited-cons (λ place (a : LeastOutOfRangeAt _ place). at-zero (a .is-place))
+    (λ _. limited-cons (λ place (a : NoSuchStateAt _ _ _ place). at-zero (a .is-place)) (λ _. limited-nil)))) (p .refusal)
+
+successors-short : (m : Morphism) (s e letter : ℕ) → length (successorsOf m s e letter) ≤ 65
+unfolding successorsOf select
+successors-short m s e letter = select-listed (λ t. transition m (stateOf m s e) letter (stateOf m t e)) 0 65 .short
+
+successors-fits : {bytes : List ℕ} {s e letter : ℕ} {before after entry exit : List ℕ} (answer : SuccessorList)
+    → SuccessorsPromise bytes s e letter before after entry exit answer → Fits (successorsContents answer)
+successors-fits {bytes} {s} {e} {letter} (Successors count) p = one-fits (omega (arith, p .answered .counts, successors-short (morphismOf bytes) s e letter))
+successors-fits {bytes} {entry = entry} (No-successors r i place) p =
+    refused-fits r (buffer-limited (limited-append (checkedChecks 1 bytes entry) (checked-limited bytes entry)
+    (λ _. limited-cons (λ place (a : NoSuchStateAt _ _ _ place). at-zero (a .is-place))
+    (λ _. limited-cons (λ place (a : LoneUnknownLetterAt _ _ place). at-zero (a .is-place)) (λ _. limited-nil))))) (p .refusal)
+
 -- the number of a call is read back as what its answer holds
 pub fresh-read : unpack (packMonitor freshMonitor) ≡ monitorContents freshMonitor
 fresh-read = read-back _ (record { first = omega arith; second = omega arith; third = omega arith })
@@ -213,6 +248,9 @@ fresh-read = read-back _ (record { first = omega arith; second = omega arith; th
 module _ {bytes entry exit : List ℕ} {r : ℕ} where
   pub strong-read : (x : ExportedStrength bytes entry exit r) → unpack r ≡ strengthContents (x .answer)
   strong-read x = ap unpack (x .packed) ∙ read-back _ (strength-fits (x .answer) (x .promise))
+
+  pub kind-read : {s e least : ℕ} (x : ExportedKind bytes s e least entry exit r) → unpack r ≡ kindContents (x .answer)
+  kind-read x = ap unpack (x .packed) ∙ read-back _ (kind-fits (x .answer) (x .promise))
 
   module _ {f : Monitor} where
     pub event-read : {letter : ℕ} (x : ExportedEvent bytes f letter entry exit r) → unpack r ≡ movedContents (x .answer)
@@ -243,6 +281,9 @@ module _ {bytes entry exit : List ℕ} {r : ℕ} where
     pub rounds-read : {limit : ℕ} (x : ExportedRounds bytes limit before after entry exit r) → unpack r ≡ partitionContents (x .answer)
     rounds-read x = ap unpack (x .packed) ∙ read-back _ (rounds-fits (x .answer) (x .promise))
 
+    pub successors-read : {s e letter : ℕ} (x : ExportedSuccessors bytes s e letter before after entry exit r) → unpack r ≡ successorsContents (x .answer)
+    successors-read x = ap unpack (x .packed) ∙ read-back _ (successors-fits (x .answer) (x .promise))
+
     pub automaton-rule-read : (x : ExportedAutomaton bytes before after entry exit r) → unpack r ≡ translatedContents (x .answer)
     automaton-rule-read x = ap unpack (x .packed) ∙ read-back _ (automaton-fits (x .answer) (x .promise))
 
@@ -257,6 +298,10 @@ module _ {bytes entry exit : List ℕ} {r : ℕ} where
 module _ {bytes entry exit bytes′ entry′ exit′ : List ℕ} {r : ℕ} where
   pub strong-told : (x : ExportedStrength bytes entry exit r) (y : ExportedStrength bytes′ entry′ exit′ r) → x .answer ≡ y .answer
   strong-told x y = strength-told _ _ (sym (strong-read x) ∙ strong-read y)
+
+  pub state-kind-told : {s e least s′ e′ least′ : ℕ} (x : ExportedKind bytes s e least entry exit r) (y : ExportedKind bytes′ s′ e′ least′ entry′ exit′ r)
+      → x .answer ≡ y .answer
+  state-kind-told x y = kind-told _ _ (sym (kind-read x) ∙ kind-read y)
 
   pub verdict-told : {f f′ : Monitor} (x : ExportedVerdict bytes f entry exit r) (y : ExportedVerdict bytes′ f′ entry′ exit′ r)
       → x .answer ≡ y .answer
@@ -295,6 +340,10 @@ module _ {bytes entry exit bytes′ entry′ exit′ : List ℕ} {r : ℕ} where
     pub rounds-told : {limit limit′ : ℕ} (x : ExportedRounds bytes limit before after entry exit r) (y : ExportedRounds bytes′ limit′ before′ after′ entry′ exit′ r)
         → x .answer ≡ y .answer
     rounds-told x y = partition-told _ _ (sym (rounds-read x) ∙ rounds-read y)
+
+    pub successor-list-told : {s e letter s′ e′ letter′ : ℕ} (x : ExportedSuccessors bytes s e letter before after entry exit r)
+        (y : ExportedSuccessors bytes′ s′ e′ letter′ before′ after′ entry′ exit′ r) → x .answer ≡ y .answer
+    successor-list-told x y = successors-told _ _ (sym (successors-read x) ∙ successors-read y)
 
     pub automaton-rule-told : (x : ExportedAutomaton bytes before after entry exit r) (y : ExportedAutomaton bytes′ before′ after′ entry′ exit′ r)
         → x .answer ≡ y .answer

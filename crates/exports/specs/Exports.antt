@@ -20,11 +20,14 @@ use Rattle.promises.specs.declared.Partition.{Partition}
 use Rattle.promises.specs.Rounds.{RoundsPromise}
 use Rattle.promises.specs.declared.Reduced.{Reduced}
 use Rattle.promises.specs.Reduce.{ReducePromise}
+use Rattle.promises.specs.declared.StateKind.{StateKind}
+use Rattle.promises.specs.declared.SuccessorList.{SuccessorList}
+use Rattle.promises.specs.RuleAutomaton.{KindPromise, SuccessorsPromise}
 use Rattle.promises.specs.declared.Strength.{Strength}
 use Rattle.promises.specs.Strong.{StrongPromise}
 use Rattle.promises.specs.declared.MonitorVerdict.{MonitorVerdict}
 use Rattle.promises.specs.Verdict.{VerdictPromise}
-use Rattle.packing.specs.Packing.{packListed, packStrength, packMembership, packComplemented, packReduced, packPartition, packTranslated, packInclusion, packMoved, packMonitorVerdict}
+use Rattle.packing.specs.Packing.{packListed, packStrength, packMembership, packComplemented, packReduced, packPartition, packTranslated, packInclusion, packMoved, packMonitorVerdict, packKind, packSuccessors}
 
 pub record ExportedClasses (bytes out-entry out-exit entry exit : List ℕ) (r : ℕ) : Type 0 where
   pub answer : Listed
@@ -90,3 +93,13 @@ pub record ExportedAutomaton (bytes out-entry out-exit entry exit : List ℕ) (r
   pub answer : Translated
   pub promise : RulePromise bytes out-entry out-exit entry exit answer
   pub packed : r ≡ packTranslated answer
+
+pub record ExportedKind (bytes : List ℕ) (s e least : ℕ) (entry exit : List ℕ) (r : ℕ) : Type 0 where
+  pub answer : StateKind
+  pub promise : KindPromise bytes s e least entry exit answer
+  pub packed : r ≡ packKind answer
+
+pub record ExportedSuccessors (bytes : List ℕ) (s e letter : ℕ) (out-entry out-exit entry exit : List ℕ) (r : ℕ) : Type 0 where
+  pub answer : SuccessorList
+  pub promise : SuccessorsPromise bytes s e letter out-entry out-exit entry exit answer
+  pub packed : r ≡ packSuccessors answer

@@ -4,6 +4,7 @@
 use packing::pack_complemented;
 use packing::pack_fields;
 use packing::pack_inclusion;
+use packing::pack_kind;
 use packing::pack_listed;
 use packing::pack_membership;
 use packing::pack_monitor_verdict;
@@ -11,12 +12,13 @@ use packing::pack_moved;
 use packing::pack_partition;
 use packing::pack_reduced;
 use packing::pack_strength;
+use packing::pack_successors;
 use packing::pack_translated;
 use promises::Monitor;
 ghost use mathlib.Core.Path.{_≡_};
 ghost use Rattle.promises.specs.Monitor.{freshMonitor};
 ghost use Rattle.packing.specs.Packing.{packMonitor};
-ghost use Rattle.exports.specs.Exports.{ExportedClasses, ExportedStrength, ExportedMember, ExportedComplement, ExportedInclusion, ExportedEvent, ExportedMark, ExportedKeep, ExportedReturn, ExportedReduction, ExportedRounds, ExportedAutomaton, ExportedVerdict};
+ghost use Rattle.exports.specs.Exports.{ExportedClasses, ExportedStrength, ExportedMember, ExportedComplement, ExportedInclusion, ExportedEvent, ExportedMark, ExportedKeep, ExportedReturn, ExportedReduction, ExportedRounds, ExportedAutomaton, ExportedVerdict, ExportedKind, ExportedSuccessors};
 
 // The linked pairs, the classes and the joins; each pair's class in `out`.
 #[no_mangle]
@@ -169,4 +171,33 @@ pub extern "C" fn duknavet_automaton_rule(
     ensures { λ r. ⌜ ExportedAutomaton (now (automaton .entry)) (now (out .entry)) (now (out .exit)) (now (scratch .entry)) (now (scratch .exit)) r ⌝ }
 {
     pack_translated(rules::automaton_rule(automaton, out, scratch))
+}
+
+// The kind of a state of the rule's automaton for a least grade: 0 plain, 1 initial, 2 final.
+#[no_mangle]
+pub extern "C" fn duknavet_state_kind(
+    rule: &[u8],
+    s: usize,
+    e: usize,
+    least: u8,
+    scratch: &mut [u8],
+) -> u64
+    ensures { λ r. ⌜ ExportedKind (now (rule .entry)) s e least (now (scratch .entry)) (now (scratch .exit)) r ⌝ }
+{
+    pack_kind(rules::state_kind(rule, s, e, least, scratch))
+}
+
+// How many states a letter leads to from a state of the rule's automaton; the states in `out`.
+#[no_mangle]
+pub extern "C" fn duknavet_successors(
+    rule: &[u8],
+    s: usize,
+    e: usize,
+    letter: u8,
+    out: &mut [u8],
+    scratch: &mut [u8],
+) -> u64
+    ensures { λ r. ⌜ ExportedSuccessors (now (rule .entry)) s e letter (now (out .entry)) (now (out .exit)) (now (scratch .entry)) (now (scratch .exit)) r ⌝ }
+{
+    pack_successors(rules::successors(rule, s, e, letter, out, scratch))
 }

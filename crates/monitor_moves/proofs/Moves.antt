@@ -6,7 +6,6 @@ use mathlib.Core.List.{List}
 use native.Mathlib.Omega.{arith}
 use Rattle.answer.specs.declared.Refusal.{Refusal}
 use Rattle.answer.specs.declared.Refusal.the-variants.{UnknownLetter}
-use Rattle.answer.specs.Checks.{Check}
 use Rattle.answer.proofs.Order.{first-passes, first-fails, none-left, refused-before, passed-before}
 use Rattle.theory.specs.Rules.{Morphism, Value, element, join}
 use Rattle.formats.specs.Table.{morphismAt, imageAt}
@@ -16,16 +15,13 @@ use Rattle.rule_check.proofs.Calls.{shape-morphism}
 use Rattle.promises.specs.declared.Monitor.{Monitor}
 use Rattle.monitor_state.specs.declared.Ready.the-variants.{Rule, Refused as Not-ready}
 use Rattle.promises.specs.declared.Moved.the-variants.{To, Refused}
-use Rattle.promises.specs.Moves.{LoneUnknownLetterAt, afterEvent, afterMark, EventPromise, MarkPromise}
+use Rattle.promises.specs.Moves.{loneLetterCheck, afterEvent, afterMark, EventPromise, MarkPromise}
 use Rattle.promises.specs.Monitor.{noValue, valueOf, numberFor}
 use Rattle.monitor_state.specs.Ready.{GoodNumber, joinAt, ReadyPromise}
 use Rattle.monitor_state.proofs.Numbers.{value-element}
 use Rattle.monitor_state.proofs.Prepared.{ready-table}
 
 module _ (bytes : List ℕ) (f : Monitor) (letter : ℕ) (entry exit : List ℕ) where
-  abbrev letter-check : Check
-  letter-check = record { refusal = UnknownLetter; input = 1; Fails = LoneUnknownLetterAt (lettersOf bytes) letter }
-
   -- the rule or the monitor is refused
   pub event-refused : {r : Refusal} {i place : ℕ} → ReadyPromise bytes f entry exit (Not-ready r i place) → EventPromise bytes f letter entry exit (Refused f r i place)
   event-refused p = record { refusal = refused-before _ _ (p .refusal); monitor = refl; scratch = p .scratch }
@@ -34,7 +30,7 @@ module _ (bytes : List ℕ) (f : Monitor) (letter : ℕ) (entry exit : List ℕ)
     -- the letter is foreign
     pub event-foreign : shape .letters ≤ letter → EventPromise bytes f letter entry exit (Refused f UnknownLetter 1 0)
     event-foreign h = record {
-      refusal = passed-before _ _ (p .refusal) (first-fails letter-check (record { foreign = subst (λ (x : ℕ). x ≤ letter) (p .shape .letters) h; is-place = refl }));
+      refusal = passed-before _ _ (p .refusal) (first-fails (loneLetterCheck (lettersOf bytes) letter) (record { foreign = subst (λ (x : ℕ). x ≤ letter) (p .shape .letters) h; is-place = refl }));
       monitor = refl;
       scratch = p .scratch;
     }

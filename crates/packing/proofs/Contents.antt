@@ -25,9 +25,13 @@ use Rattle.promises.specs.declared.Partition.{Partition}
 use Rattle.promises.specs.declared.Partition.the-variants.{Blocks, Refused as Not-partitioned}
 use Rattle.promises.specs.declared.Reduced.{Reduced}
 use Rattle.promises.specs.declared.Reduced.the-variants.{Rule as Reduced-rule, Refused as Not-reduced}
+use Rattle.promises.specs.declared.StateKind.{StateKind}
+use Rattle.promises.specs.declared.StateKind.the-variants.{Plain, Initial, Final, Refused as No-kind}
+use Rattle.promises.specs.declared.SuccessorList.{SuccessorList}
+use Rattle.promises.specs.declared.SuccessorList.the-variants.{Listed as Successors, Refused as No-successors}
 use Rattle.promises.specs.declared.Strength.{Strength}
 use Rattle.promises.specs.declared.Strength.the-variants.{Strong, Weak, Refused as Not-decided}
-use Rattle.packing.specs.Packing.{refusal-at, monitorContents, movedContents, listedContents, strengthContents, membershipContents, complementedContents, reducedContents, bit, partitionContents, translatedContents, inclusionContents, monitorVerdictContents}
+use Rattle.packing.specs.Packing.{refusal-at, monitorContents, movedContents, listedContents, strengthContents, membershipContents, complementedContents, reducedContents, bit, partitionContents, translatedContents, inclusionContents, monitorVerdictContents, kindContents, successorsContents}
 
 -- a refusal's contents are its verdict
 verdict-of : {n n′ i i′ p p′ : ℕ} → refusal-at n i p ≡ refusal-at n′ i′ p′ → numbered n i p ≡ numbered n′ i′ p′
@@ -105,6 +109,30 @@ judged-told (Judged g t) (Judged g′ t′) e = cc
 judged-told (Judged g t) (Not-judged r′ i′ p′) e = cc
 judged-told (Not-judged r i p) (Judged g′ t′) e = cc
 judged-told (Not-judged r i p) (Not-judged r′ i′ p′) e = same-refusal Not-judged r r′ i i′ p p′ (verdict-of e)
+
+pub kind-told : (x y : StateKind) → kindContents x ≡ kindContents y → x ≡ y
+kind-told Plain Plain e = refl
+kind-told Plain Initial e = cc
+kind-told Plain Final e = cc
+kind-told Plain (No-kind r′ i′ p′) e = cc
+kind-told Initial Plain e = cc
+kind-told Initial Initial e = refl
+kind-told Initial Final e = cc
+kind-told Initial (No-kind r′ i′ p′) e = cc
+kind-told Final Plain e = cc
+kind-told Final Initial e = cc
+kind-told Final Final e = refl
+kind-told Final (No-kind r′ i′ p′) e = cc
+kind-told (No-kind r i p) Plain e = cc
+kind-told (No-kind r i p) Initial e = cc
+kind-told (No-kind r i p) Final e = cc
+kind-told (No-kind r i p) (No-kind r′ i′ p′) e = same-refusal No-kind r r′ i i′ p p′ (verdict-of e)
+
+pub successors-told : (x y : SuccessorList) → successorsContents x ≡ successorsContents y → x ≡ y
+successors-told (Successors a) (Successors a′) e = cc
+successors-told (Successors a) (No-successors r′ i′ p′) e = cc
+successors-told (No-successors r i p) (Successors a′) e = cc
+successors-told (No-successors r i p) (No-successors r′ i′ p′) e = same-refusal No-successors r r′ i i′ p p′ (verdict-of e)
 
 monitor-told : (f g : Monitor) → monitorContents f ≡ monitorContents g → f ≡ g
 monitor-told f g e =

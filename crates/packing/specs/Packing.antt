@@ -24,8 +24,12 @@ use Rattle.promises.specs.declared.Reduced.{Reduced}
 use Rattle.promises.specs.declared.Reduced.the-variants.{Rule as Reduced-rule, Refused as Not-reduced}
 use Rattle.promises.specs.declared.Partition.{Partition}
 use Rattle.promises.specs.declared.Partition.the-variants.{Blocks, Refused as Not-partitioned}
+use Rattle.promises.specs.declared.StateKind.{StateKind}
+use Rattle.promises.specs.declared.StateKind.the-variants.{Plain, Initial, Final, Refused as No-kind}
 use Rattle.promises.specs.declared.Strength.{Strength}
 use Rattle.promises.specs.declared.Strength.the-variants.{Strong, Weak, Refused as Not-decided}
+use Rattle.promises.specs.declared.SuccessorList.{SuccessorList}
+use Rattle.promises.specs.declared.SuccessorList.the-variants.{Listed as Successors, Refused as No-successors}
 use Rattle.promises.specs.declared.MonitorVerdict.{MonitorVerdict}
 use Rattle.promises.specs.declared.MonitorVerdict.the-variants.{Decided as Judged, Refused as Not-judged}
 
@@ -143,3 +147,21 @@ monitorVerdictContents (Not-judged refusal input place) = refusal-at (numberOf r
 
 abbrev pub packMonitorVerdict : MonitorVerdict → ℕ
 packMonitorVerdict answer = pack (monitorVerdictContents answer)
+
+-- the kind of a state, coded as in automaton files
+abbrev pub kindContents : StateKind → Contents
+kindContents Plain = fields 0 0 0
+kindContents Initial = fields 1 0 0
+kindContents Final = fields 2 0 0
+kindContents (No-kind refusal input place) = refusal-at (numberOf refusal) input place
+
+abbrev pub packKind : StateKind → ℕ
+packKind answer = pack (kindContents answer)
+
+-- how many states a letter leads to
+abbrev pub successorsContents : SuccessorList → Contents
+successorsContents (Successors count) = fields count 0 0
+successorsContents (No-successors refusal input place) = refusal-at (numberOf refusal) input place
+
+abbrev pub packSuccessors : SuccessorList → ℕ
+packSuccessors answer = pack (successorsContents answer)

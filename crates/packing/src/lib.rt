@@ -9,11 +9,13 @@ use promises::MonitorVerdict;
 use promises::Moved;
 use promises::Partition;
 use promises::Reduced;
+use promises::StateKind;
 use promises::Strength;
+use promises::SuccessorList;
 use promises::Translated;
 ghost use mathlib.Core.Path.{_≡_};
 ghost use Rattle.answer.specs.Refusals.{numberOf};
-ghost use Rattle.packing.specs.Packing.{packRefusal, packFields, packListed, packStrength, packMembership, packComplemented, packInclusion, packMoved, packReduced, bit, packPartition, packTranslated, packMonitorVerdict};
+ghost use Rattle.packing.specs.Packing.{packRefusal, packFields, packListed, packStrength, packMembership, packComplemented, packInclusion, packMoved, packReduced, bit, packPartition, packTranslated, packMonitorVerdict, packKind, packSuccessors};
 
 pub fn pack_refusal(refusal: Refusal, input: usize, place: usize) -> u64
     ensures { λ r. ⌜ r ≡ packRefusal (numberOf refusal) input place ⌝ }
@@ -175,6 +177,35 @@ pub fn pack_monitor_verdict(answer: MonitorVerdict) -> u64
     match answer {
         MonitorVerdict::Decided { grade, turns } => pack_fields(grade, turns, 0),
         MonitorVerdict::Refused {
+            refusal,
+            input,
+            place,
+        } => pack_refusal(refusal, input, place),
+    }
+}
+
+// The kind of a state as automaton files have it: 0 plain, 1 initial, 2 final.
+pub fn pack_kind(answer: StateKind) -> u64
+    ensures { λ r. ⌜ r ≡ packKind answer ⌝ }
+{
+    match answer {
+        StateKind::Plain => pack_fields(0, 0, 0),
+        StateKind::Initial => pack_fields(1, 0, 0),
+        StateKind::Final => pack_fields(2, 0, 0),
+        StateKind::Refused {
+            refusal,
+            input,
+            place,
+        } => pack_refusal(refusal, input, place),
+    }
+}
+
+pub fn pack_successors(answer: SuccessorList) -> u64
+    ensures { λ r. ⌜ r ≡ packSuccessors answer ⌝ }
+{
+    match answer {
+        SuccessorList::Listed(count) => pack_fields(count, 0, 0),
+        SuccessorList::Refused {
             refusal,
             input,
             place,

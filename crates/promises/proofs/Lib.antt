@@ -1,3 +1,5 @@
+pub mod AutomatonGrades
+pub mod AutomatonReadings
 pub mod Logs
 pub mod OneComplement
 pub mod OneInclusion
@@ -9,6 +11,7 @@ pub mod OneMoveInPlace
 pub mod OnePoint
 pub mod OneReduction
 pub mod OneRounds
+pub mod OneRuleAutomaton
 pub mod OneStrength
 pub mod OneSummary
 pub mod OneTranslation

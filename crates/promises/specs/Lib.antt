@@ -18,3 +18,4 @@ pub mod Verdict
 pub mod Weak
 pub mod Printed
 pub mod Rounds
+pub mod RuleAutomaton

@@ -26,10 +26,13 @@ pub record LoneUnknownLetterAt (k letter place : ℕ) : Type 0 where
   pub foreign : k ≤ letter
   pub is-place : place ≡ 0
 
+-- 10 of a letter, for a rule with k letters
+abbrev pub loneLetterCheck : ℕ → ℕ → Check
+loneLetterCheck k letter = record { refusal = UnknownLetter; input = 1; Fails = LoneUnknownLetterAt k letter }
+
 -- and then 10 "for an event"
 abbrev pub eventChecks : List ℕ → Monitor → ℕ → List ℕ → List Check
-eventChecks bytes f letter scratch =
-    monitorChecks bytes f scratch ++ record { refusal = UnknownLetter; input = 1; Fails = LoneUnknownLetterAt (lettersOf bytes) letter } ∷ []
+eventChecks bytes f letter scratch = monitorChecks bytes f scratch ++ loneLetterCheck (lettersOf bytes) letter ∷ []
 
 -- document 01's number, input and place of a call on a monitor
 abbrev pub movedVerdict : Moved → Verdict

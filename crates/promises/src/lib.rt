@@ -110,6 +110,31 @@ pub enum Translated {
     },
 }
 
+// The bytes of the result of successors, as specs/RuleAutomaton has them.
+pub const SUCCESSORS_SIZE: usize = 65;
+
+// The kind of a state of a rule's automaton.
+pub enum StateKind {
+    Plain,
+    Initial,
+    Final,
+    Refused {
+        refusal: Refusal,
+        input: usize,
+        place: usize,
+    },
+}
+
+// How many states a state's transitions by a letter lead to.
+pub enum SuccessorList {
+    Listed(usize),
+    Refused {
+        refusal: Refusal,
+        input: usize,
+        place: usize,
+    },
+}
+
 // The grade of the lasso, 0 to 3, and how many turns of v together have a value that repeating no longer changes.
 pub enum Membership {
     Decided {

@@ -1,0 +1,4 @@
+pub mod Values
+pub mod EachState
+pub mod StateKinds
+pub mod Successors

@@ -1,0 +1,32 @@
+-- `rule_automaton::write_successor` meets its contract: a t that is led to is one store. Assumes nothing.
+use native.Mathlib.Omega.{arith}
+use Rattle.rule_automaton.proofs.Successors.{good-byte, successor-in, successor-out}
+use borrow.Author.Needs.{needs}
+use Rattle.rule_automaton.proofs.write_successor.Statement.{statement}
+use Rattle.rule_automaton.proofs.write_successor.Tie as tie
+
+leads-requires : tie.Need-leads-requires
+leads-requires c κs = search needs
+
+cast-out : tie.Need-cast-out
+cast-out c = omega (arith, good-byte (c .before .before .before .before .pre .needs))
+
+slice-write-out : tie.Need-slice-write-out
+slice-write-out c = search needs
+
+add-result : tie.Need-add-result
+add-result c = search needs
+
+same-length : tie.Need-same-length
+same-length c = search needs
+
+returns : tie.Need-returns
+returns c = successor-in _ _ _ _ _ _ _ _ _ (c .before .leads .ensures) (c .if1 .taken) (c .before .before .before .before .pre .room)
+
+returns-2 : tie.Need-returns-2
+returns-2 c = successor-out _ _ _ _ _ _ _ _ _ (c .before .leads .ensures) (c .if1 .left)
+
+pub write-successor-spec : {M : Type 1} → statement M
+write-successor-spec =
+    tie.close
+    (tie.spec leads-requires cast-out slice-write-out add-result same-length returns returns-2)
