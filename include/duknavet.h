@@ -50,6 +50,7 @@ extern "C" {
 #define DUKNAVET_V 4224        /* v of included */
 #define DUKNAVET_POINTS 24     /* points of keep and return: three bytes for each of the names 0 to 7 */
 #define DUKNAVET_BLOCKS 64     /* blocks of reduce_rounds: a byte for each element */
+#define DUKNAVET_SUCCESSORS 65 /* out of successors: a byte for each element, and one for none */
 
 /* The most letters that u or v of a lasso may have; the fewest is 0 for u and 1 for v. */
 #define DUKNAVET_WORD 4224
@@ -57,7 +58,7 @@ extern "C" {
 /* The highest limit of reduce_rounds. */
 #define DUKNAVET_MOST_ROUNDS 64
 
-/* The value of a monitor that stands for no letters. */
+/* The value of a monitor, and of a state's s, that stands for no letters. */
 #define DUKNAVET_NONE 64
 
 /* What classes writes for a pair that is not linked. */
@@ -67,12 +68,12 @@ extern "C" {
  * answered: 13, then 1 to 3 section by section, 4, 5, 6, 7 and 8 pair by pair, the second input's own, then 3 for a monitor's
  * values, 11 for u, then v, or for a verdict, 10 in u, then v, or for an event, 12. For an automaton: 13, 1 to 4, 8, 14. For
  * keep and return: 13, the rule's, 15, 16, 3 for the values of the monitor and of every kept name. For reduce_rounds: 13, the
- * rule's, 20, 12. */
+ * rule's, 20, 12. For state_kind: 13, the rule's, 3 for the least grade, 17. For successors: 13, the rule's, 17, 10. */
 enum duknavet_refusal {
     DUKNAVET_RESULT = 0,               /* no refusal */
     DUKNAVET_TRUNCATED = 1,            /* bytes end inside a count or section: the length of the input */
     DUKNAVET_COUNT_OUT_OF_RANGE = 2,   /* a count lies outside its range: its first byte */
-    DUKNAVET_ENTRY_OUT_OF_RANGE = 3,   /* an entry, grade or monitor's value that there is none of: its byte; 0 for a monitor */
+    DUKNAVET_ENTRY_OUT_OF_RANGE = 3,   /* an entry, grade or value that there is none of: its byte; 0 for a monitor, a least grade */
     DUKNAVET_TRAILING_BYTES = 4,       /* bytes follow the last section: the first such byte */
     DUKNAVET_NOT_ASSOCIATIVE = 5,      /* (a*b)*c differs from a*(b*c): a * 4096 + b * 64 + c */
     DUKNAVET_UNREACHABLE = 6,          /* an element is no word's value: the least */
@@ -85,6 +86,7 @@ enum duknavet_refusal {
     DUKNAVET_TOO_MANY_MATRICES = 14,   /* an automaton has more than 64 matrices: 0 */
     DUKNAVET_NAME_OUT_OF_RANGE = 15,   /* a point's name is above 7: 0 */
     DUKNAVET_NAME_NEVER_KEPT = 16,     /* a return goes to a name that was never kept: 0 */
+    DUKNAVET_NO_SUCH_STATE = 17,       /* s is neither an element nor 64, or e no idempotent element: 0 */
     DUKNAVET_LIMIT_OUT_OF_RANGE = 20   /* a limit of rounds is above 64: 0 */
 };
 
@@ -162,6 +164,24 @@ uint64_t duknavet_reduce_rounds(const uint8_t *rule, size_t rule_length,
                                 size_t limit,
                                 uint8_t *blocks, size_t blocks_length,
                                 uint8_t *scratch, size_t scratch_length);
+
+/* A rule as an automaton, asked state by state. A state is (s, e): e is an idempotent element, e * e = e, and s an element or
+ * DUKNAVET_NONE. Initial are the pairs that the rule marks with the least grade, 1 to 3, or more; final are the states whose s is
+ * DUKNAVET_NONE. A letter with the element h leads from (s, e) to (t, e) if h * t is s or s * e, where h * none is h and none * e is e.
+ * Some run from an initial state meets a final state again and again on just the lassos that the rule gives the least grade or more;
+ * the rule may be weak.
+ *
+ * The kind of a state, coded as in automaton files. Field 0: 0 plain, 1 initial, 2 final. */
+uint64_t duknavet_state_kind(const uint8_t *rule, size_t rule_length,
+                             size_t s, size_t e, uint8_t least,
+                             uint8_t *scratch, size_t scratch_length);
+
+/* Where a letter leads from a state. Field 0: how many bytes of out (DUKNAVET_SUCCESSORS) name a t, in rising order,
+ * DUKNAVET_NONE last. */
+uint64_t duknavet_successors(const uint8_t *rule, size_t rule_length,
+                             size_t s, size_t e, uint8_t letter,
+                             uint8_t *out, size_t out_length,
+                             uint8_t *scratch, size_t scratch_length);
 
 /* The rule that gives grade 3 to the lassos on which some run of a Buchi automaton from an initial state meets a final state
  * again and again, and grade 0 to all others. The automaton file: a count of states, 1 to 6, a byte each (0 plain, 1 initial,

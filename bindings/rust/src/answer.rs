@@ -12,7 +12,7 @@ pub enum Refusal {
     /// A count lies outside its range. Place: its first byte.
     CountOutOfRange = 2,
     /// An entry names no element, state, letter or state kind, or is a mark's grade and not 1 to 3 (place: its byte); or a value of
-    /// a monitor or under a kept name is neither an element nor [`NONE`](crate::NONE) (place 0).
+    /// a monitor or under a kept name is neither an element nor [`NONE`](crate::NONE), or a least grade is not 1 to 3 (place 0).
     EntryOutOfRange = 3,
     /// Bytes follow the last section. Place: the first such byte.
     TrailingBytes = 4,
@@ -39,12 +39,14 @@ pub enum Refusal {
     NameOutOfRange = 15,
     /// A return goes to a name that was never kept.
     NameNeverKept = 16,
+    /// There is no such state: e is no idempotent element, or s neither an element nor [`NONE`](crate::NONE).
+    NoSuchState = 17,
     /// A limit of rounds is above [`MOST_ROUNDS`](crate::MOST_ROUNDS).
     LimitOutOfRange = 20,
 }
 
 impl Refusal {
-    /// The refusal's number, 1 to 20; never 9, and so far none from 17 to 19.
+    /// The refusal's number, 1 to 20; never 9, and so far neither 18 nor 19.
     pub fn number(self) -> u8 {
         self as u8
     }
@@ -67,6 +69,7 @@ impl Refusal {
             14 => Refusal::TooManyMatrices,
             15 => Refusal::NameOutOfRange,
             16 => Refusal::NameNeverKept,
+            17 => Refusal::NoSuchState,
             20 => Refusal::LimitOutOfRange,
             _ => return None,
         })
@@ -164,7 +167,7 @@ mod tests {
         for number in 0..=255 {
             match Refusal::from_number(number) {
                 Some(refusal) => assert_eq!(refusal.number(), number),
-                None => assert!(matches!(number, 0 | 9 | 17..=19) || number > 20),
+                None => assert!(matches!(number, 0 | 9 | 18 | 19) || number > 20),
             }
         }
     }
@@ -187,7 +190,7 @@ mod tests {
 
     #[test]
     fn what_packs_no_answer_panics() {
-        for packed in [0x0000_0111, 0x0000_0109, 0x0100, 0x0001, 0x0301] {
+        for packed in [0x0000_0112, 0x0000_0109, 0x0100, 0x0001, 0x0301] {
             assert!(catch_unwind(|| unpack(packed)).is_err());
         }
         assert!(catch_unwind(|| unpack_bool(0x2_0000)).is_err());

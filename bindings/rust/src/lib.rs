@@ -37,6 +37,7 @@ mod monitors;
 #[allow(unsafe_code)]
 mod raw;
 mod reductions;
+mod states;
 
 pub use answer::{Refusal, Refused};
 pub use automata::{automaton_rule, Translated};
@@ -46,6 +47,7 @@ pub use markings::{Classes, Complemented, Inclusion, Strength};
 pub use monitors::{event, fresh, keep, mark, return_to, verdict};
 pub use monitors::{Monitor, NotMoved, Verdict};
 pub use reductions::{reduce, reduce_rounds, Partition, Reduced};
+pub use states::{state_kind, successors, StateKind, Successors};
 
 /// The bytes that a scratch must have; a longer one passes.
 pub const SCRATCH: usize = 65_536;
@@ -71,8 +73,11 @@ pub const BLOCKS: usize = 64;
 /// The most rounds that a reduction by rounds may be asked for.
 pub const MOST_ROUNDS: usize = 64;
 
+/// The bytes that a buffer for the states that a letter leads to must have.
+pub const SUCCESSORS_OUT: usize = 65;
+
 /// The most letters that u or v of a lasso may have; only u may have none.
 pub const WORD: usize = 4_224;
 
-/// The value of a monitor that stands for no letters.
+/// The value of a monitor, and of a state's first half, that stands for no letters.
 pub const NONE: usize = 64;

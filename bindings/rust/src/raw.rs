@@ -115,6 +115,26 @@ mod exported {
             scratch: *mut u8,
             scratch_length: usize,
         ) -> u64;
+        pub fn duknavet_state_kind(
+            rule: *const u8,
+            rule_length: usize,
+            s: usize,
+            e: usize,
+            least: u8,
+            scratch: *mut u8,
+            scratch_length: usize,
+        ) -> u64;
+        pub fn duknavet_successors(
+            rule: *const u8,
+            rule_length: usize,
+            s: usize,
+            e: usize,
+            letter: u8,
+            out: *mut u8,
+            out_length: usize,
+            scratch: *mut u8,
+            scratch_length: usize,
+        ) -> u64;
         pub fn duknavet_automaton_rule(
             automaton: *const u8,
             automaton_length: usize,
@@ -320,6 +340,45 @@ pub fn reduce_rounds(rule: &[u8], limit: usize, blocks: &mut [u8], scratch: &mut
             limit,
             blocks.as_mut_ptr(),
             blocks.len(),
+            scratch.as_mut_ptr(),
+            scratch.len(),
+        )
+    }
+}
+
+pub fn state_kind(rule: &[u8], s: usize, e: usize, least: u8, scratch: &mut [u8]) -> u64 {
+    // SAFETY: as for `classes`.
+    unsafe {
+        exported::duknavet_state_kind(
+            rule.as_ptr(),
+            rule.len(),
+            s,
+            e,
+            least,
+            scratch.as_mut_ptr(),
+            scratch.len(),
+        )
+    }
+}
+
+pub fn successors(
+    rule: &[u8],
+    s: usize,
+    e: usize,
+    letter: u8,
+    out: &mut [u8],
+    scratch: &mut [u8],
+) -> u64 {
+    // SAFETY: as for `classes`.
+    unsafe {
+        exported::duknavet_successors(
+            rule.as_ptr(),
+            rule.len(),
+            s,
+            e,
+            letter,
+            out.as_mut_ptr(),
+            out.len(),
             scratch.as_mut_ptr(),
             scratch.len(),
         )

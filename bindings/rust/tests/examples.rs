@@ -2,10 +2,12 @@
 //! of cycles.
 
 use duknavet::{automaton_rule, classes, complement, event, fresh, included, keep, mark, member};
-use duknavet::{reduce, reduce_rounds, return_to, strong, verdict, Classes, Inclusion, Membership};
+use duknavet::{reduce, reduce_rounds, return_to, state_kind, strong, successors, verdict};
+use duknavet::{Classes, Inclusion, Membership, StateKind};
 use duknavet::{Monitor, Partition, Refusal, Refused, Strength, Verdict};
 use duknavet::{
-    BLOCKS, CLASSES_OUT, MOST_ROUNDS, NONE, POINTS, RULE_OUT, SCRATCH, U_OUT, V_OUT, WORD,
+    BLOCKS, CLASSES_OUT, MOST_ROUNDS, NONE, POINTS, RULE_OUT, SCRATCH, SUCCESSORS_OUT, U_OUT,
+    V_OUT, WORD,
 };
 
 /// Letter 0 without end, over letters 0 and 1.
@@ -310,6 +312,37 @@ fn rounds_of_a_count() {
     assert_eq!(within(&Z, MOST_ROUNDS), (refused(12, 1, 0), vec![9; 5]));
     assert_eq!(within(&Z, MOST_ROUNDS + 1), (refused(20, 1, 0), vec![9; 5]));
     let short = reduce_rounds(&Z, MOST_ROUNDS + 1, &mut [9; BLOCKS - 1], &mut scratch());
+    assert_eq!(short, refused(13, 1, 0));
+}
+
+#[test]
+fn the_automaton_of_w() {
+    let kind = |s, e, least| state_kind(&W, s, e, least, &mut scratch());
+    assert_eq!(kind(0, 0, 3), Ok(StateKind::Initial));
+    assert_eq!(kind(0, 1, 1), Ok(StateKind::Plain));
+    assert_eq!(kind(NONE, 0, 1), Ok(StateKind::Final));
+    let graded = |least| state_kind(&W_GRADED, 0, 1, least, &mut scratch());
+    assert_eq!(graded(2), Ok(StateKind::Initial));
+    assert_eq!(graded(3), Ok(StateKind::Plain));
+    let from = |rule: &[u8], s, e, letter| {
+        let mut out = [9; SUCCESSORS_OUT];
+        let answer = successors(rule, s, e, letter, &mut out, &mut scratch());
+        answer.map(|found| out[..found.count].to_vec())
+    };
+    // Letter 0 times anything is 0, which is none times 0; letter 1 is 1, which only 1 times 1 is.
+    assert_eq!(from(&W, NONE, 0, 0), Ok(vec![0, 1, 64]));
+    assert_eq!(from(&W, NONE, 0, 1), Ok(vec![0]));
+    assert_eq!(from(&W, 1, 1, 1), Ok(vec![1, 64]));
+    assert_eq!(from(&W, 1, 1, 0), Ok(vec![]));
+    // In Z, 1 times 1 is 0, so (0, 1) is no state. First 17, then 10; 3 before 17.
+    assert_eq!(from(&Z, 0, 1, 7), refused(17, 1, 0));
+    assert_eq!(from(&Z, 2, 0, 7), refused(17, 1, 0));
+    assert_eq!(from(&Z, 0, 0, 2), refused(10, 1, 0));
+    let strange = |s, e, least| state_kind(&Z, s, e, least, &mut scratch());
+    assert_eq!(strange(0, 1, 1), refused(17, 1, 0));
+    assert_eq!(strange(0, 1, 0), refused(3, 1, 0));
+    assert_eq!(strange(65, 0, 4), refused(3, 1, 0));
+    let short = successors(&Z, 0, 1, 7, &mut [9; SUCCESSORS_OUT - 1], &mut scratch());
     assert_eq!(short, refused(13, 1, 0));
 }
 

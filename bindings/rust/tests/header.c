@@ -73,6 +73,13 @@ int main(void)
     expect("verdict, grade 1", is_result(answer, 1, 1, 0));
     expect("verdict, two turns", is_result(duknavet_verdict(one_letter, sizeof one_letter, 0, 1, scratch, sizeof scratch), 0, 2, 0));
     expect("no mark", is_result(duknavet_verdict(rule, sizeof rule, DUKNAVET_NONE, 1, scratch, sizeof scratch), 0, 1, 0));
+    expect("initial", is_result(duknavet_state_kind(rule, sizeof rule, 0, 0, 3, scratch, sizeof scratch), 1, 0, 0));
+    expect("plain", is_result(duknavet_state_kind(rule, sizeof rule, 0, 1, 1, scratch, sizeof scratch), 0, 0, 0));
+    expect("final", is_result(duknavet_state_kind(rule, sizeof rule, DUKNAVET_NONE, 1, 1, scratch, sizeof scratch), 2, 0, 0));
+    answer = duknavet_state_kind(sums, sizeof sums, 0, 1, 1, scratch, sizeof scratch);
+    expect("no state", duknavet_refusal_of(answer) == DUKNAVET_NO_SUCH_STATE && duknavet_input_of(answer) == 1);
+    answer = duknavet_successors(rule, sizeof rule, DUKNAVET_NONE, 0, 0, out, DUKNAVET_SUCCESSORS, scratch, sizeof scratch);
+    expect("successors", is_result(answer, 3, 0, 0) && out[0] == 0 && out[1] == 1 && out[2] == DUKNAVET_NONE);
     answer = duknavet_automaton_rule(automaton, sizeof automaton, out, sizeof out, scratch, sizeof scratch);
     expect("automaton", duknavet_refusal_of(answer) == DUKNAVET_RESULT && out[0] == 3);
     answer = duknavet_member(rule, sizeof rule, letter, 2, letter, 3, scratch, sizeof scratch);

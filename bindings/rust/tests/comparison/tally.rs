@@ -45,7 +45,7 @@ type Refusals = (&'static str, &'static [(u8, &'static [u8])]);
 
 /// Which refusals each call can answer, with their inputs: every number that applies to it.
 /// A rule's checks are 1 to 8; a second marks section has no table and no letters, so not 5 and 6.
-const REFUSALS: [Refusals; 13] = [
+const REFUSALS: [Refusals; 15] = [
     ("classes", &[(1, &[1, 2, 3, 4, 5, 6, 7, 8, 13])]),
     ("strong", &[(1, &[1, 2, 3, 4, 5, 6, 7, 8, 13])]),
     (
@@ -67,11 +67,13 @@ const REFUSALS: [Refusals; 13] = [
         "reduce_rounds",
         &[(1, &[1, 2, 3, 4, 5, 6, 7, 8, 12, 13, 20])],
     ),
+    ("state_kind", &[(1, &[1, 2, 3, 4, 5, 6, 7, 8, 13, 17])]),
+    ("successors", &[(1, &[1, 2, 3, 4, 5, 6, 7, 8, 10, 13, 17])]),
     ("automaton_rule", &[(1, &[1, 2, 3, 4, 8, 13, 14])]),
 ];
 
 /// Outcomes that must occur at least so often.
-const LEAST: [(&str, &str, u64); 129] = [
+const LEAST: [(&str, &str, u64); 142] = [
     ("classes", "counts", 1000),
     ("strong", "weak", 100),
     ("strong", "strong, marks closed", 1000),
@@ -166,6 +168,19 @@ const LEAST: [(&str, &str, u64); 129] = [
     ("reduce_rounds", "finished at the limit", 500),
     ("reduce_rounds", "61 rounds", 1),
     ("reduce_rounds", "20 for a weak rule", 50),
+    ("state_kind", "plain", 1000),
+    ("state_kind", "initial", 1000),
+    ("state_kind", "final", 1000),
+    ("state_kind", "a least grade refused", 100),
+    ("state_kind", "3 before 17", 100),
+    ("successors", "none", 500),
+    ("successors", "one", 1000),
+    ("successors", "two or more", 1000),
+    ("states", "a run, strong", 500),
+    ("states", "no run, strong", 500),
+    ("states", "a run, weak", 200),
+    ("states", "no run, weak", 200),
+    ("states", "a run from an empty start", 200),
     ("print", "equal: elements renumbered", 200),
     ("print", "equal: marks in another order", 50),
     ("print", "equal: marks closed", 30),

@@ -8,6 +8,7 @@ mod points;
 mod prints;
 mod reductions;
 mod rounds;
+mod states;
 
 use crate::definitions::checks::Refusal;
 use crate::definitions::order;
@@ -25,6 +26,7 @@ pub use monitors::MONITOR_SIZES;
 pub use points::POINTS_SIZES;
 pub use reductions::REDUCE_SIZES;
 pub use rounds::ROUNDS_SIZES;
+pub use states::{KIND_SIZES, SUCCESSORS_SIZES};
 
 pub struct Comparison {
     pub random: Random,

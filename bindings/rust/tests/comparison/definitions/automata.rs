@@ -1,6 +1,7 @@
 //! Automata: paths and runs, followed state by state.
 
 use super::checks::Automaton;
+use super::runs;
 use std::collections::hash_map::{Entry, HashMap};
 
 /// A word's matrix: entry p·states + q.
@@ -93,46 +94,13 @@ impl Automaton {
     }
 
     /// Whether some run on u, then v for ever, from an initial state meets a final state again and again.
-    ///
-    /// A point is a place of the lasso (|u| + |v| of them) with a state there. A run goes from point to point, and there are
-    /// finitely many: it meets a final state again and again exactly if such a run goes through some final point that is on
-    /// a loop of points.
     pub fn accepts(&self, u: &[u8], v: &[u8]) -> bool {
-        let (m, length) = (self.states(), u.len() + v.len());
-        let step = |points: &mut Vec<usize>, seen: &mut Vec<bool>, point: usize| {
-            let (place, q) = (point / m, point % m);
-            let a = if place < u.len() {
-                u[place]
-            } else {
-                v[place - u.len()]
-            };
-            let after = if place + 1 == length {
-                u.len()
-            } else {
-                place + 1
-            };
-            for (from, letter, to) in &self.transitions {
-                let next = after * m + *to as usize;
-                if *from as usize == q && *letter == a && !seen[next] {
-                    seen[next] = true;
-                    points.push(next);
-                }
-            }
+        let next = |q: usize, a: u8| {
+            let steps = self.transitions.iter();
+            let from = steps.filter(|(from, letter, _)| *from as usize == q && *letter == a);
+            from.map(|(_, _, to)| *to as usize).collect()
         };
-        let reached = |from: Vec<usize>| {
-            let mut seen = vec![false; length * m];
-            let mut points = from;
-            while let Some(point) = points.pop() {
-                step(&mut points, &mut seen, point);
-            }
-            seen
-        };
-        let initial: Vec<usize> = (0..m).filter(|q| self.initial(*q)).collect();
-        let mut on_runs = reached(initial.clone());
-        for q in initial {
-            on_runs[q] = true;
-        }
-        (0..length * m)
-            .any(|point| on_runs[point] && self.is_final(point % m) && reached(vec![point])[point])
+        let (initial, is_final) = (|q| self.initial(q), |q| self.is_final(q));
+        runs::accepted(self.states(), initial, is_final, next, (u, v))
     }
 }

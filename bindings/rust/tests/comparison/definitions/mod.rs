@@ -10,5 +10,7 @@ pub mod equivalence;
 pub mod order;
 pub mod rounds;
 pub mod rule;
+pub mod rule_automaton;
+pub mod runs;
 pub mod settling;
 pub mod splits;

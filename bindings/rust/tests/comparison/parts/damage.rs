@@ -187,7 +187,7 @@ fn any_call(c: &mut Comparison, subject: &Subject, second: &[u8]) {
 }
 
 /// How many calls get a rule.
-const CALLS: usize = 12;
+const CALLS: usize = 14;
 
 /// A call by number, with further inputs that may be faulty too, and buffers that may be short.
 fn call(c: &mut Comparison, which: usize, subject: &Subject, second: &[u8]) {
@@ -207,6 +207,8 @@ fn call(c: &mut Comparison, which: usize, subject: &Subject, second: &[u8]) {
     };
     let letter = c.random.below(letters + 1) as u8;
     let name = c.random.below(9);
+    let state = (*c.random.pick(&[0, n - 1, n, NONE]), c.random.below(n + 1));
+    let least = c.random.below(5) as u8;
     let limit = *c.random.pick(&[0, 1, 2, 63, 64, 64, 65]);
     let mut points = [0; POINTS];
     for bytes in points.chunks_mut(3) {
@@ -264,6 +266,14 @@ fn call(c: &mut Comparison, which: usize, subject: &Subject, second: &[u8]) {
         10 => {
             let sizes = sizes(c, short, REDUCE_SIZES);
             c.reduce(subject, sizes)
+        }
+        11 => {
+            let sizes = sizes(c, short, KIND_SIZES);
+            c.state_kind(subject, state, least, sizes);
+        }
+        12 => {
+            let sizes = sizes(c, short, SUCCESSORS_SIZES);
+            c.successors(subject, state, letter, sizes);
         }
         _ => {
             let sizes = sizes(c, short, ROUNDS_SIZES);

@@ -7,4 +7,5 @@ pub mod logs;
 pub mod prints;
 pub mod rounds;
 pub mod rules;
+pub mod states;
 pub mod words;
