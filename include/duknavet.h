@@ -229,6 +229,84 @@ uint64_t duknavet_verdict(const uint8_t *rule, size_t rule_length,
                           size_t before, size_t since,
                           uint8_t *scratch, size_t scratch_length);
 
+/* Reading a rule file. The file has passed a call's checks, as duknavet_strong makes them: then every number below is in its range,
+ * and nothing outside the file is read for elements, letters and marks below their counts. */
+
+/* A marked pair (s, e) and its grade, 1 to 3. */
+struct duknavet_marked_pair {
+    uint8_t s, e, grade;
+};
+
+/* How many elements the rule has. */
+static inline size_t duknavet_rule_elements(const uint8_t *rule)
+{
+    return rule[0];
+}
+
+/* The product a * b of two elements. */
+static inline uint8_t duknavet_rule_product(const uint8_t *rule, size_t a, size_t b)
+{
+    return rule[1 + a * rule[0] + b];
+}
+
+/* Where the count of the letters stands. */
+static inline size_t duknavet_rule_letters_at(const uint8_t *rule)
+{
+    return 1 + (size_t)rule[0] * rule[0];
+}
+
+/* How many letters the rule has. */
+static inline size_t duknavet_rule_letters(const uint8_t *rule)
+{
+    return rule[duknavet_rule_letters_at(rule)];
+}
+
+/* The element that a letter stands for. */
+static inline uint8_t duknavet_rule_image(const uint8_t *rule, size_t letter)
+{
+    return rule[duknavet_rule_letters_at(rule) + 1 + letter];
+}
+
+/* Where the count of the marks begins: from there on the file is a marks section, as duknavet_included takes one. */
+static inline size_t duknavet_rule_marks_at(const uint8_t *rule)
+{
+    return duknavet_rule_letters_at(rule) + 1 + duknavet_rule_letters(rule);
+}
+
+/* How many marks the rule has. */
+static inline size_t duknavet_rule_marks(const uint8_t *rule)
+{
+    const uint8_t *count = rule + duknavet_rule_marks_at(rule);
+    return count[0] + 256 * (size_t)count[1];
+}
+
+/* A mark by its number, in the order of the file. */
+static inline struct duknavet_marked_pair duknavet_rule_mark(const uint8_t *rule, size_t number)
+{
+    const uint8_t *bytes = rule + duknavet_rule_marks_at(rule) + 2 + 3 * number;
+    struct duknavet_marked_pair mark;
+    mark.s = bytes[0];
+    mark.e = bytes[1];
+    mark.grade = bytes[2];
+    return mark;
+}
+
+/* How many bytes the file has. */
+static inline size_t duknavet_rule_length(const uint8_t *rule)
+{
+    return duknavet_rule_marks_at(rule) + 2 + 3 * duknavet_rule_marks(rule);
+}
+
+/* The value of a word of one letter or more, each a letter of the rule. */
+static inline uint8_t duknavet_rule_value(const uint8_t *rule, const uint8_t *word, size_t letters)
+{
+    uint8_t value = duknavet_rule_image(rule, word[0]);
+    size_t at;
+    for (at = 1; at < letters; at++)
+        value = duknavet_rule_product(rule, value, duknavet_rule_image(rule, word[at]));
+    return value;
+}
+
 #ifdef __cplusplus
 }
 #endif

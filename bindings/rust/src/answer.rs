@@ -51,6 +51,31 @@ impl Refusal {
         self as u8
     }
 
+    /// What it says in general.
+    fn meaning(self) -> &'static str {
+        match self {
+            Refusal::Truncated => "the bytes end inside a count or a section",
+            Refusal::CountOutOfRange => "a count lies outside its range",
+            Refusal::EntryOutOfRange => {
+                "an entry, a grade or a monitor's value is out of its range"
+            }
+            Refusal::TrailingBytes => "bytes follow the last section",
+            Refusal::NotAssociative => "the product is not associative",
+            Refusal::Unreachable => "an element is no word's value",
+            Refusal::NotLinked => "a marked pair is not linked",
+            Refusal::Duplicate => "a marked pair or a transition stands twice",
+            Refusal::UnknownLetter => "the rule does not have this letter",
+            Refusal::WordLength => "a word has too many letters, or none where there must be one",
+            Refusal::NotStrong => "the rule is weak",
+            Refusal::BufferTooShort => "a lent buffer is too short",
+            Refusal::TooManyMatrices => "the automaton has more than 64 matrices",
+            Refusal::NameOutOfRange => "the name of a point is above 7",
+            Refusal::NameNeverKept => "the name was never kept",
+            Refusal::NoSuchState => "there is no such state",
+            Refusal::LimitOutOfRange => "the limit of rounds is above 64",
+        }
+    }
+
     /// The refusal of a number, if there is one.
     pub fn from_number(number: u8) -> Option<Refusal> {
         Some(match number {
@@ -87,18 +112,33 @@ pub struct Refused {
     pub place: u64,
 }
 
+impl Refused {
+    /// Its number, input and place.
+    pub(crate) fn numbers(&self) -> String {
+        let number = self.refusal.number();
+        format!(
+            "refusal {number}, input {}, place {}",
+            self.input, self.place
+        )
+    }
+
+    /// What is wrong, as far as it can be said without the inputs.
+    pub(crate) fn without_inputs(&self) -> String {
+        match self.refusal {
+            Refusal::NotAssociative => {
+                let (a, b, c) = (self.place / 4096, self.place / 64 % 64, self.place % 64);
+                format!("({a}·{b})·{c} is not {a}·({b}·{c})")
+            }
+            Refusal::Unreachable => format!("element {} is no word's value", self.place),
+            other => other.meaning().to_string(),
+        }
+    }
+}
+
+/// What is wrong as far as the place tells it; [`explain`](crate::words::explain) looks at the inputs too.
 impl std::fmt::Display for Refused {
     fn fmt(&self, f: &mut std::fmt::Formatter<'_>) -> std::fmt::Result {
-        let Refused {
-            refusal,
-            input,
-            place,
-        } = self;
-        write!(
-            f,
-            "refused by {} ({refusal:?}), input {input}, place {place}",
-            refusal.number()
-        )
+        write!(f, "{} ({})", self.without_inputs(), self.numbers())
     }
 }
 

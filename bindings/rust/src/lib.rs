@@ -11,6 +11,10 @@
 //! count of marks, low byte first, and three bytes for each: s, e and the grade. `docs/FORMATS.md` of the repository has the files and
 //! every refusal.
 //!
+//! The calls of this page work in buffers that are lent to them. [`owned`] has the same calls with results of their own,
+//! [`RuleMonitor`] a monitor with its rule, and [`RuleAutomaton`] a rule's own automaton; [`files`] has rules and automata as values,
+//! [`text`] their texts, [`words`] refusals in words.
+//!
 //! Every call takes any bytes, of any length: what is wrong with them is answered as a [`Refused`]. Calls that get a rule are
 //! lent a scratch of [`SCRATCH`] bytes or more, and leave it as zeros. After a refusal the result buffers keep every byte; where
 //! a buffer is too short (refusal 13) the scratch does too. Longer buffers pass, and bytes past a result are not touched.
@@ -31,13 +35,22 @@
 
 mod answer;
 mod automata;
+pub mod exchange;
+pub mod files;
 mod lassos;
 mod markings;
 mod monitors;
+pub mod owned;
+pub mod picture;
 #[allow(unsafe_code)]
 mod raw;
 mod reductions;
+mod rule_automaton;
+mod rule_monitor;
 mod states;
+pub mod text;
+pub mod witness;
+pub mod words;
 
 pub use answer::{Refusal, Refused};
 pub use automata::{automaton_rule, Translated};
@@ -47,6 +60,8 @@ pub use markings::{Classes, Complemented, Inclusion, Strength};
 pub use monitors::{event, fresh, keep, mark, return_to, verdict};
 pub use monitors::{Monitor, NotMoved, Verdict};
 pub use reductions::{reduce, reduce_rounds, Partition, Reduced};
+pub use rule_automaton::{ListedState, RuleAutomaton, RuleState};
+pub use rule_monitor::RuleMonitor;
 pub use states::{state_kind, successors, StateKind, Successors};
 
 /// The bytes that a scratch must have; a longer one passes.

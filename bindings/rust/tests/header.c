@@ -85,5 +85,17 @@ int main(void)
     answer = duknavet_member(rule, sizeof rule, letter, 2, letter, 3, scratch, sizeof scratch);
     expect("refusal", duknavet_refusal_of(answer) == DUKNAVET_UNKNOWN_LETTER && duknavet_input_of(answer) == 2 &&
                           duknavet_place_of(answer) == 2);
+    expect("elements and letters", duknavet_rule_elements(rule) == 2 && duknavet_rule_letters(rule) == 2);
+    expect("products", duknavet_rule_product(rule, 1, 1) == 1 && duknavet_rule_product(rule, 1, 0) == 0);
+    expect("images", duknavet_rule_image(rule, 0) == 0 && duknavet_rule_image(rule, 1) == 1 && duknavet_rule_image(sums, 0) == 1);
+    expect("marks", duknavet_rule_marks(rule) == 1 && duknavet_rule_marks(three_grades) == 3 && duknavet_rule_marks(one_letter) == 0);
+    expect("a mark", duknavet_rule_mark(three_grades, 1).s == 0 && duknavet_rule_mark(three_grades, 1).e == 1 &&
+                         duknavet_rule_mark(three_grades, 1).grade == 2);
+    expect("lengths", duknavet_rule_length(rule) == sizeof rule && duknavet_rule_length(three_grades) == sizeof three_grades &&
+                          duknavet_rule_length(one_letter) == sizeof one_letter);
+    expect("a marks section", is_result(duknavet_included(rule, sizeof rule, three_grades + duknavet_rule_marks_at(three_grades),
+                                                          sizeof three_grades - duknavet_rule_marks_at(three_grades), u, sizeof u, v,
+                                                          sizeof v, scratch, sizeof scratch), 1, 0, 0));
+    expect("values", duknavet_rule_value(rule, letter, 2) == 0 && duknavet_rule_value(rule, letter + 1, 1) == 1);
     return failures != 0;
 }

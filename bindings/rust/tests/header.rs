@@ -1,18 +1,11 @@
 //! The C header compiles without a warning, and a C program that uses it gets the answers of document 01.
 //! Where there is no C compiler this says so and checks nothing.
 
-use std::env;
+mod archive;
+
+use archive::archive;
 use std::path::{Path, PathBuf};
 use std::process::Command;
-
-fn archive() -> PathBuf {
-    let package = Path::new(env!("CARGO_MANIFEST_DIR"));
-    match env::var_os("DUKNAVET_ARCHIVE_DIR") {
-        Some(directory) => package.join(directory),
-        None => package.join("../../target/staticlib"),
-    }
-    .join("libexports.a")
-}
 
 fn compile(compiler: &str, words: &[&str]) -> PathBuf {
     let package = Path::new(env!("CARGO_MANIFEST_DIR"));

@@ -1,0 +1,289 @@
+"""Calls to Duknavet, a proved engine for rules over endless event sequences, through ctypes.
+
+A rule, an automaton and a marks section are the bytes of their files, and words are bytes, one a letter; docs/FORMATS.md of the repository
+has the files and every refusal. Every call takes any bytes: what is wrong with them is raised as Refused.
+
+    >>> from duknavet import member, strong
+    >>> w = bytes([2, 0, 0, 0, 1, 2, 0, 1, 1, 0, 0, 0, 3])
+    >>> strong(w)
+    True
+    >>> member(w, u=bytes([1]), v=bytes([0]))
+    Graded(grade=3, turns=1)
+
+The shared object is the file that DUKNAVET_LIBRARY names, else libduknavet.so beside this module, else the one in target/staticlib of
+the repository, where `build` puts it.
+"""
+
+import ctypes
+import os
+from typing import List, NamedTuple, Optional, Tuple
+
+SCRATCH = 65536
+RULE_OUT = 16404
+CLASSES_OUT = 8192
+U_OUT = 64
+V_OUT = 4224
+POINTS = 24
+BLOCKS = 64
+SUCCESSORS_OUT = 65
+#: The value of a monitor, and of a state's s, that stands for no letters.
+NONE = 64
+#: The kinds of states, as automaton files code them.
+PLAIN, INITIAL, FINAL = 0, 1, 2
+
+KINDS = {
+    1: "Truncated",
+    2: "CountOutOfRange",
+    3: "EntryOutOfRange",
+    4: "TrailingBytes",
+    5: "NotAssociative",
+    6: "Unreachable",
+    7: "NotLinked",
+    8: "Duplicate",
+    10: "UnknownLetter",
+    11: "WordLength",
+    12: "NotStrong",
+    13: "BufferTooShort",
+    14: "TooManyMatrices",
+    15: "NameOutOfRange",
+    16: "NameNeverKept",
+    17: "NoSuchState",
+    20: "LimitOutOfRange",
+}
+
+
+class Refused(Exception):
+    """A refused call: the number of the first check that fails, the input that it lies in, and the place there."""
+
+    def __init__(self, number: int, input: int, place: int):
+        self.number = number
+        self.kind = KINDS.get(number, "Refused")
+        self.input = input
+        self.place = place
+        super().__init__(f"{self.kind} (refusal {number}, input {input}, place {place})")
+
+
+class Graded(NamedTuple):
+    """A grade, 0 to 3, and the turns of the cycle."""
+
+    grade: int
+    turns: int
+
+
+class Classes(NamedTuple):
+    """For each pair (s, e), at s * n + e, the number of its least conjugate, None where it is not linked; and the counts."""
+
+    least: List[Optional[int]]
+    linked: int
+    classes: int
+    joins: int
+
+
+class Rounds(NamedTuple):
+    """The rounds done after round 0, whether one more would change nothing, and for each element the least of its block."""
+
+    rounds: int
+    finished: bool
+    blocks: List[int]
+
+
+class Mark(NamedTuple):
+    """A marked pair and its grade, 1 to 3."""
+
+    s: int
+    e: int
+    grade: int
+
+
+class Rule(NamedTuple):
+    """A rule taken apart. Whether it is one is said by the calls that get its bytes."""
+
+    products: List[List[int]]
+    images: List[int]
+    marks: List[Mark]
+
+    def to_bytes(self) -> bytes:
+        """The bytes of its file. ValueError where a number is no byte, or there are more than a count has room for."""
+        file = bytes([len(self.products)]) + b"".join(bytes(row) for row in self.products)
+        file += bytes([len(self.images)]) + bytes(self.images)
+        if len(self.marks) > 65535:
+            raise ValueError("too many marks")
+        return file + len(self.marks).to_bytes(2, "little") + b"".join(bytes(mark) for mark in self.marks)
+
+    @staticmethod
+    def from_bytes(file: bytes) -> "Rule":
+        """The rule of a file that passes every check."""
+        strong(file)
+        n = file[0]
+        products = [list(file[1 + a * n : 1 + (a + 1) * n]) for a in range(n)]
+        letters = 1 + n * n
+        marks = letters + 1 + file[letters]
+        triples = file[marks + 2 :]
+        pairs = [Mark(*triples[at : at + 3]) for at in range(0, len(triples), 3)]
+        return Rule(products, list(file[letters + 1 : marks]), pairs)
+
+
+def _load() -> ctypes.CDLL:
+    here = os.path.dirname(os.path.abspath(__file__))
+    beside = os.path.join(here, "libduknavet.so")
+    built = os.path.join(here, "..", "..", "target", "staticlib", "libduknavet.so")
+    found = beside if os.path.exists(beside) else built
+    library = ctypes.CDLL(os.environ.get("DUKNAVET_LIBRARY", found))
+    lent, size = [ctypes.c_char_p, ctypes.c_size_t], ctypes.c_size_t
+    written = lent  # A buffer of ctypes is handed over as a pointer to its characters too.
+    signatures = {
+        "classes": lent + written + written,
+        "strong": lent + written,
+        "member": lent + lent + lent + written,
+        "complement": lent + written + written,
+        "included": lent + lent + written + written + written,
+        "reduce": lent + written + written,
+        "reduce_rounds": lent + [size] + written + written,
+        "state_kind": lent + [size, size, ctypes.c_uint8] + written,
+        "successors": lent + [size, size, ctypes.c_uint8] + written + written,
+        "automaton_rule": lent + written + written,
+        "fresh": [],
+        "event": lent + [size, size, ctypes.c_uint8] + written,
+        "mark": lent + [size, size] + written,
+        "keep": lent + [size, size, size] + written + written,
+        "return": lent + [size, size, size] + lent + written,
+        "verdict": lent + [size, size] + written,
+    }
+    for name, arguments in signatures.items():
+        function = getattr(library, f"duknavet_{name}")
+        function.argtypes = arguments
+        function.restype = ctypes.c_uint64
+    return library
+
+
+_library = _load()
+
+
+def _call(name: str, *arguments) -> Tuple[int, int, int]:
+    """Calls a function, bytes and buffers with their lengths behind them and a scratch last; its three fields."""
+    handed = []
+    for argument in arguments:
+        if isinstance(argument, bytearray):
+            argument = bytes(argument)
+        handed.append(argument)
+        if not isinstance(argument, int):
+            handed.append(len(argument))
+    if name != "fresh":
+        handed += [ctypes.create_string_buffer(SCRATCH), SCRATCH]
+    answer = getattr(_library, f"duknavet_{name}")(*handed)
+    if answer & 255:
+        raise Refused(answer & 255, answer >> 8 & 255, answer >> 16)
+    return answer >> 16 & 65535, answer >> 32 & 65535, answer >> 48
+
+
+def _byte(number: int, what: str) -> int:
+    """A number that is handed over as a byte; ctypes would cut a larger one."""
+    if not 0 <= number <= 255:
+        raise ValueError(f"{what} is a byte")
+    return number
+
+
+def _size(number: int, what: str) -> int:
+    """A number that is handed over as a size; ctypes would cut a larger one."""
+    if not 0 <= number < 1 << 8 * ctypes.sizeof(ctypes.c_size_t):
+        raise ValueError(f"{what} is out of range")
+    return number
+
+
+def strong(rule: bytes) -> bool:
+    """Whether the values of u and v decide a lasso's grade."""
+    return _call("strong", rule)[0] == 1
+
+
+def member(rule: bytes, u: bytes, v: bytes) -> Graded:
+    """The grade of u, then v for ever, and the turns of v."""
+    grade, turns, _ = _call("member", rule, u, v)
+    return Graded(grade, turns)
+
+
+def classes(rule: bytes) -> Classes:
+    """The conjugacy classes of the rule's linked pairs."""
+    out = ctypes.create_string_buffer(CLASSES_OUT)
+    counts = _call("classes", rule, out)
+    numbers = [int.from_bytes(out.raw[at : at + 2], "little") for at in range(0, 2 * rule[0] ** 2, 2)]
+    return Classes([None if number == 65535 else number for number in numbers], *counts)
+
+
+def _written(name: str, file: bytes) -> bytes:
+    out = ctypes.create_string_buffer(RULE_OUT)
+    length, _, _ = _call(name, file, out)
+    return out.raw[:length]
+
+
+def complement(rule: bytes) -> bytes:
+    """The rule that gives each lasso 3 less the grade that a strong rule gives it."""
+    return _written("complement", rule)
+
+
+def reduce(rule: bytes) -> bytes:
+    """The smallest strong rule that gives every lasso the grade that a strong rule gives it."""
+    return _written("reduce", rule)
+
+
+def reduce_rounds(rule: bytes, limit: int = 64) -> Rounds:
+    """The reduction of a strong rule by rounds, at most so many after round 0; 64 always finish."""
+    out = ctypes.create_string_buffer(BLOCKS)
+    rounds, finished, _ = _call("reduce_rounds", rule, _size(limit, "a limit"), out)
+    return Rounds(rounds, finished == 1, list(out.raw[: rule[0]]))
+
+
+def state_kind(rule: bytes, s: int, e: int, least: int = 1) -> int:
+    """The kind of the state (s, e) of the rule's automaton for a least grade: PLAIN, INITIAL or FINAL. s may be NONE."""
+    return _call("state_kind", rule, _size(s, "s"), _size(e, "e"), _byte(least, "a grade"))[0]
+
+
+def successors(rule: bytes, s: int, e: int, letter: int) -> List[int]:
+    """The t of the states (t, e) that a letter leads to from (s, e), in rising order, NONE last."""
+    out = ctypes.create_string_buffer(SUCCESSORS_OUT)
+    count, _, _ = _call("successors", rule, _size(s, "s"), _size(e, "e"), _byte(letter, "a letter"), out)
+    return list(out.raw[:count])
+
+
+def automaton_rule(automaton: bytes) -> bytes:
+    """The rule with grade 3 for the lassos that an automaton accepts, and 0 for the others."""
+    return _written("automaton_rule", automaton)
+
+
+def included(rule: bytes, second: bytes) -> Optional[Tuple[bytes, bytes]]:
+    """A lasso (u, v) that the rule's own marks grade higher than the second marks section; None where there is none."""
+    u, v = ctypes.create_string_buffer(U_OUT), ctypes.create_string_buffer(V_OUT)
+    yes, letters_of_u, letters_of_v = _call("included", rule, second, u, v)
+    return None if yes else (u.raw[:letters_of_u], v.raw[:letters_of_v])
+
+
+class Monitor:
+    """Follows events by a rule. It counts nothing; a refused call changes nothing."""
+
+    def __init__(self, rule: bytes):
+        self.rule = bytes(rule)
+        self.before, self.since, _ = _call("fresh")
+        self._points = ctypes.create_string_buffer(POINTS)
+
+    def _move(self, name: str, *arguments) -> None:
+        self.before, self.since, _ = _call(name, self.rule, self.before, self.since, *arguments)
+
+    def event(self, letter: int) -> None:
+        """A letter, 0 to 255."""
+        self._move("event", _byte(letter, "a letter"))
+
+    def mark(self) -> None:
+        """What came since now counts as before."""
+        self._move("mark")
+
+    def keep(self, name: int) -> None:
+        """Keeps this moment under a name, 0 to 7."""
+        self._move("keep", name, self._points)
+
+    def return_to(self, name: int) -> None:
+        """Goes back to the moment that was kept under a name."""
+        self._move("return", name, self._points)
+
+    def verdict(self) -> Graded:
+        """The grade if the events since the last mark come for ever, and the turns of that cycle."""
+        grade, turns, _ = _call("verdict", self.rule, self.before, self.since)
+        return Graded(grade, turns)

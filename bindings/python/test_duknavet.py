@@ -1,0 +1,199 @@
+"""Each call through the shared object, on the small rules of docs/FORMATS.md and on rules from fixed seeds."""
+
+import doctest
+import random
+import unittest
+
+import duknavet
+from duknavet import FINAL, INITIAL, NONE, PLAIN, Graded, Mark, Monitor, Refused, Rounds, Rule
+
+W = bytes([2, 0, 0, 0, 1, 2, 0, 1, 1, 0, 0, 0, 3])
+THREE_GRADES = bytes([2, 0, 0, 0, 1, 2, 0, 1, 3, 0, 0, 0, 3, 0, 1, 2, 1, 1, 1])
+Z = bytes([2, 0, 1, 1, 0, 2, 1, 0, 1, 0, 0, 0, 3])
+TWICE = bytes([4, 0, 1, 2, 3, 1, 2, 3, 3, 2, 3, 3, 3, 3, 3, 3, 3, 2, 0, 1, 1, 0, 2, 0, 3])
+AUTOMATON = bytes([2, 1, 2, 2, 4, 0, 0, 0, 1, 0, 1, 0, 1, 0, 1, 1, 1, 0])
+
+
+def word(*letters):
+    return bytes(letters)
+
+
+class Calls(unittest.TestCase):
+    def refused(self, number, input, place, call, *arguments):
+        with self.assertRaises(Refused) as caught:
+            call(*arguments)
+        found = caught.exception
+        self.assertEqual((found.number, found.input, found.place), (number, input, place))
+
+    def test_strong(self):
+        self.assertTrue(duknavet.strong(W))
+        self.assertFalse(duknavet.strong(Z))
+        self.refused(5, 1, 1, duknavet.strong, bytes([2, 1, 0, 0, 0, 2, 0, 1, 0, 0]))
+        self.refused(1, 1, 0, duknavet.strong, b"")
+
+    def test_member(self):
+        self.assertEqual(duknavet.member(W, word(1), word(0)), Graded(3, 1))
+        self.assertEqual(duknavet.member(W, b"", word(1)), Graded(0, 1))
+        self.assertEqual(duknavet.member(Z, word(0), word(0)), Graded(3, 2))
+        self.assertEqual(duknavet.member(THREE_GRADES, bytearray([0]), word(1)), Graded(2, 1))
+        self.refused(10, 2, 2, duknavet.member, W, word(0), word(0, 1, 2))
+        self.refused(11, 2, 0, duknavet.member, W, word(0), b"")
+
+    def test_classes(self):
+        found = duknavet.classes(Z)
+        self.assertEqual(found.least, [0, None, 0, None])
+        self.assertEqual((found.linked, found.classes, found.joins), (2, 1, 1))
+
+    def test_written_rules(self):
+        self.assertEqual(duknavet.complement(W), bytes([2, 0, 0, 0, 1, 2, 0, 1, 2, 0, 0, 1, 3, 1, 1, 3]))
+        self.assertEqual(duknavet.reduce(duknavet.automaton_rule(AUTOMATON)), W)
+        self.refused(12, 1, 0, duknavet.reduce, Z)
+
+    def test_rounds(self):
+        self.assertEqual(duknavet.reduce_rounds(TWICE, 0), Rounds(0, False, [0, 1, 2, 1]))
+        self.assertEqual(duknavet.reduce_rounds(TWICE, 1), Rounds(1, True, [0, 1, 2, 3]))
+        self.assertEqual(duknavet.reduce_rounds(TWICE), Rounds(1, True, [0, 1, 2, 3]))
+        self.refused(20, 1, 0, duknavet.reduce_rounds, TWICE, 65)
+        self.refused(12, 1, 0, duknavet.reduce_rounds, Z)
+        self.refused(1, 1, 24, duknavet.reduce_rounds, TWICE[:24])
+        for limit in (-1, 1 << 64):
+            self.assertRaises(ValueError, duknavet.reduce_rounds, TWICE, limit)
+
+    def test_states(self):
+        self.assertEqual(duknavet.state_kind(W, 0, 0), INITIAL)
+        self.assertEqual(duknavet.state_kind(W, 0, 1), PLAIN)
+        self.assertEqual(duknavet.state_kind(W, NONE, 1), FINAL)
+        self.assertEqual([duknavet.state_kind(THREE_GRADES, 0, 1, least) for least in (1, 2, 3)], [INITIAL, INITIAL, PLAIN])
+        self.refused(17, 1, 0, duknavet.state_kind, Z, 0, 1)
+        self.refused(3, 1, 0, duknavet.state_kind, Z, 0, 1, 0)
+        self.refused(1, 1, 0, duknavet.state_kind, b"", 0, 0)
+        for state in ((0, 0, 257), (1 << 64, 0, 1), (0, -1, 1)):
+            self.assertRaises(ValueError, duknavet.state_kind, W, *state)
+
+    def test_successors(self):
+        self.assertEqual(duknavet.successors(W, NONE, 0, 0), [0, 1, NONE])
+        self.assertEqual(duknavet.successors(W, NONE, 0, 1), [0])
+        self.assertEqual(duknavet.successors(W, 1, 1, 0), [])
+        self.refused(17, 1, 0, duknavet.successors, Z, 0, 1, 7)
+        self.refused(10, 1, 0, duknavet.successors, Z, 0, 0, 2)
+        self.refused(4, 1, 13, duknavet.successors, W + b"\0", 0, 0, 0)
+        self.assertRaises(ValueError, duknavet.successors, W, 0, 0, 256)
+
+    def test_kinds_of_refusals(self):
+        found = {number: kind for number, kind in duknavet.KINDS.items() if number > 14}
+        self.assertEqual(found, {15: "NameOutOfRange", 16: "NameNeverKept", 17: "NoSuchState", 20: "LimitOutOfRange"})
+        with self.assertRaises(Refused) as caught:
+            duknavet.successors(Z, 0, 1, 0)
+        self.assertEqual(str(caught.exception), "NoSuchState (refusal 17, input 1, place 0)")
+
+    def test_included(self):
+        self.assertIsNone(duknavet.included(W, bytes([1, 0, 0, 0, 3])))
+        self.assertEqual(duknavet.included(THREE_GRADES, bytes([1, 0, 0, 0, 3])), (word(0), word(1)))
+        self.refused(7, 2, 2, duknavet.included, W, bytes([1, 0, 1, 0, 3]))
+
+    def test_monitor(self):
+        monitor = Monitor(W)
+        self.assertEqual((monitor.before, monitor.since), (duknavet.NONE, duknavet.NONE))
+        self.refused(11, 1, 0, monitor.verdict)
+        monitor.event(1)
+        monitor.keep(3)
+        monitor.mark()
+        monitor.event(0)
+        self.assertEqual(monitor.verdict(), Graded(3, 1))
+        self.refused(10, 1, 0, monitor.event, 7)
+        self.refused(16, 1, 0, monitor.return_to, 4)
+        self.refused(15, 1, 0, monitor.keep, 8)
+        self.assertEqual((monitor.before, monitor.since), (1, 0))
+        monitor.return_to(3)
+        self.assertEqual((monitor.before, monitor.since), (duknavet.NONE, 1))
+        self.assertRaises(ValueError, monitor.event, 256)
+
+    def test_rules(self):
+        rule = Rule.from_bytes(THREE_GRADES)
+        self.assertEqual(rule.products, [[0, 0], [0, 1]])
+        self.assertEqual(rule.images, [0, 1])
+        self.assertEqual(rule.marks[1], Mark(0, 1, 2))
+        self.assertEqual(rule.to_bytes(), THREE_GRADES)
+        self.refused(4, 1, 13, Rule.from_bytes, W + b"\0")
+
+    def test_documented_example(self):
+        self.assertEqual(doctest.testmod(duknavet).failed, 0)
+
+
+class Cyclic(unittest.TestCase):
+    """Sums modulo m, where the grade of v for ever can be said outright: that of the best marked sum of letters from its start."""
+
+    def test_grades(self):
+        numbers = random.Random(2015)
+        seen = set()
+        for _ in range(300):
+            m = numbers.randint(1, 9)
+            products = [[(a + b) % m for b in range(m)] for a in range(m)]
+            images = [1 % m, numbers.randrange(m)]
+            marks = [Mark(s, 0, numbers.randint(1, 3)) for s in range(m) if numbers.random() < 0.4]
+            file = Rule(products, images, marks).to_bytes()
+            grade = {mark.s: mark.grade for mark in marks}
+            v = [numbers.randrange(2) for _ in range(numbers.randint(1, 5))]
+            letters = v * m
+            sums = [sum(images[letter] for letter in letters[:cut]) % m for cut in range(1, len(letters) + 1)]
+            expected = max(grade.get(start, 0) for start in sums)
+            self.assertEqual(duknavet.member(file, b"", bytes(v)).grade, expected)
+            seen.add(expected)
+        self.assertEqual(seen, {0, 1, 2, 3})
+
+
+class Automata(unittest.TestCase):
+    """The automaton of a rule against the grades of lassos: sets of states, letter by letter."""
+
+    def accepts(self, file, least, u, v):
+        n = file[0]
+        idempotents = [e for e in range(n) if file[1 + e * n + e] == e]
+        states = [(s, e) for e in idempotents for s in list(range(n)) + [NONE]]
+        kinds = {state: duknavet.state_kind(file, *state, least) for state in states}
+        letters = sorted(set(u + v))
+        leads = {(state, a): [(t, state[1]) for t in duknavet.successors(file, *state, a)] for state in states for a in letters}
+
+        def turn(start):
+            """The states that v leads to from one, and whether a final state is met on some way there."""
+            reached = {(start, False)}
+            for a in v:
+                reached = {(to, met or kinds[to] == FINAL) for state, met in reached for to in leads[state, a]}
+            return reached
+
+        now = {state for state in states if kinds[state] == INITIAL}
+        for a in u:
+            now = {to for state in now for to in leads[state, a]}
+        turns = {state: turn(state) for state in states}
+
+        def after(begun):
+            found, waiting = set(), list(begun)
+            while waiting:
+                point = waiting.pop()
+                if point not in found:
+                    found.add(point)
+                    waiting.extend((to, point[1] or met) for to, met in turns[point[0]])
+            return found
+
+        visited = {state for state, _ in after((state, False) for state in now)}
+        return any((state, True) in after(turns[state]) for state in visited)
+
+    def test_lassos(self):
+        numbers = random.Random(2024)
+        seen = set()
+        for _ in range(60):
+            m = numbers.randint(1, 4)
+            products = [[(a + b) % m for b in range(m)] for a in range(m)]
+            marks = [Mark(s, 0, numbers.randint(1, 3)) for s in range(m) if numbers.random() < 0.5]
+            file = Rule(products, [1 % m, numbers.randrange(m)], marks).to_bytes()
+            for file in (file, W, THREE_GRADES, TWICE):
+                u = bytes(numbers.randrange(2) for _ in range(numbers.randint(0, 3)))
+                v = bytes(numbers.randrange(2) for _ in range(numbers.randint(1, 3)))
+                least = numbers.randint(1, 3)
+                expected = duknavet.member(file, u, v).grade >= least
+                self.assertEqual(self.accepts(file, least, u, v), expected)
+                seen.add((duknavet.strong(file), expected))
+        self.assertEqual(len(seen), 4)
+
+
+if __name__ == "__main__":
+    unittest.main()

@@ -1,0 +1,56 @@
+//! What a subcommand is.
+
+use crate::arguments::Arguments;
+
+/// A subcommand: what help says of it, and what runs it.
+pub struct Command {
+    pub name: &'static str,
+    /// Its arguments as help shows them, and how many there may be.
+    pub arguments: &'static str,
+    pub least: usize,
+    pub most: usize,
+    /// What it does, in a line.
+    pub purpose: &'static str,
+    pub options: &'static [Choice],
+    /// What it prints, and what its status means.
+    pub details: &'static str,
+    pub run: fn(&Arguments) -> Result<Answer, Failure>,
+}
+
+/// An option `--name`, with or without a value.
+pub struct Choice {
+    pub name: &'static str,
+    /// The value as help shows it; none for an option that stands alone.
+    pub value: Option<&'static str>,
+    pub meaning: &'static str,
+}
+
+/// How a subcommand ends that was neither refused nor failed.
+#[derive(Clone, Copy, Debug, PartialEq, Eq)]
+pub enum Answer {
+    Done,
+    Yes,
+    No,
+}
+
+impl Answer {
+    pub fn from(yes: bool) -> Answer {
+        match yes {
+            true => Answer::Yes,
+            false => Answer::No,
+        }
+    }
+}
+
+/// Why a subcommand has no answer.
+#[derive(Debug)]
+pub enum Failure {
+    /// An input was refused by a call, or is a text that cannot be read.
+    Refused(String),
+    /// The words of the command line.
+    Usage(String),
+    /// A file could not be read or written.
+    Files(String),
+    /// Nobody reads the output any more.
+    Closed,
+}

@@ -1,0 +1,33 @@
+//! The conjugacy classes of a rule's linked pairs.
+
+use crate::arguments::Arguments;
+use crate::command::{Answer, Command, Failure};
+use crate::{input, output};
+use duknavet::owned;
+use std::fmt::Write;
+
+pub const COMMAND: Command = Command {
+    name: "classes",
+    arguments: "RULE",
+    least: 1,
+    most: 1,
+    purpose: "list the linked pairs of a rule by conjugacy classes",
+    options: &[],
+    details: "Prints the counts of linked pairs, classes and joins, then a line for each class with its pairs, the least first.",
+    run,
+};
+
+fn run(arguments: &Arguments) -> Result<Answer, Failure> {
+    let rule = input::rule(arguments.plain(0))?;
+    let list = owned::classes(&rule.bytes).map_err(|explained| rule.refused(&explained))?;
+    let counts = list.counts;
+    let mut text = format!(
+        "linked {} classes {} joins {}\n",
+        counts.linked, counts.classes, counts.joins
+    );
+    for class in list.by_least() {
+        let pairs = class.iter().map(|(s, e)| format!("({s}, {e})"));
+        let _ = writeln!(text, "{}", pairs.collect::<Vec<_>>().join(" "));
+    }
+    output::print(&text)
+}

@@ -1,0 +1,75 @@
+//! Where two rules, or two automata, differ.
+
+use crate::arguments::Arguments;
+use crate::command::{Answer, Command, Failure};
+use crate::input::Source;
+use crate::kinds::{self, AS};
+use crate::output;
+use duknavet::owned;
+use duknavet::text::{print_lasso, Kind};
+use duknavet::witness::{compare, Comparison};
+
+pub const COMMAND: Command = Command {
+    name: "compare",
+    arguments: "FIRST SECOND",
+    least: 2,
+    most: 2,
+    purpose: "compare two rules or automata over the same letters, and give a lasso that tells them apart",
+    options: &[AS],
+    details: "Prints equal, with status 0, where every lasso has the same grade by both: strong rules by the bytes of their \
+reductions, weak ones by inclusion both ways. Else, with status 1, a lasso of which no single letter can be left out, and its two \
+grades, each as the call member answers it. An automaton stands for its rule. Two rules of which one is weak are shown \
+equal only as long as words have at most 64 pairs of values in both.",
+    run,
+};
+
+fn run(arguments: &Arguments) -> Result<Answer, Failure> {
+    let (first, first_rule) = rule_of(arguments, 0)?;
+    let (second, second_rule) = rule_of(arguments, 1)?;
+    let comparison =
+        compare(&first_rule, &second_rule).map_err(|(which, explained)| match which {
+            1 => first.refused(&explained),
+            _ => second.refused(&explained),
+        })?;
+    match comparison {
+        Comparison::EqualReductions(reduction) => {
+            let elements = reduction.first().copied().unwrap_or(0);
+            output::write(
+                format!("equal: both reduce to the same {elements} elements\n").as_bytes(),
+            )?;
+            Ok(Answer::Yes)
+        }
+        Comparison::EqualGrades => {
+            output::write(b"equal: neither grades a lasso higher\n")?;
+            Ok(Answer::Yes)
+        }
+        Comparison::Different(difference) => {
+            let names = match first.names.any() {
+                true => &first.names,
+                false => &second.names,
+            };
+            let lasso = print_lasso(&difference.lasso, names);
+            let (by_first, by_second) = (difference.first, difference.second);
+            output::write(format!("{lasso}\ngrades {by_first} {by_second}\n").as_bytes())?;
+            Ok(Answer::No)
+        }
+        Comparison::OtherLetters(first, second) => Err(Failure::Refused(format!(
+            "the first has {first} letters and the second {second}"
+        ))),
+        Comparison::TooLarge(pairs) => Err(Failure::Refused(format!(
+            "one rule is weak, words have {pairs} pairs of values in both, more than 64, and no short lasso tells them apart"
+        ))),
+    }
+}
+
+/// A file, and the rule that it is or that its automaton has.
+fn rule_of(arguments: &Arguments, place: usize) -> Result<(Source, Vec<u8>), Failure> {
+    let (source, kind) = kinds::either(arguments.plain(place), arguments)?;
+    let rule = match kind {
+        Kind::Rule => Ok(source.bytes.clone()),
+        Kind::Automaton => owned::automaton_rule(&source.bytes),
+        _ => return Err(arguments.usage("it compares rules and automata")),
+    };
+    let rule = rule.map_err(|explained| source.refused(&explained))?;
+    Ok((source, rule))
+}

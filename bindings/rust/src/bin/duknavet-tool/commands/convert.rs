@@ -1,0 +1,90 @@
+//! Between bytes and texts, and to and from other tools' formats.
+
+use super::states::{least, LEAST};
+use crate::arguments::Arguments;
+use crate::command::{Answer, Choice, Command, Failure};
+use crate::form::text_of;
+use crate::input::{self, Source};
+use crate::kinds::{self, AS};
+use crate::output;
+use duknavet::exchange::{print_hoa, print_rule_hoa};
+use duknavet::files::Automaton;
+use duknavet::text::{print_lasso, Kind, Names};
+use duknavet::RuleAutomaton;
+
+pub const COMMAND: Command = Command {
+    name: "convert",
+    arguments: "FILE",
+    least: 1,
+    most: 1,
+    purpose: "write a file in another form: bytes, text, or for an automaton or a rule the Hanoi format",
+    options: &[
+        AS,
+        Choice {
+            name: "to",
+            value: Some("FORM"),
+            meaning: "bytes, text or hoa; else text for bytes and bytes for a text",
+        },
+        LEAST,
+    ],
+    details: "Bytes, the text that is written for them and the bytes of that text are the same to the last byte. What does not pass the \
+checks is converted too, as long as its sections have the lengths that its counts say: a text can be mended by hand. Names of letters \
+stand in texts only. Letter i of an automaton in the Hanoi format, or of a never claim, is the valuation whose bit j is proposition j. A rule in that format is \
+its own automaton, as states lists it, for the lassos of the least grade or more.",
+    run,
+};
+
+const LEAST_FOR: &str = "`--least` is for a rule with `--to hoa`";
+
+fn run(arguments: &Arguments) -> Result<Answer, Failure> {
+    let to = arguments.one_of("to", &["bytes", "text", "hoa"])?;
+    let least = least(arguments)?;
+    let name = arguments.plain(0);
+    let bytes = input::contents(name)?;
+    if let Some(Ok(Kind::Lasso)) = duknavet::text::kind(&bytes) {
+        let lasso = duknavet::text::read_lasso(&bytes, &Names::none())
+            .map_err(|error| Failure::Refused(format!("{}: {error}", input::shown(name))))?;
+        return match to {
+            _ if arguments.has("least") => Err(arguments.usage(LEAST_FOR)),
+            None | Some("text") => output::print(&(print_lasso(&lasso, &Names::none()) + "\n")),
+            _ => Err(arguments.usage("a lasso is a text only")),
+        };
+    }
+    let source = input::source_of(input::shown(name), bytes)?;
+    let (source, kind) = kinds::of_source(source, arguments)?;
+    let to = to.unwrap_or(match source.is_text() {
+        true => "bytes",
+        false => "text",
+    });
+    if arguments.has("least") && (to, kind) != ("hoa", Kind::Rule) {
+        return Err(arguments.usage(LEAST_FOR));
+    }
+    match (to, kind) {
+        ("bytes", _) => output::write(&source.bytes).map(|()| Answer::Done),
+        ("hoa", Kind::Rule) => {
+            let automaton = RuleAutomaton::reached(&source.bytes, least);
+            let automaton = automaton.map_err(|explained| source.refused(&explained))?;
+            output::print(&print_rule_hoa(&automaton))
+        }
+        ("hoa", Kind::Automaton) => match Automaton::take_apart(&source.bytes) {
+            Some(automaton) => output::print(&print_hoa(&automaton)),
+            None => Err(kinds::refusal(&source, kind)),
+        },
+        ("hoa", _) => Err(arguments.usage("only automata and rules have the Hanoi format")),
+        _ => text(&source, kind),
+    }
+}
+
+fn text(source: &Source, kind: Kind) -> Result<Answer, Failure> {
+    let Some(text) = text_of(&source.bytes, kind, &source.names) else {
+        return Err(kinds::refusal(source, kind));
+    };
+    let mut lines = text.split_inclusive('\n');
+    let header = lines.next().unwrap_or("").to_string();
+    let notes: String = source
+        .notes
+        .iter()
+        .map(|note| format!("# {note}\n"))
+        .collect();
+    output::print(&(header + &notes + &lines.collect::<String>()))
+}

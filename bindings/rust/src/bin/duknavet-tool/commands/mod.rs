@@ -1,0 +1,47 @@
+//! The subcommands, in the order of the help.
+
+mod automaton;
+mod check;
+mod classes;
+mod compare;
+mod complement;
+mod convert;
+mod follow;
+mod included;
+mod member;
+mod page;
+mod picture;
+mod reduce;
+mod rounds;
+mod show;
+mod states;
+mod stretch;
+mod strong;
+mod summary;
+
+use crate::command::Command;
+
+pub const ALL: &[&Command] = &[
+    &check::COMMAND,
+    &summary::COMMAND,
+    &strong::COMMAND,
+    &member::COMMAND,
+    &classes::COMMAND,
+    &complement::COMMAND,
+    &included::COMMAND,
+    &reduce::COMMAND,
+    &rounds::COMMAND,
+    &automaton::COMMAND,
+    &states::COMMAND,
+    &follow::COMMAND,
+    &stretch::COMMAND,
+    &convert::COMMAND,
+    &show::COMMAND,
+    &picture::COMMAND,
+    &page::COMMAND,
+    &compare::COMMAND,
+];
+
+pub fn named(name: &str) -> Option<&'static Command> {
+    ALL.iter().copied().find(|command| command.name == name)
+}

@@ -1,0 +1,45 @@
+//! The form that a rule, an automaton or a marks section is written in.
+
+use crate::arguments::Arguments;
+use crate::command::{Answer, Choice, Failure};
+use crate::input::Source;
+use crate::output;
+use duknavet::files::{marks_of, Automaton, Rule};
+use duknavet::text::{print_automaton, print_marks, print_rule, Kind, Names};
+
+pub const TO: Choice = Choice {
+    name: "to",
+    value: Some("FORM"),
+    meaning: "bytes or text; else a text for a text and bytes for bytes",
+};
+
+/// Whether a result is to be a text: as asked, else as the input was.
+pub fn wants_text(arguments: &Arguments, source: &Source) -> Result<bool, Failure> {
+    Ok(match arguments.one_of("to", &["bytes", "text"])? {
+        Some(form) => form == "text",
+        None => source.is_text(),
+    })
+}
+
+/// The text of bytes, if their sections have the lengths that their counts say.
+pub fn text_of(bytes: &[u8], kind: Kind, names: &Names) -> Option<String> {
+    match kind {
+        Kind::Rule => Some(print_rule(&Rule::take_apart(bytes)?, names)),
+        Kind::Automaton => Some(print_automaton(&Automaton::take_apart(bytes)?, names)),
+        Kind::Marks => Some(print_marks(&marks_of(bytes)?)),
+        Kind::Lasso => None,
+    }
+}
+
+/// Writes a rule that a call made of a source: its letters are those of the source, and so are their names.
+pub fn write_rule(arguments: &Arguments, source: &Source, bytes: &[u8]) -> Result<Answer, Failure> {
+    let text = match wants_text(arguments, source)? {
+        true => text_of(bytes, Kind::Rule, &source.names),
+        false => None,
+    };
+    match text {
+        Some(text) => output::write(text.as_bytes())?,
+        None => output::write(bytes)?,
+    }
+    Ok(Answer::Done)
+}

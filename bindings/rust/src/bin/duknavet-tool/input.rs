@@ -1,0 +1,179 @@
+//! Files that are handed in: bytes and texts, told apart by how they begin.
+
+use crate::command::Failure;
+use duknavet::exchange;
+use duknavet::files::Lasso;
+use duknavet::text::{self, Kind, Names, Parsed, Place, TextError};
+use duknavet::words::Explained;
+use duknavet::Refusal;
+use std::ffi::OsStr;
+use std::fs::File;
+use std::io::{self, Read};
+use std::sync::atomic::{AtomicBool, Ordering};
+
+/// The most bytes that are read of one file.
+const MOST: u64 = 4 << 20;
+
+/// What a file holds.
+#[derive(Clone, Copy, Debug, PartialEq, Eq)]
+pub enum Form {
+    Bytes,
+    Text(Kind),
+    /// The Hanoi format.
+    Hoa,
+    /// Spin's never claim.
+    Never,
+}
+
+/// The bytes of a rule, an automaton or a marks section, and what the text that they came in says beyond them.
+pub struct Source {
+    pub name: String,
+    pub bytes: Vec<u8>,
+    pub form: Form,
+    pub names: Names,
+    /// Where each byte stood in a text.
+    places: Vec<Place>,
+    /// What files of other tools say of the letters, a line each.
+    pub notes: Vec<String>,
+}
+
+impl Source {
+    pub fn is_text(&self) -> bool {
+        self.form != Form::Bytes
+    }
+
+    /// The refusal of this input, with the line and column where the place is a byte of a text.
+    pub fn refused(&self, explained: &Explained) -> Failure {
+        let refusal = explained.refused.refusal;
+        let of_byte = matches!(
+            refusal,
+            Refusal::Truncated
+                | Refusal::CountOutOfRange
+                | Refusal::EntryOutOfRange
+                | Refusal::TrailingBytes
+                | Refusal::NotLinked
+                | Refusal::Duplicate
+        );
+        let at = usize::try_from(explained.refused.place).ok();
+        // Byte 0 is a count, so that an entry there is one that was handed over beside the file.
+        let beside = refusal == Refusal::EntryOutOfRange && at == Some(0);
+        let at = at.filter(|_| of_byte && !beside);
+        let place = at.and_then(|at| self.places.get(at));
+        let name = &self.name;
+        Failure::Refused(match place {
+            Some(place) => format!("{name}: {place}: {explained}"),
+            None => format!("{name}: {explained}"),
+        })
+    }
+}
+
+/// A name as messages show it.
+pub fn shown(name: &OsStr) -> String {
+    match name == "-" {
+        true => "standard input".to_string(),
+        false => name.to_string_lossy().into_owned(),
+    }
+}
+
+/// All bytes of a file, or of standard input for `-`, which can be read once.
+pub fn contents(name: &OsStr) -> Result<Vec<u8>, Failure> {
+    static READ: AtomicBool = AtomicBool::new(false);
+    let fault = |error: io::Error| Failure::Files(format!("{}: {error}", shown(name)));
+    let mut bytes = Vec::new();
+    if name == "-" {
+        if READ.swap(true, Ordering::Relaxed) {
+            let message = "standard input can be read once, and `-` stands twice";
+            return Err(Failure::Usage(message.to_string()));
+        }
+        let mut input = io::stdin().lock().take(MOST + 1);
+        input.read_to_end(&mut bytes).map_err(fault)?;
+    } else {
+        let mut input = File::open(name).map_err(fault)?.take(MOST + 1);
+        input.read_to_end(&mut bytes).map_err(fault)?;
+    }
+    if bytes.len() as u64 > MOST {
+        let message = format!("{}: there are more than {MOST} bytes", shown(name));
+        return Err(Failure::Files(message));
+    }
+    Ok(bytes)
+}
+
+fn form(bytes: &[u8]) -> Result<Form, TextError> {
+    if let Some(kind) = text::kind(bytes) {
+        return kind.map(Form::Text);
+    }
+    Ok(match exchange::format(bytes) {
+        Some(exchange::Format::Hoa) => Form::Hoa,
+        Some(exchange::Format::Never) => Form::Never,
+        None => Form::Bytes,
+    })
+}
+
+/// A file with whatever form it has; a lasso has no bytes and is not one.
+pub fn source(name: &OsStr) -> Result<Source, Failure> {
+    source_of(shown(name), contents(name)?)
+}
+
+pub fn source_of(name: String, bytes: Vec<u8>) -> Result<Source, Failure> {
+    let fault = |error: TextError| Failure::Refused(format!("{name}: {error}"));
+    let form = form(&bytes).map_err(fault)?;
+    let mut notes = Vec::new();
+    let parsed = match form {
+        Form::Bytes => Parsed {
+            bytes,
+            places: Vec::new(),
+            names: Names::none(),
+        },
+        Form::Text(_) => text::read(&bytes).map_err(fault)?.1,
+        Form::Hoa | Form::Never => {
+            let read = exchange::read(&bytes).map_err(fault)?;
+            notes = read.notes();
+            Parsed {
+                bytes: read.automaton.bytes(),
+                places: Vec::new(),
+                names: Names::none(),
+            }
+        }
+    };
+    Ok(Source {
+        name,
+        bytes: parsed.bytes,
+        form,
+        names: parsed.names,
+        places: parsed.places,
+        notes,
+    })
+}
+
+/// A file that is to be of one kind: bytes are taken for it, and a text of another kind is refused.
+pub fn expected(name: &OsStr, kind: Kind) -> Result<Source, Failure> {
+    let source = source(name)?;
+    let found = match source.form {
+        Form::Bytes => kind,
+        Form::Text(own) => own,
+        Form::Hoa | Form::Never => Kind::Automaton,
+    };
+    if found != kind {
+        return Err(Failure::Refused(format!(
+            "{}: expected {}, found {}",
+            source.name,
+            kind.article(),
+            found.article()
+        )));
+    }
+    Ok(source)
+}
+
+pub fn rule(name: &OsStr) -> Result<Source, Failure> {
+    expected(name, Kind::Rule)
+}
+
+/// A lasso: the argument itself where it begins with `u:` or `v:`, else the text in the file of that name.
+pub fn lasso(argument: &OsStr, names: &Names) -> Result<Lasso, Failure> {
+    let words = argument.to_string_lossy();
+    let (name, bytes) = match words.starts_with("u:") || words.starts_with("v:") {
+        true => ("the lasso".to_string(), words.into_owned().into_bytes()),
+        false => (shown(argument), contents(argument)?),
+    };
+    text::read_lasso(&bytes, names).map_err(|error| Failure::Refused(format!("{name}: {error}")))
+}

@@ -1,0 +1,61 @@
+//! A tool for people over the proved archive: every call from the shell, and texts, pictures and pages of rules and automata.
+//!
+//! It parses, prints and asks; every verdict is a call's. A subcommand is a file of `commands/` and a line of its list.
+
+mod arguments;
+mod command;
+mod commands;
+mod form;
+mod help;
+mod input;
+mod kinds;
+mod lines;
+mod output;
+mod state;
+
+use arguments::Arguments;
+use command::{Answer, Failure};
+use std::ffi::OsString;
+use std::process::ExitCode;
+
+fn main() -> ExitCode {
+    let words: Vec<OsString> = std::env::args_os().skip(1).collect();
+    let (status, message) = match run(&words) {
+        Ok(Answer::Done | Answer::Yes) => (0, None),
+        Ok(Answer::No) => (1, None),
+        Err(Failure::Refused(message)) => (2, Some(message)),
+        Err(Failure::Usage(message) | Failure::Files(message)) => (3, Some(message)),
+        Err(Failure::Closed) => (3, None),
+    };
+    if let Some(message) = message {
+        output::complain(&message);
+    }
+    ExitCode::from(status)
+}
+
+fn run(words: &[OsString]) -> Result<Answer, Failure> {
+    let Some((first, rest)) = words.split_first() else {
+        return Err(Failure::Usage(format!(
+            "there is no subcommand\n{}",
+            help::overview()
+        )));
+    };
+    let name = first.to_string_lossy();
+    match name.as_ref() {
+        "--help" | "-h" | "help" => return help::print(rest),
+        "--version" => {
+            return output::print(&format!("duknavet-tool {}\n", env!("CARGO_PKG_VERSION")))
+        }
+        "--man" => return output::print(&help::manual()),
+        _ => {}
+    }
+    let Some(command) = commands::named(&name) else {
+        let message = format!("there is no subcommand `{name}`; --help lists them");
+        return Err(Failure::Usage(message));
+    };
+    if rest.iter().any(|word| word == "--help" || word == "-h") {
+        return output::print(&help::of(command));
+    }
+    let arguments = Arguments::read(command, rest)?;
+    (command.run)(&arguments)
+}

@@ -1,0 +1,24 @@
+//! Standard output and standard error. A write that fails is noticed.
+
+use crate::command::{Answer, Failure};
+use std::io::{self, ErrorKind, Write};
+
+/// Writes a result to standard output.
+pub fn write(bytes: &[u8]) -> Result<(), Failure> {
+    let mut out = io::stdout().lock();
+    let written = out.write_all(bytes).and_then(|()| out.flush());
+    written.map_err(|error| match error.kind() {
+        ErrorKind::BrokenPipe => Failure::Closed,
+        _ => Failure::Files(format!("standard output: {error}")),
+    })
+}
+
+/// Writes a text and is done.
+pub fn print(text: &str) -> Result<Answer, Failure> {
+    write(text.as_bytes()).map(|()| Answer::Done)
+}
+
+/// Says what is wrong. Where nobody reads standard error there is nobody to be told.
+pub fn complain(message: &str) {
+    let _ = writeln!(io::stderr().lock(), "duknavet-tool: {message}");
+}

@@ -1,0 +1,91 @@
+//! Automata of other tools: the Hanoi format (HOA) both ways, Spin's never claims in.
+//!
+//! Their letters are valuations of at most four propositions. The letter of a valuation is the sum of 2^i over the propositions i
+//! that hold, in the order in which the file declares them, or for a never claim first names them: letter 0 has none, letter 1 the
+//! first alone. States that no run that accepts can meet are left out before anybody asks how many there are.
+//!
+//! No bytes of a file that passes the checks begin as these texts do: `H` is 72 and `n` is 110, and no count of elements or states
+//! is that large, nor any count of marks with the next byte.
+
+mod condition;
+mod graph;
+mod hoa;
+mod never;
+mod print;
+mod scanner;
+
+pub use print::{print_hoa, print_rule_hoa};
+
+use crate::files::Automaton;
+use crate::text::TextError;
+
+/// A format of other tools.
+#[derive(Clone, Copy, Debug, PartialEq, Eq, Hash)]
+pub enum Format {
+    /// The Hanoi format.
+    Hoa,
+    /// Spin's never claim.
+    Never,
+}
+
+/// An automaton that was read, with the propositions that its letters are valuations of.
+#[derive(Clone, Debug, PartialEq, Eq)]
+pub struct Foreign {
+    /// The automaton, which may have too many states for a file.
+    pub automaton: Automaton,
+    /// The propositions, the first that of the lowest bit.
+    pub propositions: Vec<String>,
+    /// How many states the file has; those of transitions that accept count once.
+    pub states: usize,
+}
+
+impl Foreign {
+    /// What each letter stands for, a line each.
+    pub fn notes(&self) -> Vec<String> {
+        let letters = 0..usize::from(self.automaton.letters);
+        let note =
+            |letter: usize| format!("letter {letter}: {}", valuation(letter, &self.propositions));
+        letters.map(note).collect()
+    }
+}
+
+/// A valuation as a conjunction.
+fn valuation(letter: usize, propositions: &[String]) -> String {
+    let literal = |(bit, name): (usize, &String)| match letter >> bit & 1 {
+        1 => name.clone(),
+        _ => format!("!{name}"),
+    };
+    let literals: Vec<String> = propositions.iter().enumerate().map(literal).collect();
+    match literals.is_empty() {
+        true => "any event".to_string(),
+        false => literals.join(" & "),
+    }
+}
+
+/// The format that bytes begin as: `HOA:`, or `never` and white space or a brace.
+pub fn format(bytes: &[u8]) -> Option<Format> {
+    if bytes.starts_with(b"HOA:") {
+        return Some(Format::Hoa);
+    }
+    let behind = bytes.strip_prefix(b"never")?.first()?;
+    (behind.is_ascii_whitespace() || *behind == b'{').then_some(Format::Never)
+}
+
+/// The automaton that a text of one of the formats says.
+pub fn read(bytes: &[u8]) -> Result<Foreign, TextError> {
+    let text = crate::text::decode(bytes)?;
+    let (graph, propositions, letters) = match format(bytes) {
+        Some(Format::Never) => {
+            let (graph, propositions) = never::read(text)?;
+            (graph, propositions, None)
+        }
+        _ => hoa::read(text)?,
+    };
+    let all = 1_u8 << propositions.len().min(4);
+    let letters = letters.map_or(all, |some| all.min(some as u8));
+    Ok(Foreign {
+        automaton: graph.automaton(letters)?,
+        propositions,
+        states: graph.states(),
+    })
+}

@@ -1,0 +1,84 @@
+//! The text of an automaton: `states`, their count and a kind each; `letters`, their count and their names, all or none;
+//! `transitions`, their count and for each the state it leaves, its letter and the state it goes to.
+
+use super::names::Names;
+use super::read::{Kind, Parsed};
+use super::tokens::{TextError, Tokens};
+use crate::files::Automaton;
+use std::fmt::Write;
+
+const KINDS: [&str; 4] = ["plain", "initial", "final", "both"];
+
+pub(super) fn read(tokens: &mut Tokens<'_>) -> Result<Parsed, TextError> {
+    let mut parsed = Parsed::new();
+    tokens.expect("states")?;
+    let states = parsed.byte(tokens, "the count of the states")?;
+    for state in 0..states {
+        read_kind(tokens, &mut parsed, state)?;
+    }
+    tokens.expect("letters")?;
+    let letters = parsed.byte(tokens, "the count of the letters")?;
+    let unnamed = |tokens: &Tokens<'_>| tokens.peek().is_none_or(|next| next.word == "transitions");
+    if !unnamed(tokens) {
+        for letter in 0..letters {
+            let wanted = format!("the name of letter {letter}");
+            if unnamed(tokens) {
+                return Err(tokens.fault(&wanted));
+            }
+            let name = tokens.next(&wanted)?;
+            parsed.names.add(Some(name))?;
+        }
+    }
+    tokens.expect("transitions")?;
+    let count = parsed.wide_count(tokens, "the count of the transitions")?;
+    for transition in 0..count {
+        parsed.byte(
+            tokens,
+            &format!("the state that transition {transition} leaves"),
+        )?;
+        let letter = tokens.next(&format!("the letter of transition {transition}"))?;
+        let number = parsed.names.read(letter)?;
+        parsed.push(number, letter.place);
+        parsed.byte(
+            tokens,
+            &format!("the state that transition {transition} goes to"),
+        )?;
+    }
+    Ok(parsed)
+}
+
+fn read_kind(tokens: &mut Tokens<'_>, parsed: &mut Parsed, state: usize) -> Result<(), TextError> {
+    for (kind, word) in (0..).zip(KINDS) {
+        if let Some(place) = tokens.take(word) {
+            parsed.push(kind, place);
+            return Ok(());
+        }
+    }
+    let wanted = format!("the kind of state {state}: `plain`, `initial`, `final`, `both`");
+    parsed.byte(tokens, &wanted).map(|_| ())
+}
+
+/// The text of an automaton. Names are printed where every letter has one.
+pub fn print_automaton(automaton: &Automaton, names: &Names) -> String {
+    let mut text = Kind::Automaton.header();
+    let _ = writeln!(text, "states {}", automaton.kinds.len());
+    for kind in &automaton.kinds {
+        let _ = match KINDS.get(usize::from(*kind)) {
+            Some(word) => writeln!(text, "  {word}"),
+            None => writeln!(text, "  {kind}"),
+        };
+    }
+    let _ = writeln!(text, "letters {}", automaton.letters);
+    let all: Option<Vec<&str>> = (0..automaton.letters).map(|own| names.of(own)).collect();
+    let named = all.filter(|all| !all.is_empty());
+    if let Some(all) = &named {
+        let _ = writeln!(text, "  {}", all.join(" "));
+    }
+    let _ = writeln!(text, "transitions {}", automaton.transitions.len());
+    for transition in &automaton.transitions {
+        let name = names.of(transition.letter).filter(|_| named.is_some());
+        let letter = name.map_or_else(|| transition.letter.to_string(), str::to_string);
+        let _ = writeln!(text, "  {} {letter} {}", transition.from, transition.to);
+    }
+    text
+}

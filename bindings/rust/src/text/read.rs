@@ -1,0 +1,159 @@
+//! What a text is of, and the bytes that it says.
+
+use super::names::Names;
+use super::tokens::{decode, Place, TextError, Tokens};
+use super::{automaton, marks, rule};
+
+/// What a text is of.
+#[derive(Clone, Copy, Debug, PartialEq, Eq, Hash)]
+pub enum Kind {
+    /// A rule.
+    Rule,
+    /// An automaton.
+    Automaton,
+    /// A marks section.
+    Marks,
+    /// A lasso, which has no file of bytes.
+    Lasso,
+}
+
+impl Kind {
+    const ALL: [Kind; 4] = [Kind::Rule, Kind::Automaton, Kind::Marks, Kind::Lasso];
+
+    /// Its word in the first line of a text.
+    pub fn word(self) -> &'static str {
+        match self {
+            Kind::Rule => "rule",
+            Kind::Automaton => "automaton",
+            Kind::Marks => "marks",
+            Kind::Lasso => "lasso",
+        }
+    }
+
+    /// The kind of a word.
+    pub fn of_word(word: &str) -> Option<Kind> {
+        Kind::ALL.into_iter().find(|kind| kind.word() == word)
+    }
+
+    /// The first line of a text of this kind.
+    pub(super) fn header(self) -> String {
+        format!("duknavet {} 1\n", self.word())
+    }
+}
+
+/// A text that was read: the bytes of the file that says the same.
+#[derive(Clone, Debug, PartialEq, Eq)]
+pub struct Parsed {
+    /// The bytes.
+    pub bytes: Vec<u8>,
+    /// Where in the text each of them was read.
+    pub places: Vec<Place>,
+    /// The names that the text gives to letters.
+    pub names: Names,
+}
+
+impl Parsed {
+    pub(super) fn new() -> Parsed {
+        Parsed {
+            bytes: Vec::new(),
+            places: Vec::new(),
+            names: Names::none(),
+        }
+    }
+
+    /// Reads a number that stands for one byte.
+    pub(super) fn byte(
+        &mut self,
+        tokens: &mut Tokens<'_>,
+        wanted: &str,
+    ) -> Result<usize, TextError> {
+        let (number, place) = tokens.number(255, wanted)?;
+        self.push(number as u8, place);
+        Ok(number)
+    }
+
+    /// Reads a count of two bytes.
+    pub(super) fn wide_count(
+        &mut self,
+        tokens: &mut Tokens<'_>,
+        wanted: &str,
+    ) -> Result<usize, TextError> {
+        let (count, place) = tokens.number(65_535, wanted)?;
+        for byte in (count as u16).to_le_bytes() {
+            self.push(byte, place);
+        }
+        Ok(count)
+    }
+
+    pub(super) fn push(&mut self, byte: u8, place: Place) {
+        self.bytes.push(byte);
+        self.places.push(place);
+    }
+}
+
+/// Whether bytes are a text, and of what: a text is what begins with `duknavet` and a space, or, of a lasso, with `u:` or `v:`.
+///
+/// An unknown second word is an error of the text.
+pub fn kind(bytes: &[u8]) -> Option<Result<Kind, TextError>> {
+    if bytes.starts_with(b"u:") || bytes.starts_with(b"v:") {
+        return Some(Ok(Kind::Lasso));
+    }
+    bytes.starts_with(b"duknavet ").then(|| {
+        let text = decode(bytes)?;
+        header(&mut Tokens::of(text))
+    })
+}
+
+fn header(tokens: &mut Tokens<'_>) -> Result<Kind, TextError> {
+    tokens.expect("duknavet")?;
+    let wanted = "`rule`, `automaton`, `marks` or `lasso`";
+    let kind = tokens.peek().and_then(|token| Kind::of_word(token.word));
+    let kind = kind.ok_or_else(|| tokens.fault(wanted))?;
+    tokens.next(wanted)?;
+    tokens.expect("1")?;
+    Ok(kind)
+}
+
+/// The bytes that the text of a rule, an automaton or a marks section says.
+pub fn read(bytes: &[u8]) -> Result<(Kind, Parsed), TextError> {
+    let mut tokens = Tokens::of(decode(bytes)?);
+    let kind = header(&mut tokens)?;
+    let parsed = match kind {
+        Kind::Rule => rule::read(&mut tokens)?,
+        Kind::Automaton => automaton::read(&mut tokens)?,
+        Kind::Marks => marks::read(&mut tokens)?,
+        Kind::Lasso => {
+            let place = Place { line: 1, column: 1 };
+            let message = "a lasso has no bytes: its letters need a rule";
+            return Err(TextError::new(place, message));
+        }
+    };
+    tokens.end()?;
+    Ok((kind, parsed))
+}
+
+/// Takes the first line of a lasso's text, which may be left out.
+pub(super) fn skip_lasso_header(tokens: &mut Tokens<'_>) -> Result<(), TextError> {
+    let Some(first) = tokens.peek().filter(|token| token.word == "duknavet") else {
+        return Ok(());
+    };
+    match header(tokens)? {
+        Kind::Lasso => Ok(()),
+        other => {
+            let message = format!("expected a lasso, found the text of {}", other.article());
+            Err(TextError::new(first.place, message))
+        }
+    }
+}
+
+impl Kind {
+    /// Its word with the article.
+    pub fn article(self) -> &'static str {
+        match self {
+            Kind::Rule => "a rule",
+            Kind::Automaton => "an automaton",
+            Kind::Marks => "a marks section",
+            Kind::Lasso => "a lasso",
+        }
+    }
+}

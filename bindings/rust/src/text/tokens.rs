@@ -1,0 +1,184 @@
+//! The words of a text, each with its line and column.
+
+use std::fmt;
+
+/// A place in a text: its line, and the character of that line, both from 1.
+#[derive(Clone, Copy, Debug, PartialEq, Eq, Hash, PartialOrd, Ord)]
+pub struct Place {
+    /// The line.
+    pub line: usize,
+    /// The character of the line.
+    pub column: usize,
+}
+
+impl fmt::Display for Place {
+    fn fmt(&self, f: &mut fmt::Formatter<'_>) -> fmt::Result {
+        write!(f, "line {}, column {}", self.line, self.column)
+    }
+}
+
+/// What is wrong with a text, and where.
+#[derive(Clone, Debug, PartialEq, Eq, Hash)]
+pub struct TextError {
+    /// Where.
+    pub place: Place,
+    /// What.
+    pub message: String,
+}
+
+impl fmt::Display for TextError {
+    fn fmt(&self, f: &mut fmt::Formatter<'_>) -> fmt::Result {
+        write!(f, "{}: {}", self.place, self.message)
+    }
+}
+
+impl std::error::Error for TextError {}
+
+impl TextError {
+    pub(crate) fn new(place: Place, message: impl Into<String>) -> TextError {
+        TextError {
+            place,
+            message: message.into(),
+        }
+    }
+}
+
+/// The text of some bytes, or the place of the first that is no text.
+pub(crate) fn decode(bytes: &[u8]) -> Result<&str, TextError> {
+    std::str::from_utf8(bytes).map_err(|error| {
+        let good = String::from_utf8_lossy(&bytes[..error.valid_up_to()]);
+        TextError::new(end_of(&good), "the text is not in UTF-8")
+    })
+}
+
+/// The place just behind a text.
+pub(crate) fn end_of(text: &str) -> Place {
+    let last = text.rsplit('\n').next().unwrap_or("");
+    Place {
+        line: 1 + text.matches('\n').count(),
+        column: 1 + last.chars().count(),
+    }
+}
+
+/// A word and where it begins.
+#[derive(Clone, Copy, Debug)]
+pub(crate) struct Token<'a> {
+    pub word: &'a str,
+    pub place: Place,
+}
+
+/// The words of a text from first to last. A colon ends a word and belongs to it.
+pub(crate) struct Tokens<'a> {
+    words: Vec<Token<'a>>,
+    next: usize,
+    end: Place,
+}
+
+impl<'a> Tokens<'a> {
+    pub fn of(text: &'a str) -> Tokens<'a> {
+        let mut words = Vec::new();
+        for (line, content) in (1..).zip(text.split('\n')) {
+            let code = content.split('#').next().unwrap_or("");
+            words_of_line(code, line, &mut words);
+        }
+        Tokens {
+            words,
+            next: 0,
+            end: end_of(text),
+        }
+    }
+
+    pub fn peek(&self) -> Option<Token<'a>> {
+        self.words.get(self.next).copied()
+    }
+
+    /// The next word if it is just this one.
+    pub fn take(&mut self, word: &str) -> Option<Place> {
+        let token = self.peek().filter(|token| token.word == word)?;
+        self.next += 1;
+        Some(token.place)
+    }
+
+    pub fn next(&mut self, wanted: &str) -> Result<Token<'a>, TextError> {
+        let token = self.peek().ok_or_else(|| self.fault(wanted))?;
+        self.next += 1;
+        Ok(token)
+    }
+
+    pub fn expect(&mut self, word: &str) -> Result<Place, TextError> {
+        self.take(word)
+            .ok_or_else(|| self.fault(&format!("`{word}`")))
+    }
+
+    /// A number from 0 to `most`.
+    pub fn number(&mut self, most: usize, wanted: &str) -> Result<(usize, Place), TextError> {
+        let number = self.peek().and_then(|token| {
+            let number = whole_number(token.word)?;
+            (number <= most).then_some((number, token.place))
+        });
+        let found =
+            number.ok_or_else(|| self.fault(&format!("{wanted}, a number from 0 to {most}")))?;
+        self.next += 1;
+        Ok(found)
+    }
+
+    pub fn end(&self) -> Result<(), TextError> {
+        match self.peek() {
+            None => Ok(()),
+            Some(_) => Err(self.fault("the end of the text")),
+        }
+    }
+
+    /// That something else is wanted where the next word stands.
+    pub fn fault(&self, wanted: &str) -> TextError {
+        match self.peek() {
+            Some(token) => {
+                let message = format!("expected {wanted}, found `{}`", shown(token.word));
+                TextError::new(token.place, message)
+            }
+            None => TextError::new(self.end, format!("expected {wanted}, found the end")),
+        }
+    }
+}
+
+/// A word as an error shows it: its first characters, those that cannot be seen escaped.
+pub(crate) fn shown(word: &str) -> String {
+    let mut start: String = word.escape_debug().take(40).collect();
+    if word.escape_debug().count() > 40 {
+        start.push('…');
+    }
+    start
+}
+
+/// The number that digits write, if it is not too large.
+pub(crate) fn whole_number(word: &str) -> Option<usize> {
+    let digits = !word.is_empty() && word.bytes().all(|byte| byte.is_ascii_digit());
+    digits.then(|| word.parse().ok()).flatten()
+}
+
+fn words_of_line<'a>(code: &'a str, line: usize, words: &mut Vec<Token<'a>>) {
+    let mut begun: Option<(usize, usize)> = None;
+    for (column, (at, character)) in (1..).zip(code.char_indices()) {
+        let place = |column| Place { line, column };
+        if character.is_whitespace() || character == ':' {
+            let end = if character == ':' { at + 1 } else { at };
+            let (from, column) = match begun.take() {
+                Some(begun) => begun,
+                None if character == ':' => (at, column),
+                None => continue,
+            };
+            words.push(Token {
+                word: &code[from..end],
+                place: place(column),
+            });
+        } else if begun.is_none() {
+            begun = Some((at, column));
+        }
+    }
+    if let Some((from, column)) = begun {
+        words.push(Token {
+            word: &code[from..],
+            place: Place { line, column },
+        });
+    }
+}

@@ -1,0 +1,31 @@
+//! The tool, end to end and in its parts. Inputs and an engine written apart are those of the comparison.
+
+#[allow(dead_code)]
+#[path = "../comparison/definitions/mod.rs"]
+mod definitions;
+#[allow(dead_code)]
+#[path = "../comparison/inputs/mod.rs"]
+mod inputs;
+#[allow(dead_code)]
+#[path = "../comparison/random.rs"]
+mod random;
+
+mod calls;
+mod claims;
+mod damage;
+mod exchanges;
+mod following;
+mod forms;
+mod marked;
+mod pictures;
+mod program;
+mod refusals;
+mod rounds;
+mod rule_automata;
+mod samples;
+mod states;
+mod texts;
+mod transcripts;
+mod usage;
+mod values;
+mod witnesses;

@@ -1,0 +1,255 @@
+//! The documents' examples: the transcripts of docs/TOOL.md and the README are replayed, and the worked examples of the README and docs/FORMATS.md run.
+
+use crate::program::{run_with, Scrap};
+use std::path::{Path, PathBuf};
+use std::process::Command;
+
+const TOOL: &str = include_str!("../../../../docs/TOOL.md");
+const FORMATS: &str = include_str!("../../../../docs/FORMATS.md");
+const README: &str = include_str!("../../../../README.md");
+
+/// A directory with the samples in it, which is gone when the test ends.
+struct Place(PathBuf);
+
+impl Place {
+    fn new() -> Place {
+        let place = Scrap::free();
+        let place = PathBuf::from(place.name());
+        let samples = Path::new(env!("CARGO_MANIFEST_DIR")).join("../../samples");
+        std::fs::create_dir_all(place.join("samples")).expect("a directory of the test");
+        for entry in std::fs::read_dir(samples).expect("the samples") {
+            let entry = entry.expect("a sample");
+            let to = place.join("samples").join(entry.file_name());
+            std::fs::copy(entry.path(), to).expect("a sample is copied");
+        }
+        Place(place)
+    }
+}
+
+impl Drop for Place {
+    fn drop(&mut self) {
+        let _ = std::fs::remove_dir_all(&self.0);
+    }
+}
+
+/// A command of a transcript with what it printed.
+struct Step {
+    line: usize,
+    command: String,
+    printed: String,
+}
+
+/// The steps of a document: indented lines that begin with `$`, with what follows them up to the next step or the end of the block.
+fn steps(document: &str) -> Vec<Step> {
+    let mut steps: Vec<Step> = Vec::new();
+    let mut inside = false;
+    let mut here = false;
+    let mut blank = 0;
+    for (number, line) in (1..).zip(document.lines()) {
+        let Some(content) = line.strip_prefix("    ") else {
+            inside = inside && line.is_empty();
+            blank += usize::from(inside);
+            continue;
+        };
+        let before = "\n".repeat(std::mem::take(&mut blank));
+        match (content.strip_prefix("$ "), steps.last_mut()) {
+            (Some(command), _) => {
+                inside = true;
+                here = command.contains("<<'END'");
+                steps.push(Step {
+                    line: number,
+                    command: command.to_string(),
+                    printed: String::new(),
+                });
+            }
+            (None, Some(step)) if here => {
+                step.command.push('\n');
+                step.command.push_str(content);
+                here = content != "END";
+            }
+            (None, Some(step)) if inside => {
+                step.printed.push_str(&before);
+                step.printed.push_str(content);
+                step.printed.push('\n');
+            }
+            _ => {}
+        }
+    }
+    steps
+}
+
+#[test]
+fn transcripts_are_what_the_tool_does() {
+    let place = Place::new();
+    let tool = Path::new(env!("CARGO_BIN_EXE_duknavet-tool"));
+    let directory = tool.parent().expect("a directory").to_string_lossy();
+    let path = format!("{directory}:{}", std::env::var("PATH").unwrap_or_default());
+    let (of_tool, of_readme) = (steps(TOOL), steps(README));
+    assert!(
+        of_tool.len() > 20 && of_readme.len() > 2,
+        "there are too few steps"
+    );
+    for step in of_tool.iter().chain(&of_readme) {
+        let ran = Command::new("sh")
+            .arg("-c")
+            .arg(format!("exec 2>&1\n{}", step.command))
+            .current_dir(&place.0)
+            .env("PATH", &path)
+            .output()
+            .expect("a shell");
+        let printed = String::from_utf8_lossy(&ran.stdout);
+        let Step { line, command, .. } = step;
+        assert_eq!(printed, step.printed, "line {line}: {command}");
+    }
+}
+
+/// The bytes that numbers with spaces between them write.
+fn bytes(numbers: &str) -> Vec<u8> {
+    let numbers = numbers.split_whitespace();
+    numbers.map(|own| own.parse().expect("a byte")).collect()
+}
+
+/// Bytes that a document writes, a call on them, and what the document says of it.
+fn example(document: &str, numbers: &str, call: &[&str], status: i32, said: &str) {
+    let joined = document.split_whitespace().collect::<Vec<_>>().join(" ");
+    let written = numbers.split_whitespace().collect::<Vec<_>>().join(" ");
+    assert!(
+        joined.contains(&written),
+        "{numbers} is not in the document"
+    );
+    let ran = run_with(call, &bytes(numbers));
+    assert_eq!(ran.status, status, "{ran:?}");
+    let found = format!("{}{}", String::from_utf8_lossy(&ran.out), ran.err);
+    assert!(found.contains(said), "{found} lacks {said}");
+}
+
+/// Bytes that a document writes, and the bytes that it says a call makes of them.
+fn written(document: &str, numbers: &str, call: &str, result: &str) {
+    example(document, numbers, &[call, "-"], 0, "");
+    example(document, result, &["check", "-"], 0, "rule ");
+    assert_eq!(run_with(&[call, "-"], &bytes(numbers)).out, bytes(result));
+}
+
+const W: &str = "2  0 0 0 1  2  0 1  1 0  0 0 3";
+const THREE_GRADES: &str = "2  0 0 0 1  2  0 1  3 0  0 0 3  0 1 2  1 1 1";
+
+#[test]
+fn examples_of_the_readme() {
+    let line = "elements 2 letters 2 marks 1 linked 3 classes 3 strong 1 reduced 2";
+    assert!(README.contains(line));
+    example(README, W, &["summary", "-"], 0, line);
+    example(
+        README,
+        W,
+        &["member", "-", "u: 1  v: 0"],
+        0,
+        "grade 3 turns 1",
+    );
+    example(
+        README,
+        W,
+        &["member", "-", "u: 0  v: 1"],
+        1,
+        "grade 0 turns 1",
+    );
+    let weak = "2  0 1 1 0  2  1 0  1 0  0 0 3";
+    example(
+        README,
+        weak,
+        &["strong", "-"],
+        1,
+        "weak\ngrade 3 values 1 0  u: 0  v: 0 0\ngrade 0 values 1 0  u: 0  v: 1\n",
+    );
+    example(README, weak, &["member", "-", "v: 0"], 0, "turns 2");
+    assert!(README.contains("refused 5 at 1"));
+}
+
+#[test]
+fn examples_of_the_formats() {
+    example(
+        FORMATS,
+        W,
+        &["check", "-"],
+        0,
+        "rule elements 2 letters 2 marks 1",
+    );
+    let refused = "(0·0)·1 = 0 but 0·(0·1) = 1 (refusal 5, input 1, place 1)";
+    example(
+        FORMATS,
+        "2  1 0 0 0  2  0 1  0 0",
+        &["check", "-"],
+        2,
+        refused,
+    );
+    for (lasso, grade) in [("u: 1  v: 0", 3), ("u: 0  v: 1", 2), ("u: 1  v: 1", 1)] {
+        let said = format!("grade {grade} ");
+        example(FORMATS, THREE_GRADES, &["member", "-", lasso], 0, &said);
+    }
+    let sums = "2  0 1 1 0  2  1 0  2 0  0 0 2  1 0 1";
+    example(FORMATS, sums, &["strong", "-"], 1, "weak\ngrade 2 ");
+    example(
+        FORMATS,
+        sums,
+        &["member", "-", "u: 0  v: 1"],
+        0,
+        "grade 1 turns 1",
+    );
+    let all = "2 0 0 0 1  2 0 1  3 0  0 0 3  0 1 3  1 1 3";
+    let rule = Scrap::holding(&bytes(all));
+    let first = Scrap::holding(&bytes(W));
+    example(
+        FORMATS,
+        "3 0  0 0 3  0 1 3  1 1 3",
+        &["included", first.name(), "-"],
+        0,
+        "included",
+    );
+    example(
+        FORMATS,
+        "1 0  0 0 3",
+        &["included", rule.name(), "-"],
+        1,
+        "u: 0  v: 1\ngrades 3 0",
+    );
+    example(
+        FORMATS,
+        "3 0  0 0 3  0 1 2  1 1 1",
+        &["included", rule.name(), "-"],
+        1,
+        "u: 0  v: 1\ngrades 3 2",
+    );
+    let automaton = "2  1 2  2  4 0  0 0 1  0 1 0  1 0 1  1 1 0";
+    let translated = "3  0 2 2  0 1 2  0 2 2  2  0 1  2 0  0 0 3  2 2 3";
+    written(FORMATS, automaton, "automaton", translated);
+    written(FORMATS, translated, "reduce", W);
+    written(
+        FORMATS,
+        W,
+        "complement",
+        "2  0 0 0 1  2  0 1  2 0  0 1 3  1 1 3",
+    );
+    written(
+        FORMATS,
+        THREE_GRADES,
+        "complement",
+        "2  0 0 0 1  2  0 1  2 0  0 1 1  1 1 2",
+    );
+    let in_any_order = "3  0 0 0  0 1 0  0 0 2  2  2 1  4 0  0 1 3  2 2 3  0 2 3  1 1 3";
+    let in_order = "3  0 2 2  2 1 2  2 2 2  2  0 1  4 0  0 0 3  1 1 3  2 0 3  2 1 3";
+    written(FORMATS, in_any_order, "reduce", in_order);
+    let classes = "linked 3 classes 3 joins 0\n(0, 0)\n(0, 1)\n(1, 1)\n";
+    example(FORMATS, W, &["classes", "-"], 0, classes);
+    let twice = "4  0 1 2 3  1 2 3 3  2 3 3 3  3 3 3 3  2  0 1  1 0  2 0 3";
+    let blocks = "{0}\n{1, 3}\n{2}\nbytes 0 1 2 1\n";
+    example(FORMATS, twice, &["rounds", "-", "--limit", "0"], 1, blocks);
+    example(FORMATS, twice, &["rounds", "-"], 0, "bytes 0 1 2 3\n");
+    for (state, leads) in [
+        ("none,0", "  0 to (0, 0) (1, 0) (none, 0)\n  1 to (0, 0)\n"),
+        (
+            "0,0",
+            "State (0, 0), initial\n  0 to (0, 0) (1, 0) (none, 0)\n  1 to (0, 0)\n",
+        ),
+    ] {
+        example(FORMATS, W, &["states", "-", "--state", state], 0, leads);
+    }
+}
