@@ -5,7 +5,7 @@ use native.Mathlib.Omega.{arith}
 use mathlib.Core.Path.{_≡_, subst}
 use mathlib.Core.List.{List, [], _∷_, _++_}
 use Rattle.answer.specs.declared.Refusal.{Refusal}
-use Rattle.answer.specs.declared.Refusal.the-variants.{Truncated, CountOutOfRange, EntryOutOfRange, TrailingBytes, NotAssociative, Unreachable, NotLinked, Duplicate, UnknownLetter, WordLength, NotStrong, BufferTooShort, TooManyMatrices, NameOutOfRange, NameNeverKept, NoSuchState, LimitOutOfRange}
+use Rattle.answer.specs.declared.Refusal.the-variants.{Truncated, CountOutOfRange, EntryOutOfRange, TrailingBytes, NotAssociative, Unreachable, NotLinked, Duplicate, UnknownLetter, WordLength, NotStrong, BufferTooShort, TooManyMatrices, NameOutOfRange, NameNeverKept, NoSuchState, LettersDiffer, TooManyPairs, LimitOutOfRange}
 use Rattle.answer.specs.Refusals.{numberOf}
 use Rattle.answer.specs.Checks.{passed, numbered, Check, Passes, firstOf, FirstFailure}
 use Rattle.answer.proofs.Order.{FirstCase, decides-now, hands-on, first-case, first-passes, first-fails, none-left}
@@ -59,4 +59,6 @@ number-range TooManyMatrices = (omega arith, omega arith)
 number-range NameOutOfRange = (omega arith, omega arith)
 number-range NameNeverKept = (omega arith, omega arith)
 number-range NoSuchState = (omega arith, omega arith)
+number-range LettersDiffer = (omega arith, omega arith)
+number-range TooManyPairs = (omega arith, omega arith)
 number-range LimitOutOfRange = (omega arith, omega arith)

@@ -1,7 +1,7 @@
 -- Document 01's table of refusals, "Order of the checks", with those that document 02 adds: the number of each kind. Assumes nothing.
 use Prim.Native.Nat.{ℕ}
 use Rattle.answer.specs.declared.Refusal.{Refusal}
-use Rattle.answer.specs.declared.Refusal.the-variants.{Truncated, CountOutOfRange, EntryOutOfRange, TrailingBytes, NotAssociative, Unreachable, NotLinked, Duplicate, UnknownLetter, WordLength, NotStrong, BufferTooShort, TooManyMatrices, NameOutOfRange, NameNeverKept, NoSuchState, LimitOutOfRange}
+use Rattle.answer.specs.declared.Refusal.the-variants.{Truncated, CountOutOfRange, EntryOutOfRange, TrailingBytes, NotAssociative, Unreachable, NotLinked, Duplicate, UnknownLetter, WordLength, NotStrong, BufferTooShort, TooManyMatrices, NameOutOfRange, NameNeverKept, NoSuchState, LettersDiffer, TooManyPairs, LimitOutOfRange}
 
 -- the column "Number", by the column "Trade word"; 9 is no kind's number (document 02, Job 10), and those from 15 on are of document 02
 abbrev pub numberOf : Refusal → ℕ
@@ -21,4 +21,6 @@ numberOf TooManyMatrices = 14  -- too rich
 numberOf NameOutOfRange = 15  -- "New: 15, name above 7" (Job 1)
 numberOf NameNeverKept = 16  -- "16, return to a name never kept" (Job 1)
 numberOf NoSuchState = 17  -- "New: 17, no such state" (Job 5)
+numberOf LettersDiffer = 18  -- "New: 18, letter counts differ" (Job 7)
+numberOf TooManyPairs = 19  -- "then 19, more than 64 reached pairs" (Job 7)
 numberOf LimitOutOfRange = 20  -- "New: 20, limit above 64" (Job 9)

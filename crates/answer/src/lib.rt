@@ -37,6 +37,10 @@ pub enum Refusal {
     NameNeverKept,
     // Document 02, Job 5: no such state.
     NoSuchState,
+    // Document 02, Job 7: letter counts differ.
+    LettersDiffer,
+    // Document 02, Job 7: more than 64 reached pairs.
+    TooManyPairs,
     // Document 02, Job 9: limit above 64.
     LimitOutOfRange,
 }
@@ -62,6 +66,8 @@ pub fn number(r: Refusal) -> u8
         Refusal::NameOutOfRange => 15,
         Refusal::NameNeverKept => 16,
         Refusal::NoSuchState => 17,
+        Refusal::LettersDiffer => 18,
+        Refusal::TooManyPairs => 19,
         Refusal::LimitOutOfRange => 20,
     }
 }

@@ -1,35 +1,19 @@
 // The marks of the pairs of an automaton's matrices, as document 01 has them: a linked pair (R, E) for which some initial p and some
 // q have entry (p, q) of R not 0 and entry (q, q) of E equal to 2, with the grade 3. They are laid out behind the table, as
 // automaton_table/specs/Laying says.
+use rule_laid::laid_linked;
 use scratch::LAID_MARKS_BASE;
-use scratch::LAID_PRODUCTS_BASE;
 use scratch::MATRICES_BASE;
 ghost use mathlib.Core.Path.{_≡_};
 ghost use Prim.Native.Nat.{_+_, _*_, _≤_, _<_};
 ghost use lib.ListN.{length};
-ghost use Rattle.rule_marks.specs.Faults.{LinkedAnswer};
 ghost use Rattle.buchi.proofs.MatrixTests.{returns-at, returns-from, recurs-test};
 ghost use Rattle.automaton_matrices.specs.Bytes.{initialAt};
 ghost use Rattle.automaton_matrix_search.specs.Lists.{matrixAt};
-ghost use Rattle.automaton_table.specs.Laying.{laidRule, initialStates, PairNeeds, MarkNeeds, MarkByte};
+ghost use Rattle.automaton_table.specs.Laying.{initialStates, PairNeeds, MarkNeeds, MarkByte};
 ghost use Rattle.scratch.specs.Map.{laidMarksBase};
 ghost use Rattle.scratch.specs.Rows.{RowFilled, RowsFilled};
 ghost use Rattle.formats.specs.RuleChecks.{scratchSize};
-
-// Whether the pair (s, e) is linked by the products that were laid out.
-pub fn linked(scratch: &[u8], count: usize, s: usize, e: usize) -> bool
-    requires { ⌜ (count ≤ 64) × (scratchSize ≤ length (now scratch)) ⌝ }
-    requires { ⌜ (s < count) × (e < count) ⌝ }
-    ensures { λ r. ⌜ LinkedAnswer (laidRule (now (scratch .entry)) count 0) s e r ⌝ }
-{
-    if scratch[LAID_PRODUCTS_BASE + (e * count + e)] as usize != e {
-        return false;
-    }
-    if scratch[LAID_PRODUCTS_BASE + (s * count + e)] as usize != s {
-        return false;
-    }
-    true
-}
 
 // Whether a state is initial.
 pub fn initial(kinds: &[u8], p: usize) -> bool
@@ -99,7 +83,7 @@ pub fn mark_byte(kinds: &[u8], n: usize, scratch: &[u8], count: usize, s: usize,
     requires { ⌜ (s < count) × (e < count) ⌝ }
     ensures { λ r. ⌜ MarkByte (now (kinds .entry)) n count (now (scratch .entry)) s e r ⌝ }
 {
-    if !linked(scratch, count, s, e) {
+    if !laid_linked(scratch, count, s, e) {
         return 0;
     }
     if !recurs(kinds, n, scratch, s, e) {

@@ -16,8 +16,10 @@ use Rattle.buchi.proofs.MatrixTests.{recurs-test, recurs-intro, recurs-elim}
 use Rattle.automaton_matrix_search.specs.Lists.{matrixAt, KeptBelow}
 use Rattle.scratch.proofs.Unchanged.{unchanged-sym, unchanged-wider}
 use Rattle.scratch.proofs.Rows.{pair-small}
+use Rattle.rule_laid.specs.Laid.{laidTable}
+use Rattle.rule_laid.proofs.Laid.{linked-alike}
 use Rattle.automaton_matrix_search.proofs.Staying.{matrix-stays}
-use Rattle.automaton_table.specs.Laying.{laidRule, initialStates, PairNeeds, MarkNeeds, MarkByte}
+use Rattle.automaton_table.specs.Laying.{initialStates, PairNeeds, MarkNeeds, MarkByte}
 use Rattle.automaton_table.proofs.Tests.{not-not}
 
 -- the bytes of both matrices of a pair are there
@@ -28,7 +30,7 @@ pair-place p hs he =
 
 -- ---- the ways through the tests
 
-module _ (kinds : List ℕ) (n count : ℕ) (scratch : List ℕ) (s e : ℕ) (linked : Bool) (l : LinkedAnswer (laidRule scratch count 0) s e linked) where
+module _ (kinds : List ℕ) (n count : ℕ) (scratch : List ℕ) (s e : ℕ) (linked : Bool) (l : LinkedAnswer (laidTable scratch count) s e linked) where
   pub mark-unlinked : not linked ≡ true → MarkByte kinds n count scratch s e 0
   mark-unlinked g = record {
     linked = λ h. absurd (omega arith);
@@ -71,15 +73,11 @@ recurs-same d f r = record {
 }
 
 module _ {a b : List ℕ} {count : ℕ} (kept : KeptBelow 24576 a b) (few : count ≤ 64) where
-  product-byte : {i j : ℕ} → i < count → j < count → laidRule b count 0 .product i j ≡ laidRule a count 0 .product i j
-  product-byte {i} {j} hi hj = kept .before (16384 + (i * count + j)) (omega (arith, pair-small count i j few hi hj))
+  product-byte : (i j : ℕ) → i < count → j < count → laidTable b count .product i j ≡ laidTable a count .product i j
+  product-byte i j hi hj = kept .before (16384 + (i * count + j)) (omega (arith, pair-small count i j few hi hj))
 
-  pub linked-stays : {s e : ℕ} → Linked (laidRule a count 0) s e → Linked (laidRule b count 0) s e
-  linked-stays l = record {
-    inside = l .inside;
-    idempotent = record { inside = l .idempotent .inside; square = product-byte (l .idempotent .inside) (l .idempotent .inside) ∙ l .idempotent .square };
-    stays = product-byte (l .inside) (l .idempotent .inside) ∙ l .stays;
-  }
+  pub linked-stays : {s e : ℕ} → Linked (laidTable a count) s e → Linked (laidTable b count) s e
+  linked-stays l = linked-alike refl product-byte l
 
   recurs-stays : (kinds : List ℕ) {n s e : ℕ} → n ≤ 6 → s < count → e < count
       → Recurs (initialStates kinds n) (matrixAt a s) (matrixAt a e) → Recurs (initialStates kinds n) (matrixAt b s) (matrixAt b e)

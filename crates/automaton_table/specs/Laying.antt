@@ -13,6 +13,7 @@ use Rattle.buchi.specs.Rule.{Recurs}
 use Rattle.automaton_matrices.specs.Bytes.{initialAt, finalAt}
 use Rattle.automaton_matrix_search.specs.Lists.{matrixAt, nextAt, parentAt, letterAt, MatrixList, KeptBelow, Recorded}
 use Rattle.scratch.specs.Map.{laidMarksBase, laidProductsBase}
+use Rattle.rule_laid.specs.Laid.{laidTable}
 use Rattle.formats.specs.RuleChecks.{scratchSize}
 
 -- ---- the rule that is laid out
@@ -69,9 +70,9 @@ initialStates kinds n = record { states = n; letters = 0; initial = initialAt ki
 -- the byte of the pair (s, e) is not 0 exactly if the pair is linked and "for some initial p and some q entry (p, q) of R is not
 -- 0 and entry (q, q) of E is 2"; then it is 3
 pub record MarkByte (kinds : List ℕ) (n count : ℕ) (scratch : List ℕ) (s e byte : ℕ) : Type 0 where
-  pub linked : 0 < byte → Linked (laidRule scratch count 0) s e
+  pub linked : 0 < byte → Linked (laidTable scratch count) s e
   pub recurs : 0 < byte → Recurs (initialStates kinds n) (matrixAt scratch s) (matrixAt scratch e)
-  pub marked : Linked (laidRule scratch count 0) s e → Recurs (initialStates kinds n) (matrixAt scratch s) (matrixAt scratch e) → 0 < byte
+  pub marked : Linked (laidTable scratch count) s e → Recurs (initialStates kinds n) (matrixAt scratch s) (matrixAt scratch e) → 0 < byte
   pub three : 0 < byte → byte ≡ 3
 
 -- the bytes of two matrices and of the states' kinds are there

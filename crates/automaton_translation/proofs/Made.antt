@@ -1,7 +1,7 @@
 -- The rule that is laid out behind the list of an automaton's matrices is the automaton's: its elements are the matrices, its
 -- products and images theirs, and its marks those of document 01. Assumes nothing.
 use Prim.Native.Nat.{ℕ, _≤_, _<_}
-use mathlib.Core.Path.{_≡_, sym, subst}
+use mathlib.Core.Path.{_≡_, refl, sym, subst}
 use mathlib.Core.List.{List}
 use native.Mathlib.Omega.{arith}
 use lib.Dec.{T, leb→le, le→leb}
@@ -21,6 +21,8 @@ use Rattle.scratch.proofs.Unchanged.{unchanged-sym, unchanged-wider}
 use Rattle.automaton_matrix_search.specs.Lists.{matrixAt, ListNeeds, StandsHere, Kept, stepEntry, StepNumber, AllListed}
 use Rattle.automaton_matrix_search.proofs.Growing.{here-kept}
 use Rattle.automaton_matrix_search.proofs.Staying.{matrix-stays}
+use Rattle.rule_laid.specs.Laid.{laidTable}
+use Rattle.rule_laid.proofs.Laid.{linked-alike}
 use Rattle.automaton_table.specs.Laying.{laidRule, laidMarks, initialStates, StepList, ProductNumber, MarkNeeds, RuleLaid}
 use Rattle.formats.specs.FirstWords.{ByFirstWords}
 use Rattle.automaton_translation.proofs.Order.{table-by-first-words}
@@ -91,11 +93,11 @@ module _ {t : Automaton} {kinds : List ℕ} {n k count : ℕ} {entry listed : Li
     -- ---- its marks
 
     -- the letters play no part in being linked
-    linked-more : {s e : ℕ} → Linked (laidRule laid count 0) s e → Linked (laidRule laid count k) s e
-    linked-more l = record { inside = l .inside; idempotent = record { inside = l .idempotent .inside; square = l .idempotent .square }; stays = l .stays }
+    linked-more : {s e : ℕ} → Linked (laidTable laid count) s e → Linked (laidRule laid count k) s e
+    linked-more l = linked-alike refl (λ i j hi hj. refl) l
 
-    linked-less : {s e : ℕ} → Linked (laidRule laid count k) s e → Linked (laidRule laid count 0) s e
-    linked-less l = record { inside = l .inside; idempotent = record { inside = l .idempotent .inside; square = l .idempotent .square }; stays = l .stays }
+    linked-less : {s e : ℕ} → Linked (laidRule laid count k) s e → Linked (laidTable laid count) s e
+    linked-less l = linked-alike refl (λ i j hi hj. refl) l
 
     -- the automaton's initial states are those of the bytes
     recurs-here : {R E : Matrix} → Recurs (initialStates kinds n) R E → Recurs t R E

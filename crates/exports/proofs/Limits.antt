@@ -18,7 +18,7 @@ use Rattle.formats.proofs.Sections.{passed-good}
 use Rattle.sections.proofs.Limits.{section-limited, list-limited}
 use Rattle.formats.specs.RuleFile.{markWidth, elementsOf, lettersAt, marksAt, marksOf, ruleEnd, morphismOf, marksSection}
 use Rattle.formats.specs.RuleChecks.{TrailingAt, UnlinkedAt, RepeatedAt, ShortAt, markChecks, layoutChecks, tableChecks, contentChecks, ruleChecks, secondMarksChecks, bufferCheck, ruleSize}
-use Rattle.formats.proofs.RuleSections.{ruleSections, rule-list}
+use Rattle.formats.proofs.RuleSections.{ruleSections, rule-list, rule-in-any}
 use Rattle.formats.specs.Calls.{checkedChecks}
 use Rattle.rule_check.proofs.Passed.{size-small, letters-small, marks-small}
 use Rattle.formats.specs.WordChecks.{longestWord, LengthOutAt, UnknownLetterAt, lassoChecks}
@@ -52,11 +52,11 @@ pub buffer-limited : {needed : ℕ} {buffer : List ℕ} {checks : List Check} �
 buffer-limited l = limited-cons (λ place (f : ShortAt _ _ place). at-zero (f .is-place)) (λ _. l)
 
 -- 5, 6
-table-limited : (m : Morphism) → m .size ≤ 64 → Limited Near (tableChecks 1 m)
-table-limited m small =
+table-limited : (input : ℕ) (m : Morphism) → input ≤ 2 → m .size ≤ 64 → Limited Near (tableChecks input m)
+table-limited input m known small =
     limited-cons
-    (λ place (f : NotAssociativeAt m place). near (omega arith) (omega (arith, f .is-place, f .a-inside, f .b-inside, f .c-inside)))
-    (λ _. limited-cons (λ place (f : UnreachedAt m place). near (omega arith) (omega (arith, f .inside))) (λ _. limited-nil))
+    (λ place (f : NotAssociativeAt m place). near known (omega (arith, f .is-place, f .a-inside, f .b-inside, f .c-inside)))
+    (λ _. limited-cons (λ place (f : UnreachedAt m place). near known (omega (arith, f .inside))) (λ _. limited-nil))
 
 -- 7, 8
 marks-limited : (input : ℕ) (m : Morphism) (bytes : List ℕ) (at i count : ℕ) → input ≤ 2 → at + (2 + markWidth * (i + count)) ≤ ruleSize
@@ -68,35 +68,40 @@ marks-limited input m bytes at i (suc count) known l =
     (λ _. limited-cons (λ place (f : RepeatedAt _ _ _ place). near known (omega (arith, f .is-place)))
     (λ _. marks-limited input m bytes at (suc i) count known (omega arith)))
 
-module _ (bytes : List ℕ) where
+module _ (input : ℕ) (bytes : List ℕ) (known : input ≤ 2) where
   -- 1 to 3
-  layout-limited : Limited Near (layoutChecks 1 bytes)
+  layout-limited : Limited Near (layoutChecks input bytes)
   layout-limited =
-      subst (Limited Near) (rule-list 1 bytes)
-      (list-limited ruleSections 1 0 bytes (
-        λ n place h l. near (omega arith) (omega (arith, mul-le-mul h h)),
+      subst (Limited Near) (rule-list input bytes)
+      (list-limited ruleSections input 0 bytes (
+        λ n place h l. near known (omega (arith, mul-le-mul h h)),
         λ n small. (
-          λ k place h l. near (omega arith) (omega (arith, mul-le-mul small small)),
-          λ k few c place h l. near (omega arith) (omega (arith, mul-le-mul small small)),
+          λ k place h l. near known (omega (arith, mul-le-mul small small)),
+          λ k few c place h l. near known (omega (arith, mul-le-mul small small)),
         ),
       ))
 
   -- 4, 5, 6, 7 and 8
-  content-limited : FirstFailure (layoutChecks 1 bytes) passed → Limited Near (contentChecks 1 bytes)
+  content-limited : FirstFailure (layoutChecks input bytes) passed → Limited Near (contentChecks input bytes)
   unfolding ruleEnd marksAt lettersAt
   content-limited all =
-      let n-small = size-small bytes all in
+      let as-first = rule-in-any input bytes all 1 in
+      let n-small = size-small bytes as-first in
       let square : elementsOf bytes * elementsOf bytes ≤ 64 * 64 = mul-le-mul n-small n-small in
-      let k-small = letters-small bytes all in
-      let c-small = marks-small bytes all in
-      limited-cons (λ place (f : TrailingAt _ _ place). near (omega arith) (omega (arith, f .is-place)))
-      (λ _. limited-append (tableChecks 1 (morphismOf bytes)) (table-limited (morphismOf bytes) n-small)
-      (λ _. marks-limited 1 (morphismOf bytes) bytes (marksAt bytes) 0 (marksOf bytes) (omega arith) (omega arith)))
+      let k-small = letters-small bytes as-first in
+      let c-small = marks-small bytes as-first in
+      limited-cons (λ place (f : TrailingAt _ _ place). near known (omega (arith, f .is-place)))
+      (λ _. limited-append (tableChecks input (morphismOf bytes)) (table-limited input (morphismOf bytes) known n-small)
+      (λ _. marks-limited input (morphismOf bytes) bytes (marksAt bytes) 0 (marksOf bytes) known (omega arith)))
 
-  -- a rule, with the scratch that is lent
-  pub checked-limited : (scratch : List ℕ) → Limited Near (checkedChecks 1 bytes scratch)
+  -- a rule
+  pub rule-limited : Limited Near (ruleChecks input bytes)
   unfolding ruleChecks
-  checked-limited scratch = buffer-limited (limited-append (layoutChecks 1 bytes) layout-limited content-limited)
+  rule-limited = limited-append (layoutChecks input bytes) layout-limited content-limited
+
+-- the first, with the scratch that is lent
+pub checked-limited : (bytes scratch : List ℕ) → Limited Near (checkedChecks 1 bytes scratch)
+checked-limited bytes scratch = buffer-limited (rule-limited 1 bytes (omega arith))
 
 -- a second marks section
 pub second-limited : (rule bytes : List ℕ) → Limited Near (secondMarksChecks 2 rule bytes)

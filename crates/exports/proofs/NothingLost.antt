@@ -16,7 +16,7 @@ use Rattle.answer.proofs.Limits.{Limited, limited-nil, limited-cons, limited-ap
 use Rattle.theory.specs.Rules.{Morphism, Marking}
 use Rattle.theory.specs.Pairs.{LinkedPairs, Classes, LeastExponent}
 use Rattle.formats.specs.RuleFile.{elementsOf, lettersOf, morphismOf}
-use Rattle.formats.specs.RuleChecks.{ruleSize, bufferCheck}
+use Rattle.formats.specs.RuleChecks.{ruleSize, bufferCheck, ruleChecks}
 use Rattle.formats.specs.Calls.{checkedChecks}
 use Rattle.rule_check.proofs.Calls.{called-good}
 use Rattle.rule_check.proofs.CheckedRule.{graded-marks}
@@ -39,6 +39,10 @@ use Rattle.mark_classes.proofs.Counting.{counted-le}
 use Rattle.promises.specs.declared.Complemented.{Complemented}
 use Rattle.promises.specs.declared.Complemented.the-variants.{Rule as Complement-rule, Refused as Not-complemented}
 use Rattle.promises.specs.Complement.{ComplementPromise}
+use Rattle.promises.specs.declared.Operation.{Operation}
+use Rattle.promises.specs.declared.Combined.{Combined}
+use Rattle.promises.specs.declared.Combined.the-variants.{Rule as Combined-rule, Refused as Not-combined}
+use Rattle.promises.specs.Combine.{LettersDifferAt, TooManyPairsAt, CombinePromise}
 use Rattle.promises.specs.declared.Inclusion.{Inclusion}
 use Rattle.promises.specs.declared.Inclusion.the-variants.{Included, NotIncluded, Refused as Not-compared}
 use Rattle.promises.specs.Inclusion.{InclusionPromise}
@@ -64,11 +68,11 @@ use Rattle.promises.specs.declared.Strength.the-variants.{Strong, Weak, Refused
 use Rattle.promises.specs.Strong.{StrongPromise}
 use Rattle.promises.specs.declared.MonitorVerdict.{MonitorVerdict}
 use Rattle.promises.specs.declared.MonitorVerdict.the-variants.{Decided as Judged, Refused as Not-judged}
-use Rattle.packing.specs.Packing.{unpack, listedContents, strengthContents, membershipContents, complementedContents, reducedContents, bit, partitionContents, translatedContents, inclusionContents, monitorContents, movedContents, monitorVerdictContents, kindContents, successorsContents, packMonitor}
+use Rattle.packing.specs.Packing.{unpack, listedContents, strengthContents, membershipContents, complementedContents, reducedContents, combinedContents, bit, partitionContents, translatedContents, inclusionContents, monitorContents, movedContents, monitorVerdictContents, kindContents, successorsContents, packMonitor}
 use Rattle.packing.proofs.ReadBack.{FieldsFit, Fits, read-back}
-use Rattle.packing.proofs.Contents.{listed-told, strength-told, membership-told, complemented-told, reduced-told, partition-told, translated-told, inclusion-told, judged-told, moved-told, kind-told, successors-told}
-use Rattle.exports.specs.Exports.{ExportedClasses, ExportedStrength, ExportedMember, ExportedComplement, ExportedInclusion, ExportedEvent, ExportedMark, ExportedKeep, ExportedReturn, ExportedReduction, ExportedRounds, ExportedVerdict, ExportedAutomaton, ExportedKind, ExportedSuccessors}
-use Rattle.exports.proofs.Limits.{Near, refused-fits, at-zero, buffer-limited, checked-limited, second-limited, lasso-limited}
+use Rattle.packing.proofs.Contents.{listed-told, strength-told, membership-told, complemented-told, reduced-told, combined-told, partition-told, translated-told, inclusion-told, judged-told, moved-told, kind-told, successors-told}
+use Rattle.exports.specs.Exports.{ExportedClasses, ExportedStrength, ExportedMember, ExportedComplement, ExportedInclusion, ExportedEvent, ExportedMark, ExportedKeep, ExportedReturn, ExportedReduction, ExportedCombination, ExportedRounds, ExportedVerdict, ExportedAutomaton, ExportedKind, ExportedSuccessors}
+use Rattle.exports.proofs.Limits.{Near, near, refused-fits, at-zero, buffer-limited, rule-limited, checked-limited, second-limited, lasso-limited}
 use Rattle.exports.proofs.AutomatonLimits.{translated-limited}
 use Rattle.exports.proofs.Monitors.{mark-fits, event-fits, keep-fits, return-fits}
 
@@ -135,6 +139,18 @@ complement-fits {bytes} {entry = entry} (Not-complemented r i place) p = refused
 reduce-fits : {bytes before after entry exit : List ℕ} (answer : Reduced) → ReducePromise bytes before after entry exit answer → Fits (reducedContents answer)
 reduce-fits (Reduced-rule length) p = written-fits (p .answered .written)
 reduce-fits {bytes} {entry = entry} (Not-reduced r i place) p = refused-fits r (strong-rule-limited bytes entry) (p .refusal)
+
+-- combine
+combine-fits : {first second : List ℕ} {operation : Operation} {before after entry exit : List ℕ} (answer : Combined)
+    → CombinePromise first second operation before after entry exit answer → Fits (combinedContents answer)
+combine-fits (Combined-rule length) p = written-fits (p .answered .written)
+combine-fits {first} {second} {entry = entry} (Not-combined r i place) p =
+    refused-fits r (buffer-limited (limited-append (checkedChecks 1 first entry) (checked-limited first entry)
+    (λ _. limited-append (ruleChecks 2 second) (rule-limited 2 second (omega arith))
+    (λ _. limited-cons (λ place (f : LettersDifferAt _ _ place). at-zero (f .is-place))
+    (λ _. limited-cons (λ place (f : WeakAt _ place). at-zero (f .is-place))
+    (λ _. limited-cons (λ place (f : WeakAt _ place). near (omega arith) (omega (arith, f .is-place)))
+    (λ _. limited-cons (λ place (f : TooManyPairsAt _ _ place). at-zero (f .is-place)) (λ _. limited-nil)))))))) (p .refusal)
 
 -- reduce_rounds: the limit passed its check, so that it is at most 64
 bit-small : (b : Bool) → bit b ≤ 1
@@ -278,6 +294,9 @@ module _ {bytes entry exit : List ℕ} {r : ℕ} where
     pub reduce-read : (x : ExportedReduction bytes before after entry exit r) → unpack r ≡ reducedContents (x .answer)
     reduce-read x = ap unpack (x .packed) ∙ read-back _ (reduce-fits (x .answer) (x .promise))
 
+    pub combine-read : {second : List ℕ} {operation : Operation} (x : ExportedCombination bytes second operation before after entry exit r) → unpack r ≡ combinedContents (x .answer)
+    combine-read x = ap unpack (x .packed) ∙ read-back _ (combine-fits (x .answer) (x .promise))
+
     pub rounds-read : {limit : ℕ} (x : ExportedRounds bytes limit before after entry exit r) → unpack r ≡ partitionContents (x .answer)
     rounds-read x = ap unpack (x .packed) ∙ read-back _ (rounds-fits (x .answer) (x .promise))
 
@@ -336,6 +355,10 @@ module _ {bytes entry exit bytes′ entry′ exit′ : List ℕ} {r : ℕ} where
     pub reduce-told : (x : ExportedReduction bytes before after entry exit r) (y : ExportedReduction bytes′ before′ after′ entry′ exit′ r)
         → x .answer ≡ y .answer
     reduce-told x y = reduced-told _ _ (sym (reduce-read x) ∙ reduce-read y)
+
+    pub combine-told : {second second′ : List ℕ} {operation operation′ : Operation} (x : ExportedCombination bytes second operation before after entry exit r)
+        (y : ExportedCombination bytes′ second′ operation′ before′ after′ entry′ exit′ r) → x .answer ≡ y .answer
+    combine-told x y = combined-told _ _ (sym (combine-read x) ∙ combine-read y)
 
     pub rounds-told : {limit limit′ : ℕ} (x : ExportedRounds bytes limit before after entry exit r) (y : ExportedRounds bytes′ limit′ before′ after′ entry′ exit′ r)
         → x .answer ≡ y .answer

@@ -8,6 +8,9 @@ use Rattle.promises.specs.declared.Listed.{Listed}
 use Rattle.promises.specs.Classes.{ListPromise}
 use Rattle.promises.specs.declared.Complemented.{Complemented}
 use Rattle.promises.specs.Complement.{ComplementPromise}
+use Rattle.promises.specs.declared.Operation.{Operation}
+use Rattle.promises.specs.declared.Combined.{Combined}
+use Rattle.promises.specs.Combine.{CombinePromise}
 use Rattle.promises.specs.declared.Inclusion.{Inclusion}
 use Rattle.promises.specs.Inclusion.{InclusionPromise}
 use Rattle.promises.specs.declared.Membership.{Membership}
@@ -27,7 +30,7 @@ use Rattle.promises.specs.declared.Strength.{Strength}
 use Rattle.promises.specs.Strong.{StrongPromise}
 use Rattle.promises.specs.declared.MonitorVerdict.{MonitorVerdict}
 use Rattle.promises.specs.Verdict.{VerdictPromise}
-use Rattle.packing.specs.Packing.{packListed, packStrength, packMembership, packComplemented, packReduced, packPartition, packTranslated, packInclusion, packMoved, packMonitorVerdict, packKind, packSuccessors}
+use Rattle.packing.specs.Packing.{packListed, packStrength, packMembership, packComplemented, packReduced, packCombined, packPartition, packTranslated, packInclusion, packMoved, packMonitorVerdict, packKind, packSuccessors}
 
 pub record ExportedClasses (bytes out-entry out-exit entry exit : List ℕ) (r : ℕ) : Type 0 where
   pub answer : Listed
@@ -78,6 +81,11 @@ pub record ExportedReduction (bytes out-entry out-exit entry exit : List ℕ) (r
   pub answer : Reduced
   pub promise : ReducePromise bytes out-entry out-exit entry exit answer
   pub packed : r ≡ packReduced answer
+
+pub record ExportedCombination (first second : List ℕ) (operation : Operation) (out-entry out-exit entry exit : List ℕ) (r : ℕ) : Type 0 where
+  pub answer : Combined
+  pub promise : CombinePromise first second operation out-entry out-exit entry exit answer
+  pub packed : r ≡ packCombined answer
 
 pub record ExportedRounds (bytes : List ℕ) (limit : ℕ) (blocks-entry blocks-exit entry exit : List ℕ) (r : ℕ) : Type 0 where
   pub answer : Partition

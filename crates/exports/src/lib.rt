@@ -1,6 +1,7 @@
 // The library's calls for C and Rust: one function a call, slices as pointer and length, and one number back, packed as
 // packing/specs/Packing says. A caller in another language owes what Rust's references owe: each pointer is good for its length, and a
 // buffer that is written overlaps no other.
+use packing::pack_combined;
 use packing::pack_complemented;
 use packing::pack_fields;
 use packing::pack_inclusion;
@@ -15,10 +16,12 @@ use packing::pack_strength;
 use packing::pack_successors;
 use packing::pack_translated;
 use promises::Monitor;
+use promises::Operation;
 ghost use mathlib.Core.Path.{_≡_};
 ghost use Rattle.promises.specs.Monitor.{freshMonitor};
+ghost use Rattle.promises.specs.declared.Operation.the-variants.{Both, Either, Without};
 ghost use Rattle.packing.specs.Packing.{packMonitor};
-ghost use Rattle.exports.specs.Exports.{ExportedClasses, ExportedStrength, ExportedMember, ExportedComplement, ExportedInclusion, ExportedEvent, ExportedMark, ExportedKeep, ExportedReturn, ExportedReduction, ExportedRounds, ExportedAutomaton, ExportedVerdict, ExportedKind, ExportedSuccessors};
+ghost use Rattle.exports.specs.Exports.{ExportedClasses, ExportedStrength, ExportedMember, ExportedComplement, ExportedInclusion, ExportedEvent, ExportedMark, ExportedKeep, ExportedReturn, ExportedReduction, ExportedCombination, ExportedRounds, ExportedAutomaton, ExportedVerdict, ExportedKind, ExportedSuccessors};
 
 // The linked pairs, the classes and the joins; each pair's class in `out`.
 #[no_mangle]
@@ -146,6 +149,45 @@ pub extern "C" fn duknavet_reduce(rule: &[u8], out: &mut [u8], scratch: &mut [u8
     ensures { λ r. ⌜ ExportedReduction (now (rule .entry)) (now (out .entry)) (now (out .exit)) (now (scratch .entry)) (now (scratch .exit)) r ⌝ }
 {
     pack_reduced(rules::reduce(rule, out, scratch))
+}
+
+// How many bytes the rule with the lower of two grades has, which stands in `out`.
+#[no_mangle]
+pub extern "C" fn duknavet_both(
+    first: &[u8],
+    second: &[u8],
+    out: &mut [u8],
+    scratch: &mut [u8],
+) -> u64
+    ensures { λ r. ⌜ ExportedCombination (now (first .entry)) (now (second .entry)) Both (now (out .entry)) (now (out .exit)) (now (scratch .entry)) (now (scratch .exit)) r ⌝ }
+{
+    pack_combined(rules::combine(first, second, Operation::Both, out, scratch))
+}
+
+// The same with the higher of two grades.
+#[no_mangle]
+pub extern "C" fn duknavet_either(
+    first: &[u8],
+    second: &[u8],
+    out: &mut [u8],
+    scratch: &mut [u8],
+) -> u64
+    ensures { λ r. ⌜ ExportedCombination (now (first .entry)) (now (second .entry)) Either (now (out .entry)) (now (out .exit)) (now (scratch .entry)) (now (scratch .exit)) r ⌝ }
+{
+    pack_combined(rules::combine(first, second, Operation::Either, out, scratch))
+}
+
+// The same with the lower of the first grade and 3 less the second.
+#[no_mangle]
+pub extern "C" fn duknavet_without(
+    first: &[u8],
+    second: &[u8],
+    out: &mut [u8],
+    scratch: &mut [u8],
+) -> u64
+    ensures { λ r. ⌜ ExportedCombination (now (first .entry)) (now (second .entry)) Without (now (out .entry)) (now (out .exit)) (now (scratch .entry)) (now (scratch .exit)) r ⌝ }
+{
+    pack_combined(rules::combine(first, second, Operation::Without, out, scratch))
 }
 
 // How many rounds of the reduction were done within the limit, and 1 if one more would change nothing; the blocks in `blocks`.

@@ -11,7 +11,8 @@ use lib.Dec.{T, eqb}
 use mir.Facts.{eqb-yes, yes-eqb}
 use Rattle.finite.proofs.Tests.{T-and, T-and-left, T-and-right, T-true, T-false, true-T}
 use Rattle.finite.proofs.Numbers.{below-cases}
-use Rattle.formats.specs.RuleFile.{markStart, markCycle, markGrade, isMark, gradeAmong}
+use Rattle.formats.specs.RuleFile.{markStart, markCycle, markGrade, isMark, gradeAmong, marksIn}
+use Rattle.formats.specs.Sections.{twoBytes}
 
 module _ (bytes : List ℕ) (at s e : ℕ) where
   -- the pair of a mark
@@ -85,3 +86,21 @@ module _ (bytes : List ℕ) (at s e : ℕ) where
   pub grade-at-most : (count bound : ℕ) → ((j : ℕ) → j < count → markGrade bytes at j ≤ bound) → gradeAmong bytes at count s e ≤ bound
   grade-at-most count bound most =
       ⊎-elim (λ k. omega (arith, k .its-grade, most (k .index) (k .below))) (λ k. omega (arith, k .no-grade)) (mark-of count)
+
+-- the grades of the first marks together: a number that none of them is above
+grades-together : List ℕ → ℕ → ℕ → ℕ
+grades-together bytes at zero = 0
+grades-together bytes at (suc i) = markGrade bytes at i + grades-together bytes at i
+
+together-above : (bytes : List ℕ) (at count j : ℕ) → j < count → markGrade bytes at j ≤ grades-together bytes at count
+unfolding grades-together
+together-above bytes at zero j h = absurd (let z : ⊥ = omega arith in z)
+together-above bytes at (suc i) j h =
+    ⊎-elim (λ (q : j ≡ i). subst (λ (k : ℕ). markGrade bytes at j ≤ markGrade bytes at k + grades-together bytes at i) q (omega arith))
+    (λ l. omega (arith, together-above bytes at i j l)) (below-cases h)
+
+-- so the grades of a section are bounded, whatever its bytes are
+pub grades-bounded : (bytes : List ℕ) (at : ℕ) → (bound : ℕ) × ((s e : ℕ) → marksIn bytes at s e ≤ bound)
+unfolding marksIn
+grades-bounded bytes at =
+    (grades-together bytes at (twoBytes bytes at), λ s e. grade-at-most bytes at s e (twoBytes bytes at) _ (together-above bytes at (twoBytes bytes at)))

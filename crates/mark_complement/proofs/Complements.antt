@@ -1,7 +1,7 @@
 -- The marks of the closure of a strong marking, turned, are the marks of its complement. Assumes nothing.
 use Prim.Native.Nat.{ℕ, _-_, _≤_, _<_}
 use native.Mathlib.Omega.{arith}
-use mathlib.Core.Path.{_≡_, refl, sym, ap, ap₂, _∙_, subst}
+use mathlib.Core.Path.{_≡_, refl, sym, ap, _∙_, subst}
 use mathlib.Core.Bool.{Bool, true, false, cond}
 use mathlib.Core.Logic.{⊎-elim}
 use mathlib.Core.List.{List}
@@ -11,13 +11,10 @@ use Rattle.theory.specs.Rules.{Morphism, Lawful, Marking, level, AllReached}
 use Rattle.theory.specs.Pairs.{Linked}
 use Rattle.theory.specs.Grades.{StrongMarking}
 use Rattle.theory.specs.Smallest.{Turned}
-use Rattle.theory.proofs.Powers.{idempotent-self}
-use Rattle.theory.proofs.Conjugacy.{semigroup}
-use Rattle.theory.proofs.Strength.{settled-cycle, settled-start}
 use Rattle.theory.proofs.Closure.{linked-test, linked-intro, linked-elim}
 use Rattle.theory.proofs.Gradings.{GradedMarks}
 use Rattle.theory.proofs.ClosureGrades.{closure-grade}
-use Rattle.minimality.proofs.GradeOutcomes.{grading}
+use Rattle.minimality.proofs.GradeOutcomes.{grading-linked}
 use Rattle.minimality.proofs.Saturation.{saturated-at, saturated-other}
 use Rattle.minimality.proofs.Complements.{lack, complement-marks, complement-saturates, complement-rest, complement-right}
 use Rattle.scratch.specs.Map.{marksFrom, MarkingAt}
@@ -25,12 +22,6 @@ use Rattle.scratch.proofs.Markings.{level-same}
 use Rattle.mark_closure.proofs.Agreement.{linked-agrees, accepts-agrees, marking-strong-agrees}
 use Rattle.mark_complement_marks.specs.Complement.{turnedMark, ComplementLaid}
 use Rattle.promises.specs.Complement.{ComplementMarks}
-
--- the values of a linked pair are settled
-settled-same : {m : Morphism} {s e : ℕ} → Lawful m → Linked m s e → (settled-start m s e ≡ s) × (settled-cycle m e ≡ e)
-settled-same {m} {s} {e} law l =
-    let q = idempotent-self (semigroup law) (l .idempotent .inside) (l .idempotent .square) in
-    (ap (m .product s) q ∙ l .stays, q)
 
 -- the mark of a linked pair, and of every other
 module _ (m : Morphism) (marks : Marking) (s e : ℕ) where
@@ -64,12 +55,11 @@ module _ (m : Morphism) (marks : Marking) (s e : ℕ) where
 
 -- a pair's turned grade in the closure is what its lassos' grade lacks
 turned-closure : (m : Morphism) (marks : Marking) (s e : ℕ) → Lawful m → turnedMark m (closure-grade m marks) s e ≡ complement-marks m marks s e
-unfolding complement-marks lack grading
+unfolding complement-marks lack
 turned-closure m marks s e law =
     ⊎-elim (λ t.
     let l = linked-elim m s e t in
-    let k = settled-same law l in
-    turned-linked m (closure-grade m marks) s e l ∙ ap (λ (g : ℕ). 3 - g) (sym (ap₂ (closure-grade m marks) (k .0) (k .1))) ∙ sym (saturated-at (lack m marks) s e l))
+    turned-linked m (closure-grade m marks) s e l ∙ ap (λ (g : ℕ). 3 - g) (sym (grading-linked marks law l)) ∙ sym (saturated-at (lack m marks) s e l))
     (λ f.
     turned-other m (closure-grade m marks) s e (λ l. f (linked-intro l)) ∙ sym (saturated-other (lack m marks) s e (λ l. f (linked-intro l))))
     (T-dec (linked-test m s e))

@@ -6,8 +6,7 @@ use mathlib.Core.List.{List}
 use native.Mathlib.Omega.{arith}
 use lib.ListN.{length, getD, replicate}
 use Rattle.answer.specs.declared.Refusal.{Refusal}
-use Rattle.theory.specs.Rules.{Morphism, Lawful, AllReached, level}
-use Rattle.theory.specs.Pairs.{LinkedOnly}
+use Rattle.theory.specs.Rules.{Morphism, Lawful, AllReached}
 use Rattle.theory.specs.Grades.{StrongMarking}
 use Rattle.theory.proofs.Gradings.{GradedMarks}
 use Rattle.theory.proofs.ClosureGrades.{closure-grade}
@@ -15,11 +14,12 @@ use Rattle.rule_table.specs.Table.{Table}
 use Rattle.formats.specs.Table.{morphismAt}
 use Rattle.formats.specs.RuleFile.{elementsOf, morphismOf, markingOf}
 use Rattle.rule_layout.specs.declared.Shape.{Shape}
+use Rattle.rule_layout.specs.Answers.{IsShape}
 use Rattle.rule_check.specs.declared.Checked.the-variants.{Rule, Refused as Checked-refused}
 use Rattle.rule_check.specs.Answers.{CheckPromise}
 use Rattle.formats.specs.Calls.{afterCall}
 use Rattle.rule_check.specs.GoodRule.{GoodRule}
-use Rattle.rule_check.proofs.CheckedRule.{marking-small}
+use Rattle.rule_check.proofs.CheckedRule.{graded-marks}
 use Rattle.rule_check.proofs.Calls.{scratch-long, called-good, zeros-left, checked-length, shape-morphism, shape-table}
 use Rattle.scratch.specs.Map.{secondBase, marksFrom, MarkingAt}
 use Rattle.mark_closure.proofs.Agreement.{graded-agrees}
@@ -27,6 +27,27 @@ use Rattle.mark_strong.specs.Deciding.{DecideNeeds, StrongIf, Decided}
 use Rattle.promises.specs.Strong.{StrongPromise}
 use Rattle.promises.specs.declared.Strength.the-variants.{Strong as Is-strong, Weak, Refused}
 use Rattle.formats.specs.RuleChecks.{scratchSize}
+
+-- a good rule by the counts that were read of it
+module _ {bytes : List ℕ} {shape : Shape} (good : GoodRule bytes) (is : IsShape bytes shape) where
+  pub shape-lawful : Lawful (morphismAt bytes (shape .elements) (shape .letters))
+  shape-lawful = subst Lawful (sym (shape-morphism is)) (good .lawful)
+
+  pub shape-reached : AllReached (morphismAt bytes (shape .elements) (shape .letters))
+  shape-reached = subst AllReached (sym (shape-morphism is)) (good .reached)
+
+  pub shape-graded : GradedMarks (morphismAt bytes (shape .elements) (shape .letters)) (markingOf bytes)
+  shape-graded = subst (λ (m : Morphism). GradedMarks m (markingOf bytes)) (sym (shape-morphism is)) (graded-marks good)
+
+  -- its marks stand in scratch, in the table that begins at a byte
+  pub shape-needs : {scratch : List ℕ} {base : ℕ} → MarkingAt (shape .elements) (markingOf bytes) scratch base → scratchSize ≤ length scratch
+      → DecideNeeds (morphismAt bytes (shape .elements) (shape .letters)) base scratch
+  shape-needs {scratch} {base} stand room = record {
+    lawful = shape-lawful;
+    reached = shape-reached;
+    graded = graded-agrees shape-lawful (markingOf bytes) (marksFrom scratch base) (stand .same) shape-graded;
+    room = room;
+  }
 
 module _ (input : ℕ) (bytes entry : List ℕ) {shape : Shape} {mid : List ℕ} (p : CheckPromise input bytes entry mid (Rule shape)) where
   good : GoodRule bytes
@@ -36,19 +57,13 @@ module _ (input : ℕ) (bytes entry : List ℕ) {shape : Shape} {mid : List ℕ}
   checked-table = shape-table (p .scratch .shape-is) (good .table)
 
   pub checked-lawful : Lawful (morphismAt bytes (shape .elements) (shape .letters))
-  checked-lawful = subst Lawful (sym (shape-morphism (p .scratch .shape-is))) (good .lawful)
+  checked-lawful = shape-lawful good (p .scratch .shape-is)
 
   pub checked-reached : AllReached (morphismAt bytes (shape .elements) (shape .letters))
-  checked-reached = subst AllReached (sym (shape-morphism (p .scratch .shape-is))) (good .reached)
-
-  pub checked-linked : LinkedOnly (morphismAt bytes (shape .elements) (shape .letters)) (level 1 (markingOf bytes))
-  checked-linked = subst (λ (m : Morphism). LinkedOnly m (level 1 (markingOf bytes))) (sym (shape-morphism (p .scratch .shape-is))) (good .linked)
+  checked-reached = shape-reached good (p .scratch .shape-is)
 
   pub checked-graded : GradedMarks (morphismAt bytes (shape .elements) (shape .letters)) (markingOf bytes)
-  checked-graded = record {
-    small = λ s e hs he. marking-small good s e;
-    linked = checked-linked;
-  }
+  checked-graded = shape-graded good (p .scratch .shape-is)
 
   -- the marks of the file stand at the front of scratch
   pub marks-stand : MarkingAt (shape .elements) (markingOf bytes) mid 0
@@ -61,13 +76,8 @@ module _ (input : ℕ) (bytes entry : List ℕ) {shape : Shape} {mid : List ℕ}
   pub checked-room : scratchSize ≤ length mid
   checked-room = omega (arith, scratch-long input bytes entry (p .refusal), checked-length (p .scratch))
 
-  pub decide-place : DecideNeeds (morphismAt bytes (shape .elements) (shape .letters)) mid
-  decide-place = record {
-    lawful = checked-lawful;
-    reached = checked-reached;
-    graded = graded-agrees checked-lawful (markingOf bytes) (marksFrom mid 0) (marks-stand .same) checked-graded;
-    room = checked-room;
-  }
+  pub decide-place : DecideNeeds (morphismAt bytes (shape .elements) (shape .letters)) 0 mid
+  decide-place = shape-needs good (p .scratch .shape-is) marks-stand checked-room
 
   module _ {exit : List ℕ} {answer : Bool} (d : Decided (morphismAt bytes (shape .elements) (shape .letters)) mid exit answer) where
     -- the verdict on the file

@@ -4,6 +4,7 @@ use mathlib.Core.Path.{_≡_, sym, ap, _∙_, subst}
 use mathlib.Core.Bool.{Bool, true, false}
 use mathlib.Core.List.{List}
 use native.Mathlib.Omega.{arith}
+use lib.ListN.{length}
 use Rattle.theory.specs.Rules.{Morphism, Lawful, Marking, Pairs, level}
 use Rattle.theory.specs.Acceptance.{Strong}
 use Rattle.theory.specs.Grades.{StrongMarking}
@@ -26,7 +27,7 @@ use Rattle.scratch.proofs.Markings.{marking-itself, level-at, marking-kept}
 use Rattle.mark_cycles.proofs.Spelled.{ended-escapes}
 use Rattle.mark_strong.specs.Deciding.{DecideNeeds, StrongIf, Decided}
 
-module _ {m : Morphism} {entry blank : List ℕ} (small : m .size ≤ 64) (place : DecideNeeds m entry) (z : PartZeroed secondBase tablesEnd entry blank) where
+module _ {m : Morphism} {entry blank : List ℕ} (small : m .size ≤ 64) (place : DecideNeeds m 0 entry) (z : PartZeroed secondBase tablesEnd entry blank) where
   -- the marks stand as before
   stands-blank : (marks : Marking) → MarkingAt (m .size) marks entry 0 → MarkingAt (m .size) marks blank 0
   stands-blank marks t = marking-kept 0 small (λ i g h. z .outside .before i h) t
@@ -107,6 +108,16 @@ module _ {m : Morphism} {entry blank : List ℕ} (small : m .size ≤ 64) (place
 
       pub decided-weak : {g s i : ℕ} → answer ≡ At g s i → Decided m entry exit false
       decided-weak e = after-search (λ marks k t. escape-weak marks k t e)
+
+-- marks that stand in another table too can be decided there
+pub needs-moved : {m : Morphism} {base to : ℕ} {entry now : List ℕ} → DecideNeeds m base entry → length now ≡ length entry
+    → MarkingAt (m .size) (marksFrom entry base) now to → DecideNeeds m to now
+needs-moved {m} {base} {to} {entry} {now} place e t = record {
+  lawful = place .lawful;
+  reached = place .reached;
+  graded = graded-agrees (place .lawful) (marksFrom entry base) (marksFrom now to) (t .same) (place .graded);
+  room = omega (arith, place .room);
+}
 
 -- the second table marks the closure of the marked pairs
 pub closure-marked : {m : Morphism} {entry exit : List ℕ} {answer : Bool} → Lawful m → Decided m entry exit answer → (marks : Marking) → GradedMarks m marks

@@ -11,11 +11,11 @@ use Rattle.theory.proofs.ClosureGrades.{closure-grade}
 use Rattle.scratch.specs.Map.{searchEnd, secondBase, marksFrom, MarkingAt}
 use Rattle.formats.specs.RuleChecks.{scratchSize}
 
--- the marks of a good rule, whatever stands behind them
-pub record DecideNeeds (m : Morphism) (scratch : List ℕ) : Type 0 where
+-- the marks of a good rule, in the table that begins at a byte, whatever stands elsewhere
+pub record DecideNeeds (m : Morphism) (base : ℕ) (scratch : List ℕ) : Type 0 where
   pub lawful : Lawful m
   pub reached : AllReached m
-  pub graded : GradedMarks m (marksFrom scratch 0)
+  pub graded : GradedMarks m (marksFrom scratch base)
   pub room : scratchSize ≤ length scratch
 
 -- yes exactly if strong

@@ -18,7 +18,7 @@ ghost use Rattle.promises.specs.Strong.{StrongPromise};
 // Decides strength from the marks in scratch, and leaves their closure behind them. The bytes from 61440 on are kept.
 pub fn decide(rule: &[u8], n: usize, k: usize, scratch: &mut [u8]) -> bool
     requires { ⌜ Table (now rule) n k ⌝ }
-    requires { ⌜ DecideNeeds (morphismAt (now rule) n k) (now scratch) ⌝ }
+    requires { ⌜ DecideNeeds (morphismAt (now rule) n k) 0 (now scratch) ⌝ }
     ensures { λ r. ⌜ Decided (morphismAt (now (rule .entry)) n k) (now (scratch .entry)) (now (scratch .exit)) r ⌝ }
 {
     zero_part(scratch, SECOND_BASE, TABLES_END);

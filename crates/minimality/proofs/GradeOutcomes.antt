@@ -2,15 +2,16 @@
 -- nothing.
 use Prim.Native.Nat.{ℕ, _≤_, _<_}
 use native.Mathlib.Omega.{arith}
-use mathlib.Core.Path.{sym, subst}
+use mathlib.Core.Path.{_≡_, sym, subst, ap₂}
 use mathlib.Core.Logic.{_↔_, ⊎-elim}
 use mathlib.Core.List.{List}
 use Rattle.finite.proofs.Numbers.{le-or-lt}
 use Rattle.finite.proofs.Highest.{same-above}
 use Rattle.theory.specs.Words.{Lasso}
 use Rattle.theory.specs.Rules.{Morphism, Lawful, Marking, level, element, AllReached}
+use Rattle.theory.specs.Pairs.{Linked}
 use Rattle.theory.specs.Grades.{AtLeast, Graded, StrongMarking, LassosGraded}
-use Rattle.theory.proofs.Strength.{settled-start, settled-cycle, accepts-same, started-accepts}
+use Rattle.theory.proofs.Strength.{settled-start, settled-cycle, settled-same, accepts-same, started-accepts}
 use Rattle.theory.proofs.Closure.{acceptance-passes, strong-acceptance}
 use Rattle.theory.proofs.Gradings.{GradedMarks, level-linked, at-least-small, graded-by}
 use Rattle.theory.proofs.ClosureGrades.{closure-grade, closure-grade-small, closure-level}
@@ -24,6 +25,11 @@ grading m marks s z = closure-grade m marks (settled-start m s z) (settled-cycle
 pub grading-small : (m : Morphism) (marks : Marking) (s z : ℕ) → grading m marks s z ≤ 3
 unfolding grading
 grading-small m marks s z = closure-grade-small m marks (settled-start m s z) (settled-cycle m z)
+
+-- where the values are a linked pair, which is settled, that is one look in the closure
+pub grading-linked : {m : Morphism} (marks : Marking) {s e : ℕ} → Lawful m → Linked m s e → grading m marks s e ≡ closure-grade m marks s e
+unfolding grading
+grading-linked {m} marks law l = ap₂ (closure-grade m marks) (settled-same law l .0) (settled-same law l .1)
 
 module _ {m : Morphism} {marks : Marking} (law : Lawful m) (reached : AllReached m) (good : GradedMarks m marks) (strong : StrongMarking m marks) where
   -- a lasso has grade g or more exactly if its outcome is that or more
@@ -42,6 +48,10 @@ module _ {m : Morphism} {marks : Marking} (law : Lawful m) (reached : AllReached
             (λ h. absurd (omega (arith, closure-grade-small m marks s e))) (le-or-lt g 3),
       )
 
+  -- so its outcome is its grade
+  pub grading-graded : {u v : List ℕ} → Lasso (m .letters) u v → Graded m marks u v (outcome m (grading m marks) u v)
+  grading-graded l = graded-by (λ g some. grading-outcome g some l)
+
   -- it depends on the endless word only
   pub grading-depends : DependsOnWord m (grading m marks)
   grading-depends = record {
@@ -58,5 +68,5 @@ module _ {m : Morphism} {marks : Marking} (law : Lawful m) (reached : AllReached
     cycle = reached .word-of z hz;
     graded = λ u v l eu ev.
         subst (Graded m marks u v) (outcome-at (grading m marks) (record { over = l .start-over; is = eu }) (record { over = l .cycle-over; is = ev }))
-        (graded-by (λ g some. grading-outcome g some l));
+        (grading-graded l);
   }

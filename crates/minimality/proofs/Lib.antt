@@ -12,6 +12,7 @@ pub mod ToldApart
 pub mod Saturation
 pub mod Complements
 pub mod Reductions
+pub mod Combined
 pub mod ReducedElements
 pub mod ReduceModel
 pub mod ReducedExamples

@@ -1,22 +1,21 @@
 -- Saturation: where an outcome that the values decide depends on the endless word only, the marking of the linked pairs by
 -- their outcomes is strong, gives every lasso its outcome for a grade, and marks each linked pair with the grade of its lassos. Assumes
 -- nothing.
-use Prim.Native.Nat.{ℕ, _≤_}
+use Prim.Native.Nat.{ℕ, _≤_, _<_}
 use native.Mathlib.Omega.{arith}
-use mathlib.Core.Path.{_≡_, sym, subst, ap₂, _∙_}
+use mathlib.Core.Path.{_≡_, refl, sym, subst, ap₂, _∙_}
 use mathlib.Core.Bool.{Bool, true, false, cond}
 use mathlib.Core.Logic.{_↔_, ⊎-elim}
 use mathlib.Core.List.{List}
-use lib.Dec.{T, leb, leb→le, le→leb}
-use Rattle.finite.proofs.Numbers.{le-or-lt}
-use Rattle.finite.proofs.Highest.{same-above}
-use Rattle.finite.proofs.Tests.{T-true}
+use lib.Dec.{T}
+use Rattle.finite.proofs.Tests.{T-dec, T-true, T-false}
 use Rattle.theory.specs.Words.{Lasso, endless}
 use Rattle.theory.specs.Rules.{Morphism, Lawful, Marking, level, element, value, AllReached}
 use Rattle.theory.specs.Acceptance.{Accepts, Strong}
 use Rattle.theory.specs.Pairs.{Linked, LinkedOnly}
 use Rattle.theory.specs.Grades.{AtLeast, Graded, StrongMarking}
 use Rattle.theory.specs.Smallest.{MarksGrades}
+use Rattle.theory.proofs.Values.{inside-of}
 use Rattle.theory.proofs.Gradings.{level-up, level-down, graded-by}
 use Rattle.theory.proofs.Starts.{start-or-turn, first-value, same-started}
 use Rattle.theory.proofs.Strength.{settled-cycle, settled-start, Settled, settled-linked, settle}
@@ -29,42 +28,42 @@ pub record DependsOnWord (m : Morphism) (acc : ℕ → ℕ → ℕ) : Type 0 whe
   pub same-outcome : (u v u′ v′ : List ℕ) → Lasso (m .letters) u v → Lasso (m .letters) u′ v′
       → ((i : ℕ) → endless u v i ≡ endless u′ v′ i) → outcome m acc u v ≡ outcome m acc u′ v′
 
--- each linked pair marked with its outcome, and no other pair
-unfoldable pub saturated : Morphism → (ℕ → ℕ → ℕ) → Marking
-saturated m acc s e =
-    let number = acc s e in
-    cond (linked-test m s e) number 0
+-- each linked pair is marked with its outcome, and no other pair of elements
+pub record MarksOutcomes (m : Morphism) (acc : ℕ → ℕ → ℕ) (marks : Marking) : Type 0 where
+  pub of-linked : (s e : ℕ) → Linked m s e → marks s e ≡ acc s e
+  pub of-others : (s e : ℕ) → s < m .size → e < m .size → (Linked m s e → ⊥) → marks s e ≡ 0
 
--- a number above 0 that is at most a choice between a and 0
-chosen-first : {g : ℕ} → 1 ≤ g → (b : Bool) (a : ℕ) → T (leb g (cond b a 0)) → T b × (g ≤ a)
-chosen-first {g} some true a h = (tt, leb→le g a h)
-chosen-first {g} some false a h = absurd (omega (arith, leb→le g 0 h))
+-- no mark is above a bound of the outcomes of linked pairs
+pub marks-at-most : {m : Morphism} {acc : ℕ → ℕ → ℕ} {marks : Marking} (bound : ℕ) → MarksOutcomes m acc marks → ((s e : ℕ) → Linked m s e → acc s e ≤ bound)
+    → (s e : ℕ) → s < m .size → e < m .size → marks s e ≤ bound
+marks-at-most {m} {marks = marks} bound k most s e hs he =
+    ⊎-elim (λ t. let l = linked-elim m s e t in omega (arith, k .of-linked s e l, most s e l)) (λ f. omega (arith, k .of-others s e hs he (λ l. f (linked-intro l))))
+    (T-dec (linked-test m s e))
 
-module _ {m : Morphism} (acc : ℕ → ℕ → ℕ) {g : ℕ} (some : 1 ≤ g) where
-  pub saturated-intro : {s e : ℕ} → Linked m s e → g ≤ acc s e → T (level g (saturated m acc) s e)
-  unfolding level saturated
-  saturated-intro {s} {e} l h = rw (T-true (linked-test m s e) (linked-intro l)) (le→leb g (acc s e) h)
+module _ {m : Morphism} {acc : ℕ → ℕ → ℕ} {marks : Marking} (by-outcomes : MarksOutcomes m acc marks) {g : ℕ} (some : 1 ≤ g) where
+  marked-intro : {s e : ℕ} → Linked m s e → g ≤ acc s e → T (level g marks s e)
+  marked-intro {s} {e} l h = level-up marks g s e (omega (arith, by-outcomes .of-linked s e l))
 
-  pub saturated-elim : (s e : ℕ) → T (level g (saturated m acc) s e) → Linked m s e × (g ≤ acc s e)
-  unfolding level saturated
-  saturated-elim s e h =
-      let p = chosen-first some (linked-test m s e) (acc s e) h in
-      (linked-elim m s e (p .0), p .1)
+  marked-elim : (s e : ℕ) → s < m .size → e < m .size → T (level g marks s e) → Linked m s e × (g ≤ acc s e)
+  marked-elim s e hs he t =
+      let h : g ≤ marks s e = level-down marks g s e t in
+      ⊎-elim (λ k. let l = linked-elim m s e k in (l, omega (arith, by-outcomes .of-linked s e l)))
+      (λ f. absurd (omega (arith, by-outcomes .of-others s e hs he (λ l. f (linked-intro l))))) (T-dec (linked-test m s e))
 
   -- only linked pairs are marked
-  pub saturated-linked : LinkedOnly m (level g (saturated m acc))
-  saturated-linked = record { linked = λ s e hs he h. saturated-elim s e h .0 }
+  pub marked-linked : LinkedOnly m (level g marks)
+  marked-linked = record { linked = λ s e hs he h. marked-elim s e hs he h .0 }
 
   module _ (law : Lawful m) (depends : DependsOnWord m acc) where
-    accepted-outcome : {u v : List ℕ} → Lasso (m .letters) u v → Accepts m (level g (saturated m acc)) u v → g ≤ outcome m acc u v
+    accepted-outcome : {u v : List ℕ} → Lasso (m .letters) u v → Accepts m (level g marks) u v → g ≤ outcome m acc u v
     accepted-outcome {u} {v} l a =
         let p : HasValue m (a .start) (element (a .start-element)) = record { over = a .start-over; is = a .start-value } in
         let w : HasValue m (a .cycle) (element (a .cycle-element)) = record { over = a .cycle-over; is = a .cycle-value } in
         let e : outcome m acc u v ≡ acc (a .start-element) (a .cycle-element) =
         sym (depends .same-outcome _ _ _ _ (elements-lasso p w) l (a .same)) ∙ outcome-at acc p w in
-        rw e (saturated-elim (a .start-element) (a .cycle-element) (a .is-marked) .1)
+        rw e (marked-elim (a .start-element) (a .cycle-element) (inside-of law (a .start-over) (a .start-value)) (inside-of law (a .cycle-over) (a .cycle-value)) (a .is-marked) .1)
 
-    outcome-accepted : {u v : List ℕ} → Lasso (m .letters) u v → g ≤ outcome m acc u v → Accepts m (level g (saturated m acc)) u v
+    outcome-accepted : {u v : List ℕ} → Lasso (m .letters) u v → g ≤ outcome m acc u v → Accepts m (level g marks) u v
     outcome-accepted {u} {v} l h =
         let k : LassoValues m u v = lasso-values law l in
         let t : Settled m (start-or-turn u v) v (k .start) (k .cycle) = settle law (k .start-has .over) (l .cycle-over) (k .start-has .is) (k .cycle-has .is) in
@@ -84,22 +83,22 @@ module _ {m : Morphism} (acc : ℕ → ℕ → ℕ) {g : ℕ} (some : 1 ≤ g) w
           cycle-element = settled-cycle m (k .cycle);
           start-value = t .start-value;
           cycle-value = t .cycle-value;
-          is-marked = saturated-intro (settled-linked law (k .start-inside) (k .cycle-inside)) (rw e at h);
+          is-marked = marked-intro (settled-linked law (k .start-inside) (k .cycle-inside)) (rw e at h);
         }
 
     -- a lasso is accepted at level g exactly if its outcome is g or more
-    pub saturated-accepts : {u v : List ℕ} → Lasso (m .letters) u v → Accepts m (level g (saturated m acc)) u v ↔ (g ≤ outcome m acc u v)
-    saturated-accepts l = (accepted-outcome l, outcome-accepted l)
+    pub marked-accepts : {u v : List ℕ} → Lasso (m .letters) u v → Accepts m (level g marks) u v ↔ (g ≤ outcome m acc u v)
+    marked-accepts l = (accepted-outcome l, outcome-accepted l)
 
     one-way : {u v u′ v′ : List ℕ} → Lasso (m .letters) u v → Lasso (m .letters) u′ v′ → value m u ≡ value m u′ → value m v ≡ value m v′
-        → Accepts m (level g (saturated m acc)) u v → Accepts m (level g (saturated m acc)) u′ v′
+        → Accepts m (level g marks) u v → Accepts m (level g marks) u′ v′
     unfolding outcome
     one-way l l′ eu ev a =
         outcome-accepted l′ (subst (λ n. g ≤ n) (ap₂ (λ x y. valueOutcome acc (first-value x y) y) eu ev) (accepted-outcome l a))
 
     -- the marking is strong
-    pub saturated-strong : Strong m (level g (saturated m acc))
-    saturated-strong = record {
+    pub marked-strong : Strong m (level g marks)
+    marked-strong = record {
       both-or-neither = λ u v u′ v′ l l′ eu ev. (one-way l l′ eu ev, one-way l′ l (sym eu) (sym ev));
     }
 
@@ -115,18 +114,45 @@ pub record Saturates (m : Morphism) (acc : ℕ → ℕ → ℕ) (marks : Marking
 pub saturates-graded : {m : Morphism} {acc : ℕ → ℕ → ℕ} {marks : Marking} {u v : List ℕ} → Saturates m acc marks → Lasso (m .letters) u v → Graded m marks u v (outcome m acc u v)
 saturates-graded {u = u} {v = v} k l = graded-by (λ g some. k .accepts g some u v l)
 
--- a linked pair's mark is its outcome, every other pair's is 0
+-- every marking of them does so
+pub marks-saturate : {m : Morphism} {acc : ℕ → ℕ → ℕ} {marks : Marking} → Lawful m → AllReached m → DependsOnWord m acc → MarksOutcomes m acc marks → Saturates m acc marks
+marks-saturate {m} {acc} {marks} law reached depends by-outcomes = record {
+  accepts = λ g some u v l. marked-accepts by-outcomes some law depends l;
+  strong = record { at-each = λ g some. marked-strong by-outcomes some law depends };
+  linked-only = marked-linked by-outcomes (omega arith);
+  marks-grades = record {
+    of-linked = λ s e k. record {
+      linked = k;
+      lassos = record {
+        start = reached .word-of s (k .inside);
+        cycle = reached .word-of e (k .idempotent .inside);
+        graded = λ u v l eu ev.
+            subst (Graded m marks u v)
+            (outcome-at acc (record { over = l .start-over; is = eu }) (record { over = l .cycle-over; is = ev }) ∙ sym (by-outcomes .of-linked s e k))
+            (graded-by (λ g some. marked-accepts by-outcomes some law depends l));
+      };
+    };
+    of-others = by-outcomes .of-others;
+  };
+}
+
+-- one of them: a linked pair's mark is its outcome, every other pair's is 0
+unfoldable pub saturated : Morphism → (ℕ → ℕ → ℕ) → Marking
+saturated m acc s e =
+    let number = acc s e in
+    cond (linked-test m s e) number 0
+
 module _ {m : Morphism} (acc : ℕ → ℕ → ℕ) where
   pub saturated-at : (s e : ℕ) → Linked m s e → saturated m acc s e ≡ acc s e
-  saturated-at s e l = same-above (λ g some. (
-    λ h. saturated-elim acc some s e (level-up (saturated m acc) g s e h) .1,
-    λ h. level-down (saturated m acc) g s e (saturated-intro acc some l h),
-  ))
+  unfolding saturated
+  saturated-at s e l = rw (T-true (linked-test m s e) (linked-intro l)) refl
 
   pub saturated-other : (s e : ℕ) → (Linked m s e → ⊥) → saturated m acc s e ≡ 0
-  saturated-other s e f =
-      ⊎-elim (λ (h : 1 ≤ saturated m acc s e). absurd (f (saturated-elim acc (let z : 1 ≤ 1 = omega arith in z) s e (level-up (saturated m acc) 1 s e h) .0)))
-      (λ h. omega arith) (le-or-lt 1 (saturated m acc s e))
+  unfolding saturated
+  saturated-other s e f = rw (T-false (linked-test m s e) (λ t. f (linked-elim m s e t))) refl
+
+  pub saturated-marks : MarksOutcomes m acc (saturated m acc)
+  saturated-marks = record { of-linked = saturated-at; of-others = λ s e hs he. saturated-other s e }
 
 -- no mark is above a bound of its outcome
 pub saturated-small : (m : Morphism) (acc : ℕ → ℕ → ℕ) (bound s e : ℕ) → acc s e ≤ bound → saturated m acc s e ≤ bound
@@ -138,22 +164,4 @@ saturated-small m acc bound s e h = go (linked-test m s e)
     go false = omega arith
 
 pub saturates : {m : Morphism} {acc : ℕ → ℕ → ℕ} → Lawful m → AllReached m → DependsOnWord m acc → Saturates m acc (saturated m acc)
-saturates {m} {acc} law reached depends = record {
-  accepts = λ g some u v l. saturated-accepts acc some law depends l;
-  strong = record { at-each = λ g some. saturated-strong acc some law depends };
-  linked-only = saturated-linked acc (omega arith);
-  marks-grades = record {
-    of-linked = λ s e k. record {
-      linked = k;
-      lassos = record {
-        start = reached .word-of s (k .inside);
-        cycle = reached .word-of e (k .idempotent .inside);
-        graded = λ u v l eu ev.
-            subst (Graded m (saturated m acc) u v)
-            (outcome-at acc (record { over = l .start-over; is = eu }) (record { over = l .cycle-over; is = ev }) ∙ sym (saturated-at acc s e k))
-            (graded-by (λ g some. saturated-accepts acc some law depends l));
-      };
-    };
-    of-others = λ s e hs he f. saturated-other acc s e f;
-  };
-}
+saturates {acc = acc} law reached depends = marks-saturate law reached depends (saturated-marks acc)

@@ -18,7 +18,7 @@ use Rattle.promises.specs.declared.MonitorVerdict.the-variants.{Decided as Is-d
 use Rattle.monitor_judging.specs.Judges.{Judges}
 use Rattle.formats.specs.RuleChecks.{scratchSize}
 
-module _ {m : Morphism} {entry : List ℕ} (place : DecideNeeds m entry) {before since : ℕ} (hb : before < m .size) (hs : since < m .size)
+module _ {m : Morphism} {entry : List ℕ} (place : DecideNeeds m 0 entry) {before since : ℕ} (hb : before < m .size) (hs : since < m .size)
     {mid : List ℕ} {strong : Bool} (d : Decided m entry mid strong) where
   -- the room that the look asks for
   pub look-room : scratchSize ≤ length mid

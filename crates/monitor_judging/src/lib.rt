@@ -62,7 +62,7 @@ pub fn judge(
     scratch: &mut [u8],
 ) -> MonitorVerdict
     requires { ⌜ Table (now rule) n k ⌝ }
-    requires { ⌜ DecideNeeds (morphismAt (now rule) n k) (now scratch) ⌝ }
+    requires { ⌜ DecideNeeds (morphismAt (now rule) n k) 0 (now scratch) ⌝ }
     requires { ⌜ (before < n) × (since < n) ⌝ }
     ensures { λ r. ⌜ Judges (morphismAt (now (rule .entry)) n k) before since (now (scratch .entry)) (now (scratch .exit)) r ⌝ }
 {

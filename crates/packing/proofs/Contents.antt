@@ -9,6 +9,8 @@ use Rattle.promises.specs.declared.Translated.{Translated}
 use Rattle.promises.specs.declared.Translated.the-variants.{Rule as Automaton-rule, Refused as Not-translated}
 use Rattle.promises.specs.declared.Listed.{Listed}
 use Rattle.promises.specs.declared.Listed.the-variants.{Counts, Refused as Not-listed}
+use Rattle.promises.specs.declared.Combined.{Combined}
+use Rattle.promises.specs.declared.Combined.the-variants.{Rule as Combined-rule, Refused as Not-combined}
 use Rattle.promises.specs.declared.Inclusion.{Inclusion}
 use Rattle.promises.specs.declared.Inclusion.the-variants.{Included, NotIncluded, Refused as Not-compared}
 use Rattle.promises.specs.declared.Complemented.{Complemented}
@@ -31,7 +33,7 @@ use Rattle.promises.specs.declared.SuccessorList.{SuccessorList}
 use Rattle.promises.specs.declared.SuccessorList.the-variants.{Listed as Successors, Refused as No-successors}
 use Rattle.promises.specs.declared.Strength.{Strength}
 use Rattle.promises.specs.declared.Strength.the-variants.{Strong, Weak, Refused as Not-decided}
-use Rattle.packing.specs.Packing.{refusal-at, monitorContents, movedContents, listedContents, strengthContents, membershipContents, complementedContents, reducedContents, bit, partitionContents, translatedContents, inclusionContents, monitorVerdictContents, kindContents, successorsContents}
+use Rattle.packing.specs.Packing.{refusal-at, monitorContents, movedContents, listedContents, strengthContents, membershipContents, complementedContents, reducedContents, combinedContents, bit, partitionContents, translatedContents, inclusionContents, monitorVerdictContents, kindContents, successorsContents}
 
 -- a refusal's contents are its verdict
 verdict-of : {n n′ i i′ p p′ : ℕ} → refusal-at n i p ≡ refusal-at n′ i′ p′ → numbered n i p ≡ numbered n′ i′ p′
@@ -71,6 +73,12 @@ reduced-told (Reduced-rule a) (Reduced-rule a′) e = cc
 reduced-told (Reduced-rule a) (Not-reduced r′ i′ p′) e = cc
 reduced-told (Not-reduced r i p) (Reduced-rule a′) e = cc
 reduced-told (Not-reduced r i p) (Not-reduced r′ i′ p′) e = same-refusal Not-reduced r r′ i i′ p p′ (verdict-of e)
+
+pub combined-told : (x y : Combined) → combinedContents x ≡ combinedContents y → x ≡ y
+combined-told (Combined-rule a) (Combined-rule a′) e = cc
+combined-told (Combined-rule a) (Not-combined r′ i′ p′) e = cc
+combined-told (Not-combined r i p) (Combined-rule a′) e = cc
+combined-told (Not-combined r i p) (Not-combined r′ i′ p′) e = same-refusal Not-combined r r′ i i′ p p′ (verdict-of e)
 
 bit-told : (x y : Bool) → bit x ≡ bit y → x ≡ y
 bit-told false false e = refl

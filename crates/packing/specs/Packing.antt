@@ -13,6 +13,8 @@ use Rattle.promises.specs.declared.Listed.{Listed}
 use Rattle.promises.specs.declared.Listed.the-variants.{Counts, Refused as Not-listed}
 use Rattle.promises.specs.declared.Complemented.{Complemented}
 use Rattle.promises.specs.declared.Complemented.the-variants.{Rule as Complement-rule, Refused as Not-complemented}
+use Rattle.promises.specs.declared.Combined.{Combined}
+use Rattle.promises.specs.declared.Combined.the-variants.{Rule as Combined-rule, Refused as Not-combined}
 use Rattle.promises.specs.declared.Inclusion.{Inclusion}
 use Rattle.promises.specs.declared.Inclusion.the-variants.{Included, NotIncluded, Refused as Not-compared}
 use Rattle.promises.specs.declared.Membership.{Membership}
@@ -109,6 +111,13 @@ abbrev pub packPartition : Partition → ℕ
 packPartition answer = pack (partitionContents answer)
 
 -- how many bytes were written
+abbrev pub combinedContents : Combined → Contents
+combinedContents (Combined-rule length) = fields length 0 0
+combinedContents (Not-combined refusal input place) = refusal-at (numberOf refusal) input place
+
+abbrev pub packCombined : Combined → ℕ
+packCombined answer = pack (combinedContents answer)
+
 abbrev pub translatedContents : Translated → Contents
 translatedContents (Automaton-rule length) = fields length 0 0
 translatedContents (Not-translated refusal input place) = refusal-at (numberOf refusal) input place

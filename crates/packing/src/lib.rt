@@ -1,6 +1,7 @@
 // Answers packed into one number of 64 bits, as specs/Packing says.
 use answer::Refusal;
 use answer::number;
+use promises::Combined;
 use promises::Complemented;
 use promises::Inclusion;
 use promises::Listed;
@@ -15,7 +16,7 @@ use promises::SuccessorList;
 use promises::Translated;
 ghost use mathlib.Core.Path.{_≡_};
 ghost use Rattle.answer.specs.Refusals.{numberOf};
-ghost use Rattle.packing.specs.Packing.{packRefusal, packFields, packListed, packStrength, packMembership, packComplemented, packInclusion, packMoved, packReduced, bit, packPartition, packTranslated, packMonitorVerdict, packKind, packSuccessors};
+ghost use Rattle.packing.specs.Packing.{packRefusal, packFields, packListed, packStrength, packMembership, packComplemented, packInclusion, packMoved, packReduced, packCombined, bit, packPartition, packTranslated, packMonitorVerdict, packKind, packSuccessors};
 
 pub fn pack_refusal(refusal: Refusal, input: usize, place: usize) -> u64
     ensures { λ r. ⌜ r ≡ packRefusal (numberOf refusal) input place ⌝ }
@@ -151,6 +152,19 @@ pub fn pack_partition(answer: Partition) -> u64
     match answer {
         Partition::Blocks { rounds, finished } => pack_fields(rounds, bit_of(finished), 0),
         Partition::Refused {
+            refusal,
+            input,
+            place,
+        } => pack_refusal(refusal, input, place),
+    }
+}
+
+pub fn pack_combined(answer: Combined) -> u64
+    ensures { λ r. ⌜ r ≡ packCombined answer ⌝ }
+{
+    match answer {
+        Combined::Rule(length) => pack_fields(length, 0, 0),
+        Combined::Refused {
             refusal,
             input,
             place,

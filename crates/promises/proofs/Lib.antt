@@ -1,6 +1,9 @@
 pub mod AutomatonGrades
 pub mod AutomatonReadings
+pub mod CombinedGrades
+pub mod CombineOrder
 pub mod Logs
+pub mod OneCombine
 pub mod OneComplement
 pub mod OneInclusion
 pub mod OneInspection

@@ -19,3 +19,4 @@ pub mod Weak
 pub mod Printed
 pub mod Rounds
 pub mod RuleAutomaton
+pub mod Combine

@@ -7,7 +7,7 @@ use Rattle.answer.specs.Checks.{Check}
 use Rattle.theory.specs.Grades.{StrongMarking}
 use Rattle.formats.specs.RuleFile.{morphismOf, markingOf}
 
--- 12 "reduction, complement or follower's verdict of a rule not strong"; place 0
+-- 12 "reduction, complement or follower's verdict of a rule not strong", and of every later request that asks for a strong rule; place 0
 pub record WeakAt (bytes : List ℕ) (place : ℕ) : Type 0 where
   pub weak : StrongMarking (morphismOf bytes) (markingOf bytes) → ⊥
   pub is-place : place ≡ 0

@@ -87,6 +87,23 @@ pub const BLOCKS_SIZE: usize = 64;
 
 pub const MOST_ROUNDS: usize = 64;
 
+// What is made of two rules: their grades' lower, their higher, or the lower of the first's and 3 less the second's.
+pub enum Operation {
+    Both,
+    Either,
+    Without,
+}
+
+// The number of bytes that were written.
+pub enum Combined {
+    Rule(usize),
+    Refused {
+        refusal: Refusal,
+        input: usize,
+        place: usize,
+    },
+}
+
 // How many rounds were done after round 0, and whether one more would change nothing.
 pub enum Partition {
     Blocks {

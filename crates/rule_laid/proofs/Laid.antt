@@ -1,4 +1,4 @@
--- What stands in parts of scratch is written as the file of every rule that it agrees with. Assumes nothing.
+-- What stands in parts of scratch is written as the file of every rule that it agrees with; and tables that link the same pairs. Assumes nothing.
 use Prim.Native.Nat.{ℕ, _+_, _*_, _-_, _<_}
 use mathlib.Core.Path.{_≡_, sym, subst, _∙_}
 use mathlib.Core.List.{List}
@@ -7,6 +7,7 @@ use native.Mathlib.Nat.{mul-le-mul}
 use lib.ListN.{length, getD, take, drop, length-drop}
 use lib.Seq.{getD-drop}
 use Rattle.theory.specs.Rules.{Morphism, Marking}
+use Rattle.theory.specs.Pairs.{Linked}
 use Rattle.formats.proofs.SectionList.{rest-of}
 use Rattle.scratch.specs.Map.{laidProductsBase, laidMarksBase}
 use Rattle.rule_writer.specs.Writing.{tableMorphism, tableMarks, RuleNeeds, tableFile}
@@ -64,3 +65,12 @@ laid-written {images} {count} {k} {scratch} {before} {after} {end} w = record {
           part-byte scratch laidMarksBase (s * 64 + e)
           ∙ l .grades s e (subst (λ (x : ℕ). s < x) (l .size-is) hs) (subst (λ (x : ℕ). e < x) (l .size-is) he);
     }
+
+-- a table with the same products links the same pairs
+pub linked-alike : {m m′ : Morphism} → m′ .size ≡ m .size → ((i j : ℕ) → i < m .size → j < m .size → m′ .product i j ≡ m .product i j) → {s e : ℕ}
+    → Linked m s e → Linked m′ s e
+linked-alike sizes same {s} {e} l = record {
+  inside = omega (arith, l .inside);
+  idempotent = record { inside = omega (arith, l .idempotent .inside); square = same e e (l .idempotent .inside) (l .idempotent .inside) ∙ l .idempotent .square };
+  stays = same s e (l .inside) (l .idempotent .inside) ∙ l .stays;
+}

@@ -9,6 +9,10 @@ use Rattle.formats.specs.WrittenFile.{fileOf}
 use Rattle.formats.specs.Front.{AtFront}
 use Rattle.scratch.specs.Map.{laidProductsBase, laidMarksBase}
 
+-- the products that are laid out, of so many elements, as a table without letters
+abbrev pub laidTable : List ℕ → ℕ → Morphism
+laidTable scratch count = record { size = count; letters = 0; product = λ a b. getD scratch (laidProductsBase + (a * count + b)) 0; image = λ a. 0 }
+
 -- tables of so many elements and letters within the limits of the format, the letters' elements before the marks, and room for the longest
 -- file
 pub record LaidNeeds (images count k : ℕ) (scratch out : List ℕ) : Type 0 where

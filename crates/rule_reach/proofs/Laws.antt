@@ -1,19 +1,18 @@
 -- The laws of the search of words in the lent bytes: how it starts, what its functions may ask at a pair (entry, letter), that
 -- it goes on by the element found there, and what it leaves at the end. Assumes nothing.
-use Prim.Native.Nat.{ℕ, zero, suc, _+_, _≤_, _<_}
+use Prim.Native.Nat.{ℕ, _+_, _≤_, _<_}
 use mathlib.Core.Path.{_≡_, refl, ap, _∙_}
 use mathlib.Core.List.{List}
 use native.Mathlib.Omega.{arith}
 use native.Mathlib.Numerals.{add-one}
-use lib.ListN.{getD}
 use Rattle.theory.specs.Rules.{element}
 use Rattle.rule_table.specs.Table.{Table}
-use Rattle.formats.specs.Table.{imageAt, morphismAt}
+use Rattle.formats.specs.Table.{morphismAt}
 use Rattle.scratch.proofs.Unchanged.{unchanged-none, unchanged-both}
 use Rattle.rule_reach.specs.Reach.{entryAt, placeAt, wordStep, Empty, WordOrder}
 use Rattle.rule_reach.specs.Steps.{stepAt, StepNeeds, AddNeeds, Added, added-old, added-new}
 use Rattle.rule_reach.specs.Searching.{Searching, Kept, Expanded}
-use Rattle.rule_reach.proofs.Steps.{step-value}
+use Rattle.rule_reach.proofs.Steps.{step-value, step-inside}
 use Rattle.rule_reach.proofs.Order.{order-start, order-old, order-new, order-next, order-done}
 use Rattle.rule_reach.proofs.Bytes.{place-entry, entry-place, some-left, stored-extends, stored-newest, stored-places, stored-inside, stored-kept}
 
@@ -43,18 +42,9 @@ module _ {bytes : List ℕ} {n k : ℕ} (table : Table bytes n k) where
       entry-inside = λ i e. search .inside i (omega arith);
     }
 
-    -- what is found is an element
-    step-inside : stepAt bytes n queue p a < n
-    unfolding stepAt
-    step-inside = go p hp
-      where
-        go : (p : ℕ) → p ≤ count → stepAt bytes n queue p a < n
-        go zero h = table .images a ha
-        go (suc p) h = table .products (getD queue p 0) (imageAt bytes n a) (search .inside p h) (table .images a ha)
-
     module _ {s : ℕ} (found : s ≡ stepAt bytes n queue p a) where
       step-below : s < n
-      step-below = rw found step-inside
+      step-below = rw found (step-inside table step-place ha)
 
       new-below : placeAt queue s ≡ 0 → count < n
       new-below = some-left (search .places) (search .inside) step-below

@@ -1,11 +1,14 @@
 -- The laws of a search in breadth by pairs (entry, letter): it starts, goes on by a pair that finds an old state or a new
--- one, goes on to the next entry, and ends when every entry was tried. Assumes nothing.
-use Prim.Native.Nat.{ℕ, suc, _+_, _≤_, _<_}
-use mathlib.Core.Path.{_≡_, _∙_}
+-- one, goes on to the next entry, and ends when every entry was tried; and a word leads to each entry. Assumes nothing.
+use Prim.Native.Nat.{ℕ, zero, suc, _+_, _≤_, _<_}
+use mathlib.Core.Path.{_≡_, sym, ap, subst, _∙_}
 use mathlib.Core.Logic.{_⊎_, inl, inr, _≢_, ⊎-elim}
+use mathlib.Core.List.{List, []}
 use native.Mathlib.Omega.{arith}
-use Rattle.finite.proofs.Numbers.{below-cases}
-use Rattle.finite.proofs.FirstWords.{Sooner, sooner-parent, sooner-letter, FirstOrder}
+use Rattle.finite.proofs.Numbers.{below-cases, strong}
+use Rattle.finite.specs.Letters.{Over, over-nil}
+use Rattle.finite.proofs.Shortlex.{snoc, over-snoc}
+use Rattle.finite.proofs.FirstWords.{Sooner, sooner-parent, sooner-letter, after, after-snoc, FirstOrder}
 use Rattle.finite.proofs.Explore.{sooner-le}
 use Rattle.finite.proofs.Worklist.{Entry}
 use Rattle.rule_reach.specs.Searching.{Ordered, InOrder}
@@ -167,3 +170,26 @@ module _ {A : Type 0} {x₀ : A} {δ : ℕ → A → A} {k : ℕ} {q : ℕ → A
           let m : p′ ≤ p = sooner-le n in
           let f : Entry q c (δ b (q p′)) = s .known p′ b (omega arith) l n in
           record { at = f .at; below = omega arith; same = cc (x .entries (f .at) (f .below), x .entries p′ (omega arith)) }
+
+-- a word over k letters that leads from x₀ to x
+pub record LeadingWord {A : Type 0} (x₀ : A) (δ : ℕ → A → A) (k : ℕ) (x : A) : Type 0 where
+  pub word : List ℕ
+  pub over : Over k word
+  pub leads : after δ x₀ word ≡ x
+
+module _ {A : Type 0} {x₀ : A} {δ : ℕ → A → A} {k : ℕ} where
+  -- one letter more
+  pub leading-step : {x : A} {a : ℕ} → LeadingWord x₀ δ k x → a < k → LeadingWord x₀ δ k (δ a x)
+  leading-step {a = a} w h = record { word = snoc (w .word) a; over = over-snoc (w .over) h; leads = after-snoc δ x₀ (w .word) a ∙ ap (δ a) (w .leads) }
+
+  -- a word leads to every entry, also while the search runs
+  pub ordered-word : {q : ℕ → A} {c : ℕ} {parent letter : ℕ → ℕ} → Ordered x₀ δ k q c parent letter → (i : ℕ) → i < c → LeadingWord x₀ δ k (q i)
+  unfolding after
+  ordered-word {q} {c} {parent} {letter} o = strong (λ i. i < c → LeadingWord x₀ δ k (q i)) go
+    where
+      go : (i : ℕ) → ((j : ℕ) → j < i → j < c → LeadingWord x₀ δ k (q j)) → i < c → LeadingWord x₀ δ k (q i)
+      go zero before l = record { word = []; over = over-nil; leads = sym (o .first) }
+      go (suc i) before l =
+          let h : parent (suc i) < suc i = o .parent-lt (suc i) (omega arith) l in
+          subst (LeadingWord x₀ δ k) (sym (o .step (suc i) (omega arith) l))
+          (leading-step (before (parent (suc i)) h (omega arith)) (o .letter-lt (suc i) (omega arith) l))

@@ -1,12 +1,13 @@
 -- The element after an entry and a letter: how the code computes it, and that it is the value of the entry's word with one
 -- letter more. Assumes nothing.
-use Prim.Native.Nat.{ℕ, zero, suc, _-_, _<_}
+use Prim.Native.Nat.{ℕ, zero, suc, _+_, _-_, _<_}
 use mathlib.Core.Path.{_≡_, refl, _∙_}
 use mathlib.Core.List.{List}
 use native.Mathlib.Omega.{arith}
 use native.Mathlib.Numerals.{sub-one}
 use lib.ListN.{getD}
 use Rattle.theory.specs.Rules.{element, join}
+use Rattle.rule_table.specs.Table.{Table}
 use Rattle.formats.specs.Table.{productAt, imageAt, morphismAt}
 use Rattle.rule_reach.specs.Reach.{entryAt, wordStep}
 use Rattle.rule_reach.specs.Steps.{stepAt, StepNeeds}
@@ -16,6 +17,15 @@ pub step-value : (bytes : List ℕ) (n k : ℕ) (queue : List ℕ) (p a : ℕ) �
 unfolding stepAt wordStep entryAt join
 step-value bytes n k queue zero a = refl
 step-value bytes n k queue (suc p) a = refl
+
+-- what is found is an element
+pub step-inside : {bytes : List ℕ} {n k : ℕ} {queue : List ℕ} {p a : ℕ} → Table bytes n k → StepNeeds bytes n queue p a → a < k → stepAt bytes n queue p a < n
+unfolding stepAt
+step-inside {bytes} {n} {queue = queue} {p} {a} table place ha = go p (place .entry-inside)
+  where
+    go : (p : ℕ) → ((i : ℕ) → p ≡ i + 1 → getD queue i 0 < n) → stepAt bytes n queue p a < n
+    go zero inside = table .images a ha
+    go (suc i) inside = table .products (getD queue i 0) (imageAt bytes n a) (inside i (omega arith)) (table .images a ha)
 
 -- an entry other than the first holds an element
 pub entry-below : {bytes : List ℕ} {n : ℕ} {queue : List ℕ} {from letter : ℕ} → StepNeeds bytes n queue from letter → (from ≡ 0 → ⊥)

@@ -31,7 +31,7 @@ fn add(queue: &mut [u8], count: usize, s: usize, from: usize, letter: usize) -> 
 }
 
 // The element after entry `from` and a letter.
-fn step(rule: &[u8], n: usize, queue: &[u8], from: usize, letter: usize) -> usize
+pub fn step(rule: &[u8], n: usize, queue: &[u8], from: usize, letter: usize) -> usize
     requires { ⌜ StepNeeds (now rule) n (now queue) from letter ⌝ }
     ensures { λ r. ⌜ r ≡ stepAt (now (rule .entry)) n (now (queue .entry)) from letter ⌝ }
 {

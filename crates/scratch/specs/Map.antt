@@ -98,6 +98,26 @@ stepParentsBase = 14336
 abbrev pub stepLettersBase : ℕ
 stepLettersBase = 15360
 
+-- two rules made one: the number of each pair of elements in the list of pairs; the halves of each entry of the list, the entry that it was
+-- found from and the letter that it was found by
+abbrev pub pairNumbersBase : ℕ
+pairNumbersBase = 8192
+
+abbrev pub pairLeftsBase : ℕ
+pairLeftsBase = 12288
+
+abbrev pub pairRightsBase : ℕ
+pairRightsBase = 12352
+
+abbrev pub pairParentsBase : ℕ
+pairParentsBase = 12416
+
+abbrev pub pairLettersBase : ℕ
+pairLettersBase = 12480
+
+abbrev pub pairsEnd : ℕ
+pairsEnd = 12544
+
 -- a rule laid out before it is written: its products by rows, its letters' elements, its marks
 abbrev pub laidProductsBase : ℕ
 laidProductsBase = 16384

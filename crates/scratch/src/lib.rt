@@ -62,6 +62,18 @@ pub const STEP_PARENTS_BASE: usize = 14336;
 
 pub const STEP_LETTERS_BASE: usize = 15360;
 
+// Two rules made one: the number of each pair of elements in the list of pairs; the halves of each entry of the list, the entry that it was
+// found from and the letter that it was found by.
+pub const PAIR_NUMBERS_BASE: usize = 8192;
+
+pub const PAIR_LEFTS_BASE: usize = 12288;
+
+pub const PAIR_RIGHTS_BASE: usize = 12352;
+
+pub const PAIR_PARENTS_BASE: usize = 12416;
+
+pub const PAIR_LETTERS_BASE: usize = 12480;
+
 // A rule laid out before it is written: its products by rows, its letters' elements, its marks.
 pub const LAID_PRODUCTS_BASE: usize = 16384;
 

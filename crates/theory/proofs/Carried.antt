@@ -1,22 +1,19 @@
--- A map of elements that takes products to products and letter images to letter images takes the value of each word to its value; where it is
--- one-to-one, words have one value exactly if they have one on the other side. Assumes nothing.
+-- A map of elements that takes products to products and letter images to letter images takes the value of each word to its value and
+-- linked pairs to linked pairs; where it is one-to-one, words have one value exactly if they have one on the other side. Assumes nothing.
 use Prim.Native.Nat.{ℕ, _<_}
 use mathlib.Core.Path.{_≡_, refl, sym, ap, _∙_, subst}
 use mathlib.Core.List.{List}
 use Rattle.theory.specs.Words.{Over, over-nil, over-cons}
 use Rattle.theory.specs.Rules.{Morphism, Lawful, Value, none, element, join, value}
+use Rattle.theory.specs.Pairs.{Linked}
 use Rattle.theory.specs.Smallest.{Renumbered}
+use Rattle.theory.specs.Maps.{Carries}
 use Rattle.theory.proofs.Values.{Inside, inside-none, inside-element, element-same, element-apart, value-inside}
 
 -- a value with its element renamed
 unfoldable pub renamed : (ℕ → ℕ) → Value → Value
 renamed f none = none
 renamed f (element s) = element (f s)
-
--- the map carries products and letter images over
-pub record Carries (a b : Morphism) (to : ℕ → ℕ) : Type 0 where
-  pub products : (s t : ℕ) → s < a .size → t < a .size → to (a .product s t) ≡ b .product (to s) (to t)
-  pub images : (x : ℕ) → x < a .letters → to (a .image x) ≡ b .image x
 
 module _ {a b : Morphism} {to : ℕ → ℕ} (law : Lawful a) (f : Carries a b to) where
   renamed-join : {x y : Value} → Inside a x → Inside a y → renamed to (join a x y) ≡ join b (renamed to x) (renamed to y)
@@ -33,6 +30,21 @@ module _ {a b : Morphism} {to : ℕ → ℕ} (law : Lawful a) (f : Carries a b t
       ap (join b (element (b .image x))) (value-carried o)
       ∙ ap (λ (i : ℕ). join b (element i) (renamed to (value a tail))) (sym (f .images x h))
       ∙ sym (renamed-join (inside-element (law .images x h)) (value-inside law o))
+
+  -- so a word with an element for its value has that element's image for its value
+  pub element-carried : {w : List ℕ} {s : ℕ} → Over (a .letters) w → value a w ≡ element s → value b w ≡ element (to s)
+  unfolding renamed
+  element-carried o e = value-carried o ∙ ap (renamed to) e
+
+-- a linked pair goes to a linked pair
+pub linked-carried : {a b : Morphism} {to : ℕ → ℕ} {s e : ℕ} → Carries a b to → ((t : ℕ) → t < a .size → to t < b .size) → Linked a s e → Linked b (to s) (to e)
+linked-carried {to = to} {s = s} {e = e} f inside l =
+    let h = l .idempotent .inside in
+    record {
+      inside = inside s (l .inside);
+      idempotent = record { inside = inside e h; square = sym (f .products e e h h) ∙ ap to (l .idempotent .square) };
+      stays = sym (f .products s e (l .inside) h) ∙ ap to (l .stays);
+    }
 
 -- one-to-one on elements is one-to-one on values
 pub renamed-same : {a : Morphism} {to : ℕ → ℕ} → ((s t : ℕ) → s < a .size → t < a .size → to s ≡ to t → s ≡ t) → {x y : Value} → Inside a x → Inside a y

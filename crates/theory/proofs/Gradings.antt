@@ -8,14 +8,16 @@ use mathlib.Core.List.{List}
 use lib.Dec.{T, leb→le, le→leb}
 use Rattle.finite.proofs.Numbers.{le-or-lt}
 use Rattle.finite.proofs.Highest.{same-above}
+use Rattle.finite.proofs.Tests.{T-dec}
 use Rattle.theory.specs.Words.{Lasso}
 use Rattle.theory.specs.Rules.{Morphism, Lawful, Marking, Rule, Value, level, element, value}
 use Rattle.theory.specs.Pairs.{LinkedOnly}
 use Rattle.theory.specs.Grades.{AtLeast, Graded, StrongMarking, LassosGraded}
-use Rattle.theory.specs.Smallest.{SameGrades}
+use Rattle.theory.specs.Smallest.{SameGrades, MarksGrades}
 use Rattle.theory.specs.Inclusion.{IncludedGrades, HigherGraded}
 use Rattle.theory.proofs.Values.{inside-of, value-some}
 use Rattle.theory.proofs.Membership.{accepts-dec}
+use Rattle.theory.proofs.Closure.{linked-test, linked-intro, linked-elim}
 
 -- marks of at most 3, on linked pairs only
 pub record GradedMarks (m : Morphism) (marks : Marking) : Type 0 where
@@ -68,6 +70,25 @@ graded-levels {marks = marks} {n = n} k g some = (
 -- a lasso has at most one grade
 pub one-grade : {m : Morphism} {marks : Marking} {u v : List ℕ} {g h : ℕ} → Graded m marks u v g → Graded m marks u v h → g ≡ h
 one-grade j k = same-above (λ i some. (λ l. graded-levels k i some .0 (graded-levels j i some .1 l), λ l. graded-levels j i some .0 (graded-levels k i some .1 l)))
+
+-- where the least grades of a lasso are bounded, it cannot be that it has no grade; whether it has a least grade need not be decided
+pub grade-not-missing : {m : Morphism} {marks : Marking} {u v : List ℕ} (n : ℕ) → ((h : ℕ) → AtLeast m marks h u v → h ≤ n) → ¬ (¬ ((g : ℕ) × Graded m marks u v g))
+grade-not-missing zero above f = f (0, record { attained = λ some. absurd (omega arith); highest = λ h k a. omega (arith, above h a) })
+grade-not-missing {marks = marks} (suc n) above f =
+    grade-not-missing n (λ h a. ⊎-elim (λ (k : h ≤ n). k)
+    (λ k. absurd (f (suc n, record { attained = λ some. at-least-falls marks (suc n) h (omega arith) a; highest = λ i j b. omega (arith, above i b) }))) (le-or-lt h n)) f
+
+-- they are where the marks are
+pub at-least-bounded : {m : Morphism} {u v : List ℕ} (marks : Marking) (n : ℕ) → ((s e : ℕ) → marks s e ≤ n) → (h : ℕ) → AtLeast m marks h u v → h ≤ n
+at-least-bounded marks n bound h a =
+    omega (arith, level-down marks h (a .start-element) (a .cycle-element) (a .is-marked), bound (a .start-element) (a .cycle-element))
+
+-- where each linked pair is marked with the grade of its lassos and no other pair of elements is marked, only linked pairs are
+pub marks-grades-linked : {m : Morphism} {marks : Marking} {g : ℕ} → MarksGrades m marks → 1 ≤ g → LinkedOnly m (level g marks)
+marks-grades-linked {m} {marks} {g} k some = record {
+  linked = λ s e hs he t. ⊎-elim (λ l. linked-elim m s e l)
+      (λ f. absurd (omega (arith, level-down marks g s e t, k .of-others s e hs he (λ l. f (linked-intro l))))) (T-dec (linked-test m s e));
+}
 
 -- lassos of the same least grades have the same grade
 pub graded-same : {m m′ : Morphism} {marks marks′ : Marking} {u v u′ v′ : List ℕ} {n : ℕ}

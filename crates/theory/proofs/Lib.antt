@@ -7,6 +7,7 @@ pub mod Conjugacy
 pub mod IdempotentPowers
 pub mod BestConjugates
 pub mod Carried
+pub mod Combined
 pub mod SameGrades
 pub mod Turns
 pub mod Cuts
@@ -33,5 +34,6 @@ pub mod EmptyStarts
 pub mod Examples
 pub mod Exclusions
 pub mod RivalExclusions
+pub mod CombinedExclusions
 pub mod SmallReductions
 pub mod RoundExclusions

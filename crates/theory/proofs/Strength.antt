@@ -16,7 +16,7 @@ use Rattle.theory.proofs.Words.{over-append, repeat, repeat-over}
 use Rattle.theory.proofs.Periods.{same-turned, same-unrolled-repeated}
 use Rattle.theory.proofs.Values.{join-elements, value-append, value-some, inside-of}
 use Rattle.theory.proofs.Starts.{start-or-turn, lasso-started, same-started, equal-started, started-values}
-use Rattle.theory.proofs.Powers.{times-power, idempotent-of, idempotent-square, idempotent-inside, settling}
+use Rattle.theory.proofs.Powers.{times-power, idempotent-of, idempotent-square, idempotent-inside, idempotent-self, settling}
 use Rattle.theory.proofs.Conjugacy.{semigroup}
 use Rattle.theory.proofs.Cuts.{value-repeat, value-then-repeat}
 use Rattle.theory.proofs.Splits.{turn-square, accepted-splits, split-conjugate}
@@ -146,6 +146,12 @@ module _ {m : Morphism} (law : Lawful m) where
         law .associative s (settled-cycle m z) (settled-cycle m z) hs (idempotent-inside (semigroup law) hz) (idempotent-inside (semigroup law) hz)
         ∙ ap (m .product s) (idempotent-square (semigroup law) hz);
   }
+
+  -- a linked pair is the settled pair of its values
+  pub settled-same : {s e : ℕ} → Linked m s e → (settled-start m s e ≡ s) × (settled-cycle m e ≡ e)
+  settled-same {s} {e} l =
+      let q = idempotent-self (semigroup law) (l .idempotent .inside) (l .idempotent .square) in
+      (ap (m .product s) q ∙ l .stays, q)
 
   -- every lasso can be written so
   pub settle : {u v : List ℕ} {s z : ℕ} → Over (m .letters) u → Over (m .letters) v → value m u ≡ element s → value m v ≡ element z → Settled m u v s z

@@ -6,3 +6,5 @@ pub mod Grades
 pub mod Smallest
 pub mod Inclusion
 pub mod Rounds
+pub mod Maps
+pub mod Combined

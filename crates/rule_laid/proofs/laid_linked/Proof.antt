@@ -1,11 +1,11 @@
--- `automaton_marks::linked` meets its contract: the two products are read, and each way through the tests is one of its cases.
+-- `rule_laid::laid_linked` meets its contract: the two products are read, and each way through the tests is one of its cases.
 -- Assumes nothing.
 use native.Mathlib.Omega.{arith}
 use mir.Facts.{fits-8-64}
 use borrow.Author.Needs.{needs}
 use Rattle.scratch.proofs.Rows.{pair-small}
-use Rattle.automaton_marks.proofs.linked.Statement.{statement}
-use Rattle.automaton_marks.proofs.linked.Tie as tie
+use Rattle.rule_laid.proofs.laid_linked.Statement.{statement}
+use Rattle.rule_laid.proofs.laid_linked.Tie as tie
 
 mul-if1 : tie.Need-mul-if1
 mul-if1 c = omega (arith, pair-small _ _ _ (c .pre .0 .0) (c .pre .1 .1) (c .pre .1 .1))
@@ -46,8 +46,8 @@ returns-2 c = search needs
 returns-3 : tie.Need-returns-3
 returns-3 c = search needs
 
-pub linked-spec : {M : Type 1} → statement M
-linked-spec =
+pub laid-linked-spec : {M : Type 1} → statement M
+laid-linked-spec =
     tie.close
     (tie.spec
     mul-if1

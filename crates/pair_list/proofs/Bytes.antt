@@ -1,0 +1,75 @@
+-- The bytes of the list of pairs: what five stores leave. Assumes nothing.
+use Prim.Native.Nat.{ℕ, _+_, _*_, _≤_, _<_}
+use mathlib.Core.Path.{refl}
+use mathlib.Core.Logic.{_≢_}
+use mathlib.Core.List.{List}
+use native.Mathlib.Omega.{arith}
+use lib.ListN.{length, getD, set, length-set}
+use lib.Seq.{getD-set-same, getD-set-other}
+use Rattle.formats.specs.RuleChecks.{scratchSize}
+use Rattle.scratch.specs.Map.{pairNumbersBase, pairLeftsBase, pairRightsBase, pairParentsBase, pairLettersBase}
+use Rattle.scratch.proofs.Unchanged.{unchanged-none}
+use Rattle.pair_list.specs.declared.PairCount.the-variants.{Listed, TooMany}
+use Rattle.pair_list.specs.Pairs.{numberAt, Kept}
+use Rattle.pair_list.specs.Steps.{AddNeeds, Stored, placed-old, placed-new, Added}
+
+-- scratch with the five bytes of a new entry
+abbrev pub storedAt : List ℕ → ℕ → ℕ → ℕ → ℕ → ℕ → List ℕ
+storedAt l count s t from letter =
+    set (set (set (set (set l (pairLeftsBase + count) s) (pairRightsBase + count) t) (pairParentsBase + count) from) (pairLettersBase + count) letter)
+    (pairNumbersBase + (s * 64 + t)) (count + 1)
+
+module _ (l : List ℕ) (count s t from letter : ℕ) (room : scratchSize ≤ length l) (hc : count < 64) (hs : s < 64) (ht : t < 64) where
+  stored : Stored l (storedAt l count s t from letter) count s t from letter
+  stored =
+      let ab : pairLeftsBase + count ≢ pairRightsBase + count = omega arith in
+      let ac : pairLeftsBase + count ≢ pairParentsBase + count = omega arith in
+      let ad : pairLeftsBase + count ≢ pairLettersBase + count = omega arith in
+      let ae : pairLeftsBase + count ≢ pairNumbersBase + (s * 64 + t) = omega arith in
+      let bc : pairRightsBase + count ≢ pairParentsBase + count = omega arith in
+      let bd : pairRightsBase + count ≢ pairLettersBase + count = omega arith in
+      let be : pairRightsBase + count ≢ pairNumbersBase + (s * 64 + t) = omega arith in
+      let cd : pairParentsBase + count ≢ pairLettersBase + count = omega arith in
+      let ce : pairParentsBase + count ≢ pairNumbersBase + (s * 64 + t) = omega arith in
+      let de : pairLettersBase + count ≢ pairNumbersBase + (s * 64 + t) = omega arith in
+      let la : pairLeftsBase + count < length l = omega arith in
+      let lb : pairRightsBase + count < length (set l (pairLeftsBase + count) s) = simp length-set (omega arith) in
+      let lc : pairParentsBase + count < length (set (set l (pairLeftsBase + count) s) (pairRightsBase + count) t) = simp length-set (omega arith) in
+      let ld : pairLettersBase + count < length (set (set (set l (pairLeftsBase + count) s) (pairRightsBase + count) t) (pairParentsBase + count) from) = simp length-set (omega arith) in
+      let le : pairNumbersBase + (s * 64 + t) < length (set (set (set (set l (pairLeftsBase + count) s) (pairRightsBase + count) t) (pairParentsBase + count) from) (pairLettersBase + count) letter) = simp length-set (omega arith) in
+      record {
+        the-left = rw (getD-set-other, getD-set-other, getD-set-other, getD-set-other, getD-set-same);
+        the-right = rw (getD-set-other, getD-set-other, getD-set-other, getD-set-same);
+        the-parent = rw (getD-set-other, getD-set-other, getD-set-same);
+        the-letter = rw (getD-set-other, getD-set-same);
+        the-number = rw getD-set-same;
+        other = λ i h₁ h₂ h₃ h₄ h₅. simp getD-set-other;
+        same-length = simp length-set;
+      }
+
+-- a store of an entry changes nothing outside the list
+pub stored-kept : {entry exit : List ℕ} {count s t from letter : ℕ} → Stored entry exit count s t from letter → count < 64 → s < 64 → t < 64 → Kept entry exit
+stored-kept e hc hs ht = record {
+  same-length = e .same-length;
+  before = λ i h. e .other i (omega arith) (omega arith) (omega arith) (omega arith) (omega arith);
+  after = λ i h. e .other i (omega arith) (omega arith) (omega arith) (omega arith) (omega arith);
+}
+
+module _ {l : List ℕ} {count s t from letter : ℕ} where
+  -- the pair has a number, and nothing is stored
+  pub add-there : 0 < getD l (pairNumbersBase + (s * 64 + t)) 0 → Added l l count s t from letter (Listed count)
+  unfolding numberAt
+  add-there h = record { kept = unchanged-none _ _ _; says = placed-old h refl refl }
+
+  module _ (place : AddNeeds l count s t from letter) (none-there : getD l (pairNumbersBase + (s * 64 + t)) 0 ≤ 0) where
+    -- it has none, and there is no place for it
+    pub add-full : 64 ≤ count → Added l l count s t from letter TooMany
+    unfolding numberAt
+    add-full h = record { kept = unchanged-none _ _ _; says = record { full = omega (arith, place .few); new = omega arith } }
+
+    -- it has none, and it gets the next place
+    pub add-new : count < 64 → Added l (storedAt l count s t from letter) count s t from letter (Listed (count + 1))
+    unfolding numberAt
+    add-new h =
+        let e = stored l count s t from letter (place .room) h (place .left-small) (place .right-small) in
+        record { kept = stored-kept e h (place .left-small) (place .right-small); says = placed-new (omega arith) h e refl }

@@ -1,0 +1,64 @@
+-- The loop holds that the letters before the one at hand were tried at the entry. The measure is the number of letters left. Assumes nothing.
+use Prim.Native.Nat.{_-_}
+use native.Mathlib.Omega.{arith}
+use borrow.Author.Needs.{needs}
+use Rattle.pair_list.proofs.Laws.{Expanding, expanding-start, expanding-next, expanding-full, expanding-done}
+use Rattle.pair_list.proofs.expand.Statement.{statement}
+use Rattle.pair_list.proofs.expand.Tie as tie
+
+abbrev Inv-loop : tie.InvT-loop
+Inv-loop first n1 second n2 k scratch₀ count from total₀ letter₀ scratch total letter = Expanding first n1 second n2 k scratch₀ from scratch total letter
+
+abbrev μ-loop : tie.MeasureT-loop
+μ-loop first n1 second n2 k scratch₀ count from total₀ letter₀ scratch total letter = k - letter
+
+loop-holds : tie.Need-loop-holds Inv-loop μ-loop
+loop-holds c = expanding-start (c .before .before .before .pre .0) (c .before .before .before .pre .1)
+
+try-letter-requires : tie.Need-try-letter-requires Inv-loop μ-loop
+try-letter-requires c κs = (c .before .before .loop .inv .tables, (c .before .before .loop .inv .trying, c .before .loop-test .taken))
+
+enum-known-c : tie.Need-enum-known-c Inv-loop μ-loop
+enum-known-c c = search needs
+
+enum-told : tie.Need-enum-told Inv-loop μ-loop
+enum-told c = search needs
+
+same-length : tie.Need-same-length Inv-loop μ-loop
+same-length c = expanding-full (c .before .before .before .before .before .before .before .loop .inv) (c .before .before .before .before .try-letter .ensures) (c .enum-told .given .1) .kept .same-length
+
+returns : tie.Need-returns Inv-loop μ-loop
+returns c = expanding-full (c .before .before .before .before .before .before .before .loop .inv) (c .before .before .before .before .try-letter .ensures) (c .enum-told .given .1)
+
+add-letter : tie.Need-add-letter Inv-loop μ-loop
+add-letter c = omega arith
+
+loop-less : tie.Need-loop-less Inv-loop μ-loop
+loop-less c = omega arith
+
+loop-again : tie.Need-loop-again Inv-loop μ-loop
+loop-again c = expanding-next (c .before .before .before .before .before .before .before .before .loop .inv) (c .before .before .before .before .before .before .before .loop-test .taken) (c .before .before .before .before .before .try-letter .ensures) (c .before .c .given .1)
+
+same-length-2 : tie.Need-same-length-2 Inv-loop μ-loop
+same-length-2 c = c .before .loop .inv .kept .same-length
+
+returns-2 : tie.Need-returns-2 Inv-loop μ-loop
+returns-2 c = expanding-done (c .before .loop .inv) (c .loop-test .left)
+
+pub expand-spec : {M : Type 1} → statement M
+expand-spec =
+    tie.close
+    (tie.spec
+    Inv-loop
+    μ-loop
+    loop-holds
+    try-letter-requires
+    enum-known-c
+    enum-told
+    same-length
+    returns
+    add-letter
+    loop-less
+    loop-again
+    same-length-2
+    returns-2)

@@ -1,0 +1,4 @@
+pub mod Pairs
+pub mod Steps
+pub mod Searching
+pub mod Tables

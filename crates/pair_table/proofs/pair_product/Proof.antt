@@ -1,0 +1,86 @@
+-- `pair_table::pair_product` meets its contract: the halves are elements, and so are their products. Assumes nothing.
+use mathlib.Core.Path.{_∙_}
+use borrow.Author.Needs.{needs}
+use mir.Facts.{fits-8-64}
+use Rattle.rule_table.proofs.Facts.{table-place}
+use Rattle.pair_table.proofs.Kept.{product-number, product-numbered}
+use Rattle.pair_table.proofs.pair_product.Statement.{statement}
+use Rattle.pair_table.proofs.pair_product.Tie as tie
+
+add-a : tie.Need-add-a
+add-a c = search needs
+
+shared-slice-read-a : tie.Need-shared-slice-read-a
+shared-slice-read-a c = search needs
+
+cast-a : tie.Need-cast-a
+cast-a c = fits-8-64 (c .shared-slice-known4 .given _)
+
+add-b : tie.Need-add-b
+add-b c = search needs
+
+shared-slice-read-b : tie.Need-shared-slice-read-b
+shared-slice-read-b c = search needs
+
+cast-b : tie.Need-cast-b
+cast-b c = fits-8-64 (c .shared-slice-known5 .given _)
+
+add-c : tie.Need-add-c
+add-c c = search needs
+
+shared-slice-read-c : tie.Need-shared-slice-read-c
+shared-slice-read-c c = search needs
+
+cast-c : tie.Need-cast-c
+cast-c c = fits-8-64 (c .shared-slice-known6 .given _)
+
+add-d : tie.Need-add-d
+add-d c = search needs
+
+shared-slice-read-d : tie.Need-shared-slice-read-d
+shared-slice-read-d c = search needs
+
+cast-d : tie.Need-cast-d
+cast-d c = fits-8-64 (c .shared-slice-known7 .given _)
+
+product-requires : tie.Need-product-requires
+product-requires c κs =
+    let start = c .before .before .before .before .before .before .before in
+    table-place (start .pre .0 .first-table) (start .pre .1 .0 .halves .lefts _ (start .pre .1 .1 .0)) (start .pre .1 .0 .halves .lefts _ (start .pre .1 .1 .1))
+
+product-requires-2 : tie.Need-product-requires-2
+product-requires-2 c κs =
+    let start = c .before .before .before .before .before .before .before .before in
+    table-place (start .pre .0 .second-table) (start .pre .1 .0 .halves .rights _ (start .pre .1 .1 .0)) (start .pre .1 .0 .halves .rights _ (start .pre .1 .1 .1))
+
+place-of-requires : tie.Need-place-of-requires
+place-of-requires c κs =
+    let start = c .before .before .before .before .before .before .before .before .before in
+    product-numbered (start .pre .0) (start .pre .1 .0) _ _ (start .pre .1 .1 .0) (start .pre .1 .1 .1) (c .before .product .ensures) (c .product2 .ensures)
+
+returns : tie.Need-returns
+returns c =
+    let start = c .before .before .before .before .before .before .before .before .before .before in
+    c .place-of .ensures
+    ∙ product-number (start .pre .0) (start .pre .1 .0) _ _ (start .pre .1 .1 .0) (start .pre .1 .1 .1) (c .before .before .product .ensures) (c .before .product2 .ensures)
+
+pub pair-product-spec : {M : Type 1} → statement M
+pair-product-spec =
+    tie.close
+    (tie.spec
+    add-a
+    shared-slice-read-a
+    cast-a
+    add-b
+    shared-slice-read-b
+    cast-b
+    add-c
+    shared-slice-read-c
+    cast-c
+    add-d
+    shared-slice-read-d
+    cast-d
+    product-requires
+    product-requires-2
+    place-of-requires
+    returns)

@@ -1,0 +1,4 @@
+pub mod Checking
+pub mod Moving
+pub mod Deciding
+pub mod Calling

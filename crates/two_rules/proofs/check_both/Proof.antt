@@ -1,0 +1,71 @@
+-- `two_rules::check_both` meets its contract: the first file's checks decide, then the second's; a refusal of the second leaves zeros.
+-- Assumes nothing.
+use borrow.Author.Needs.{needs}
+use Rattle.rule_check.proofs.Calls.{checked-rule, checked-refused}
+use Rattle.mark_strong.proofs.Calling.{checked-room}
+use Rattle.two_rules.proofs.Checking.{first-refused, second-refused, both-checked}
+use Rattle.two_rules.proofs.check_both.Statement.{statement}
+use Rattle.two_rules.proofs.check_both.Tie as tie
+
+check-requires : tie.Need-check-requires
+check-requires c κs = search needs
+
+enum-known-shape : tie.Need-enum-known-shape
+enum-known-shape c = search needs
+
+enum-known-refusal : tie.Need-enum-known-refusal
+enum-known-refusal c = search needs
+
+same-length : tie.Need-same-length
+same-length c = search needs
+
+returns : tie.Need-returns
+returns c = first-refused _ _ _ (checked-refused 1 _ _ _ _ (c .before .before .before .before .before .check .ensures) (c .before .refusal .given .1))
+
+check-second-requires : tie.Need-check-second-requires
+check-second-requires c κs = checked-room 1 _ _ (checked-rule 1 _ _ _ _ (c .before .before .before .before .before .before .check .ensures) (c .before .before .shape .given .1))
+
+enum-known-other : tie.Need-enum-known-other
+enum-known-other c = search needs
+
+enum-known-refusal-2 : tie.Need-enum-known-refusal-2
+enum-known-refusal-2 c = search needs
+
+zero-requires : tie.Need-zero-requires
+zero-requires c κs = search needs
+
+same-length-2 : tie.Need-same-length-2
+same-length-2 c = search needs
+
+returns-2 : tie.Need-returns-2
+returns-2 c =
+    let second = c .before .before .before .before .before in
+    let first = second .before .before .before .before .before .before .before in
+    both-checked _ _ _ (checked-rule 1 _ _ _ _ (first .check .ensures) (second .before .before .before .shape .given .1)) (second .check-second .result) _ (second .check-second .ensures) (c .before .other .given .1)
+
+same-length-3 : tie.Need-same-length-3
+same-length-3 c = search needs
+
+returns-3 : tie.Need-returns-3
+returns-3 c =
+    let second = c .before .before .before .before .before .before .before .before .before in
+    let first = second .before .before .before .before .before .before .before in
+    second-refused _ _ _ (checked-rule 1 _ _ _ _ (first .check .ensures) (second .before .before .before .shape .given .1)) (second .check-second .result) _ (second .check-second .ensures) (c .before .before .before .before .before .refusal2 .given .1) (c .before .before .zero .ensures)
+
+pub check-both-spec : {M : Type 1} → statement M
+check-both-spec =
+    tie.close
+    (tie.spec
+    check-requires
+    enum-known-shape
+    enum-known-refusal
+    same-length
+    returns
+    check-second-requires
+    enum-known-other
+    enum-known-refusal-2
+    zero-requires
+    same-length-2
+    returns-2
+    same-length-3
+    returns-3)
