@@ -44,7 +44,7 @@ extern "C" {
 
 /* The sizes that lent buffers must have, in bytes; longer ones pass. */
 #define DUKNAVET_SCRATCH 65536 /* scratch of every call */
-#define DUKNAVET_RULE 16404    /* out of complement, reduce and automaton_rule: the longest rule file */
+#define DUKNAVET_RULE 16404    /* out of complement, reduce, both .. and automaton_rule: the longest rule file */
 #define DUKNAVET_CLASSES 8192  /* out of classes: two bytes for each pair of 64 elements */
 #define DUKNAVET_U 64          /* u of included */
 #define DUKNAVET_V 4224        /* v of included */
@@ -87,6 +87,8 @@ enum duknavet_refusal {
     DUKNAVET_NAME_OUT_OF_RANGE = 15,   /* a point's name is above 7: 0 */
     DUKNAVET_NAME_NEVER_KEPT = 16,     /* a return goes to a name that was never kept: 0 */
     DUKNAVET_NO_SUCH_STATE = 17,       /* s is neither an element nor 64, or e no idempotent element: 0 */
+    DUKNAVET_LETTERS_DIFFER = 18,      /* two rules to be made one have different numbers of letters: 0 */
+    DUKNAVET_TOO_MANY_PAIRS = 19,      /* two rules to be made one have more than 64 pairs of values: 0 */
     DUKNAVET_LIMIT_OUT_OF_RANGE = 20   /* a limit of rounds is above 64: 0 */
 };
 
@@ -96,7 +98,7 @@ static inline enum duknavet_refusal duknavet_refusal_of(uint64_t answer)
     return (enum duknavet_refusal)(answer & 255);
 }
 
-/* The input that a refusal lies in: 2 for the second marks section and for the word v, otherwise 1. */
+/* The input that a refusal lies in: 2 for the second marks section, the second rule and the word v, otherwise 1. */
 static inline unsigned duknavet_input_of(uint64_t answer)
 {
     return (unsigned)((answer >> 8) & 255);
@@ -153,6 +155,24 @@ uint64_t duknavet_included(const uint8_t *rule, size_t rule_length,
 uint64_t duknavet_reduce(const uint8_t *rule, size_t rule_length,
                          uint8_t *out, size_t out_length,
                          uint8_t *scratch, size_t scratch_length);
+
+/* Two strong rules over as many letters made one, whose elements are the pairs of values that non-empty words have. A lasso has the
+ * lower of its two grades (both), the higher (either), or the lower of the first and of 3 less the second (without). It marks every
+ * linked pair whose lassos it grades 1 or more, with that grade; it need not be the smallest. Field 0: how many bytes of out
+ * (DUKNAVET_RULE) it has. The first file is input 1, the second input 2; both may be the same bytes. Refused, in this order: 13; the
+ * first file's; the second's; 18; 12 for the first, for the second; 19. */
+uint64_t duknavet_both(const uint8_t *first, size_t first_length,
+                       const uint8_t *second, size_t second_length,
+                       uint8_t *out, size_t out_length,
+                       uint8_t *scratch, size_t scratch_length);
+uint64_t duknavet_either(const uint8_t *first, size_t first_length,
+                         const uint8_t *second, size_t second_length,
+                         uint8_t *out, size_t out_length,
+                         uint8_t *scratch, size_t scratch_length);
+uint64_t duknavet_without(const uint8_t *first, size_t first_length,
+                          const uint8_t *second, size_t second_length,
+                          uint8_t *out, size_t out_length,
+                          uint8_t *scratch, size_t scratch_length);
 
 /* The reduction of a strong rule by rounds: which elements stand together after at most limit rounds (0 to DUKNAVET_MOST_ROUNDS)
  * after round 0. Round 0 puts s and t together if, for every element z, lassos with the values (s, z) and (t, z) have equal

@@ -48,12 +48,17 @@ KINDS = {
     15: "NameOutOfRange",
     16: "NameNeverKept",
     17: "NoSuchState",
+    18: "LettersDiffer",
+    19: "TooManyPairs",
     20: "LimitOutOfRange",
 }
 
 
 class Refused(Exception):
-    """A refused call: the number of the first check that fails, the input that it lies in, and the place there."""
+    """A refused call: the number of the first check that fails, the input that it lies in, and the place there.
+
+    The input is 2 for a second marks section, a second rule and the word v, otherwise 1.
+    """
 
     def __init__(self, number: int, input: int, place: int):
         self.number = number
@@ -138,6 +143,9 @@ def _load() -> ctypes.CDLL:
         "complement": lent + written + written,
         "included": lent + lent + written + written + written,
         "reduce": lent + written + written,
+        "both": lent + lent + written + written,
+        "either": lent + lent + written + written,
+        "without": lent + lent + written + written,
         "reduce_rounds": lent + [size] + written + written,
         "state_kind": lent + [size, size, ctypes.c_uint8] + written,
         "successors": lent + [size, size, ctypes.c_uint8] + written + written,
@@ -209,9 +217,9 @@ def classes(rule: bytes) -> Classes:
     return Classes([None if number == 65535 else number for number in numbers], *counts)
 
 
-def _written(name: str, file: bytes) -> bytes:
+def _written(name: str, *files: bytes) -> bytes:
     out = ctypes.create_string_buffer(RULE_OUT)
-    length, _, _ = _call(name, file, out)
+    length, _, _ = _call(name, *files, out)
     return out.raw[:length]
 
 
@@ -223,6 +231,21 @@ def complement(rule: bytes) -> bytes:
 def reduce(rule: bytes) -> bytes:
     """The smallest strong rule that gives every lasso the grade that a strong rule gives it."""
     return _written("reduce", rule)
+
+
+def both(first: bytes, second: bytes) -> bytes:
+    """The rule made of two strong ones over as many letters that gives each lasso the lower of its two grades."""
+    return _written("both", first, second)
+
+
+def either(first: bytes, second: bytes) -> bytes:
+    """The rule made of two strong ones over as many letters that gives each lasso the higher of its two grades."""
+    return _written("either", first, second)
+
+
+def without(first: bytes, second: bytes) -> bytes:
+    """The rule made of two strong ones over as many letters that gives each lasso the lower of its first grade and 3 less its second."""
+    return _written("without", first, second)
 
 
 def reduce_rounds(rule: bytes, limit: int = 64) -> Rounds:

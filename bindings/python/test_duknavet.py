@@ -1,7 +1,10 @@
 """Each call through the shared object, on the small rules of docs/FORMATS.md and on rules from fixed seeds."""
 
+import ctypes
 import doctest
+import os
 import random
+import re
 import unittest
 
 import duknavet
@@ -16,6 +19,12 @@ AUTOMATON = bytes([2, 1, 2, 2, 4, 0, 0, 0, 1, 0, 1, 0, 1, 0, 1, 1, 1, 0])
 
 def word(*letters):
     return bytes(letters)
+
+
+def remainders(m, *images, marks=()):
+    """The file of a rule whose products are sums modulo m, with the letters' elements modulo m too."""
+    products = [[(a + b) % m for b in range(m)] for a in range(m)]
+    return Rule(products, [image % m for image in images], list(marks)).to_bytes()
 
 
 class Calls(unittest.TestCase):
@@ -49,6 +58,27 @@ class Calls(unittest.TestCase):
         self.assertEqual(duknavet.reduce(duknavet.automaton_rule(AUTOMATON)), W)
         self.refused(12, 1, 0, duknavet.reduce, Z)
 
+    def test_two_rules(self):
+        others = duknavet.complement(W)
+        self.assertEqual(duknavet.both(W, others), W[:8] + bytes([0, 0]))
+        self.assertEqual(duknavet.either(W, others), W[:8] + bytes([3, 0, 0, 0, 3, 0, 1, 3, 1, 1, 3]))
+        self.assertEqual(duknavet.without(W, others), W)
+        self.assertEqual(duknavet.without(others, W), others)
+        self.assertEqual(duknavet.without(THREE_GRADES, bytearray(W)), W[:8] + bytes([2, 0, 0, 1, 2, 1, 1, 1]))
+
+    def test_two_rules_refused(self):
+        for call in (duknavet.both, duknavet.either, duknavet.without):
+            self.refused(1, 2, 12, call, Z, W[:12])
+            self.refused(5, 1, 1, call, bytes([2, 1, 0, 0, 0, 2, 0, 1, 0, 0]), W[:12])
+            self.refused(18, 1, 0, call, Z, bytes([1, 0, 1, 0, 0, 0]))
+            self.refused(12, 1, 0, call, Z, Z)
+            self.refused(12, 2, 0, call, W, Z)
+            self.refused(19, 1, 0, call, remainders(8, 1), remainders(9, 1))
+            self.assertEqual(call(remainders(8, 1), remainders(8, 1))[0], 8)
+        with self.assertRaises(Refused) as caught:
+            duknavet.both(W, remainders(1, 1))
+        self.assertEqual(str(caught.exception), "LettersDiffer (refusal 18, input 1, place 0)")
+
     def test_rounds(self):
         self.assertEqual(duknavet.reduce_rounds(TWICE, 0), Rounds(0, False, [0, 1, 2, 1]))
         self.assertEqual(duknavet.reduce_rounds(TWICE, 1), Rounds(1, True, [0, 1, 2, 3]))
@@ -81,7 +111,9 @@ class Calls(unittest.TestCase):
 
     def test_kinds_of_refusals(self):
         found = {number: kind for number, kind in duknavet.KINDS.items() if number > 14}
-        self.assertEqual(found, {15: "NameOutOfRange", 16: "NameNeverKept", 17: "NoSuchState", 20: "LimitOutOfRange"})
+        points = {15: "NameOutOfRange", 16: "NameNeverKept"}
+        later = {17: "NoSuchState", 18: "LettersDiffer", 19: "TooManyPairs", 20: "LimitOutOfRange"}
+        self.assertEqual(found, {**points, **later})
         with self.assertRaises(Refused) as caught:
             duknavet.successors(Z, 0, 1, 0)
         self.assertEqual(str(caught.exception), "NoSuchState (refusal 17, input 1, place 0)")
@@ -116,6 +148,18 @@ class Calls(unittest.TestCase):
         self.assertEqual(rule.to_bytes(), THREE_GRADES)
         self.refused(4, 1, 13, Rule.from_bytes, W + b"\0")
 
+    def test_signatures_of_the_header(self):
+        """Without types ctypes would hand numbers over, and take answers, as ints."""
+        types = {"*": ctypes.c_char_p, "size_t": ctypes.c_size_t, "uint8_t": ctypes.c_uint8}
+        with open(os.path.join(os.path.dirname(os.path.abspath(__file__)), "..", "..", "include", "duknavet.h")) as file:
+            declared = re.findall(r"^uint64_t (duknavet_\w+)\(([^)]*)\);", file.read(), re.MULTILINE)
+        self.assertGreater(len(declared), 18)
+        for name, arguments in declared:
+            function = getattr(duknavet._library, name)
+            self.assertEqual(function.restype, ctypes.c_uint64, name)
+            kinds = re.findall(r"\*|\bsize_t\b|\buint8_t (?!\*)", arguments)
+            self.assertEqual(function.argtypes, [types[kind.strip()] for kind in kinds], name)
+
     def test_documented_example(self):
         self.assertEqual(doctest.testmod(duknavet).failed, 0)
 
@@ -128,10 +172,9 @@ class Cyclic(unittest.TestCase):
         seen = set()
         for _ in range(300):
             m = numbers.randint(1, 9)
-            products = [[(a + b) % m for b in range(m)] for a in range(m)]
-            images = [1 % m, numbers.randrange(m)]
+            images = [1, numbers.randrange(m)]
             marks = [Mark(s, 0, numbers.randint(1, 3)) for s in range(m) if numbers.random() < 0.4]
-            file = Rule(products, images, marks).to_bytes()
+            file = remainders(m, *images, marks=marks)
             grade = {mark.s: mark.grade for mark in marks}
             v = [numbers.randrange(2) for _ in range(numbers.randint(1, 5))]
             letters = v * m
@@ -140,6 +183,32 @@ class Cyclic(unittest.TestCase):
             self.assertEqual(duknavet.member(file, b"", bytes(v)).grade, expected)
             seen.add(expected)
         self.assertEqual(seen, {0, 1, 2, 3})
+
+
+class Pairs(unittest.TestCase):
+    """Two rules made one, against the grades that both give to lassos. With every sum marked alike cyclic rules are strong."""
+
+    def test_grades(self):
+        numbers = random.Random(2026)
+        ways = ((duknavet.both, min), (duknavet.either, max), (duknavet.without, lambda one, two: min(one, 3 - two)))
+        seen = set()
+        for _ in range(60):
+            cyclic = []
+            for _ in range(2):
+                m, grade = numbers.randint(1, 6), numbers.randint(0, 3)
+                marks = [Mark(s, 0, grade) for s in range(m) if grade > 0]
+                cyclic.append(remainders(m, 1, numbers.randrange(m), marks=marks))
+            first, second = (numbers.choice((W, THREE_GRADES, TWICE, own)) for own in cyclic)
+            call, combined = numbers.choice(ways)
+            file = call(first, second)
+            self.assertTrue(duknavet.strong(file))
+            for _ in range(10):
+                u = bytes(numbers.randrange(2) for _ in range(numbers.randint(0, 3)))
+                v = bytes(numbers.randrange(2) for _ in range(numbers.randint(1, 3)))
+                one, two = (duknavet.member(own, u, v).grade for own in (first, second))
+                self.assertEqual(duknavet.member(file, u, v).grade, combined(one, two))
+                seen.add((call, one, two))
+        self.assertGreater(len(seen), 20)
 
 
 class Automata(unittest.TestCase):
@@ -182,9 +251,8 @@ class Automata(unittest.TestCase):
         seen = set()
         for _ in range(60):
             m = numbers.randint(1, 4)
-            products = [[(a + b) % m for b in range(m)] for a in range(m)]
             marks = [Mark(s, 0, numbers.randint(1, 3)) for s in range(m) if numbers.random() < 0.5]
-            file = Rule(products, [1 % m, numbers.randrange(m)], marks).to_bytes()
+            file = remainders(m, 1, numbers.randrange(m), marks=marks)
             for file in (file, W, THREE_GRADES, TWICE):
                 u = bytes(numbers.randrange(2) for _ in range(numbers.randint(0, 3)))
                 v = bytes(numbers.randrange(2) for _ in range(numbers.randint(1, 3)))

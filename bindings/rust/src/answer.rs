@@ -41,12 +41,16 @@ pub enum Refusal {
     NameNeverKept = 16,
     /// There is no such state: e is no idempotent element, or s neither an element nor [`NONE`](crate::NONE).
     NoSuchState = 17,
+    /// Two rules to be made one have different numbers of letters.
+    LettersDiffer = 18,
+    /// Two rules to be made one have more than 64 pairs of values.
+    TooManyPairs = 19,
     /// A limit of rounds is above [`MOST_ROUNDS`](crate::MOST_ROUNDS).
     LimitOutOfRange = 20,
 }
 
 impl Refusal {
-    /// The refusal's number, 1 to 20; never 9, and so far neither 18 nor 19.
+    /// The refusal's number, 1 to 20, never 9.
     pub fn number(self) -> u8 {
         self as u8
     }
@@ -72,6 +76,8 @@ impl Refusal {
             Refusal::NameOutOfRange => "the name of a point is above 7",
             Refusal::NameNeverKept => "the name was never kept",
             Refusal::NoSuchState => "there is no such state",
+            Refusal::LettersDiffer => "the rules have different numbers of letters",
+            Refusal::TooManyPairs => "the rules have more than 64 pairs of values",
             Refusal::LimitOutOfRange => "the limit of rounds is above 64",
         }
     }
@@ -95,6 +101,8 @@ impl Refusal {
             15 => Refusal::NameOutOfRange,
             16 => Refusal::NameNeverKept,
             17 => Refusal::NoSuchState,
+            18 => Refusal::LettersDiffer,
+            19 => Refusal::TooManyPairs,
             20 => Refusal::LimitOutOfRange,
             _ => return None,
         })
@@ -106,7 +114,7 @@ impl Refusal {
 pub struct Refused {
     /// Why.
     pub refusal: Refusal,
-    /// Which input it lies in: 2 for a second marks section and for the word v, otherwise 1.
+    /// Which input it lies in: 2 for a second marks section, a second rule and the word v, otherwise 1.
     pub input: u8,
     /// Where in that input; [`Refusal`] says what it counts.
     pub place: u64,
@@ -207,7 +215,7 @@ mod tests {
         for number in 0..=255 {
             match Refusal::from_number(number) {
                 Some(refusal) => assert_eq!(refusal.number(), number),
-                None => assert!(matches!(number, 0 | 9 | 18 | 19) || number > 20),
+                None => assert!(matches!(number, 0 | 9) || number > 20),
             }
         }
     }
@@ -230,7 +238,7 @@ mod tests {
 
     #[test]
     fn what_packs_no_answer_panics() {
-        for packed in [0x0000_0112, 0x0000_0109, 0x0100, 0x0001, 0x0301] {
+        for packed in [0x0000_0115, 0x0000_0109, 0x0100, 0x0001, 0x0301] {
             assert!(catch_unwind(|| unpack(packed)).is_err());
         }
         assert!(catch_unwind(|| unpack_bool(0x2_0000)).is_err());

@@ -35,6 +35,7 @@
 
 mod answer;
 mod automata;
+mod combinations;
 pub mod exchange;
 pub mod files;
 mod lassos;
@@ -54,6 +55,7 @@ pub mod words;
 
 pub use answer::{Refusal, Refused};
 pub use automata::{automaton_rule, Translated};
+pub use combinations::{combine, Combined, Operation};
 pub use lassos::{member, Membership};
 pub use markings::{classes, complement, included, strong};
 pub use markings::{Classes, Complemented, Inclusion, Strength};

@@ -11,7 +11,7 @@
 
 use crate::files::Lasso;
 use crate::words::{explain, Asked, Explained};
-use crate::{Inclusion, Membership, Partition, RuleState, StateKind, Strength};
+use crate::{Inclusion, Membership, Operation, Partition, RuleState, StateKind, Strength};
 use crate::{BLOCKS, CLASSES_OUT, RULE_OUT, SCRATCH, SUCCESSORS_OUT, U_OUT, V_OUT};
 
 /// The conjugacy classes of a rule's linked pairs.
@@ -148,6 +148,14 @@ pub fn reduce(rule: &[u8]) -> Result<Vec<u8>, Explained> {
         crate::reduce(rule, out, scratch).map(|written| written.length)
     };
     written(call, Asked::Rule(rule))
+}
+
+/// The rule made of two strong ones over as many letters: each lasso has its two grades combined. It need not be the smallest.
+pub fn combine(first: &[u8], second: &[u8], operation: Operation) -> Result<Vec<u8>, Explained> {
+    let call = |out: &mut [u8], scratch: &mut [u8]| {
+        crate::combine(first, second, operation, out, scratch).map(|written| written.length)
+    };
+    written(call, Asked::TwoRules { first, second })
 }
 
 /// The reduction of a strong rule by rounds, at most `limit` of them after round 0.

@@ -106,6 +106,36 @@ mod exported {
             scratch: *mut u8,
             scratch_length: usize,
         ) -> u64;
+        pub fn duknavet_both(
+            first: *const u8,
+            first_length: usize,
+            second: *const u8,
+            second_length: usize,
+            out: *mut u8,
+            out_length: usize,
+            scratch: *mut u8,
+            scratch_length: usize,
+        ) -> u64;
+        pub fn duknavet_either(
+            first: *const u8,
+            first_length: usize,
+            second: *const u8,
+            second_length: usize,
+            out: *mut u8,
+            out_length: usize,
+            scratch: *mut u8,
+            scratch_length: usize,
+        ) -> u64;
+        pub fn duknavet_without(
+            first: *const u8,
+            first_length: usize,
+            second: *const u8,
+            second_length: usize,
+            out: *mut u8,
+            out_length: usize,
+            scratch: *mut u8,
+            scratch_length: usize,
+        ) -> u64;
         pub fn duknavet_reduce_rounds(
             rule: *const u8,
             rule_length: usize,
@@ -323,6 +353,37 @@ pub fn reduce(rule: &[u8], out: &mut [u8], scratch: &mut [u8]) -> u64 {
         exported::duknavet_reduce(
             rule.as_ptr(),
             rule.len(),
+            out.as_mut_ptr(),
+            out.len(),
+            scratch.as_mut_ptr(),
+            scratch.len(),
+        )
+    }
+}
+
+/// One of the three functions that make one rule of two.
+type Combining =
+    unsafe extern "C" fn(*const u8, usize, *const u8, usize, *mut u8, usize, *mut u8, usize) -> u64;
+
+pub fn combine(
+    first: &[u8],
+    second: &[u8],
+    operation: crate::Operation,
+    out: &mut [u8],
+    scratch: &mut [u8],
+) -> u64 {
+    let call: Combining = match operation {
+        crate::Operation::Both => exported::duknavet_both,
+        crate::Operation::Either => exported::duknavet_either,
+        crate::Operation::Without => exported::duknavet_without,
+    };
+    // SAFETY: as for `classes`; `first` and `second` may overlap, since they are only read.
+    unsafe {
+        call(
+            first.as_ptr(),
+            first.len(),
+            second.as_ptr(),
+            second.len(),
             out.as_mut_ptr(),
             out.len(),
             scratch.as_mut_ptr(),

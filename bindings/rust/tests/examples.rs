@@ -1,10 +1,10 @@
 //! The small rules of document 01, with grade 3 on each mark, each with the answer that the document gives; further grades, and the turns
 //! of cycles.
 
-use duknavet::{automaton_rule, classes, complement, event, fresh, included, keep, mark, member};
-use duknavet::{reduce, reduce_rounds, return_to, state_kind, strong, successors, verdict};
+use duknavet::{automaton_rule, classes, combine, complement, event, fresh, included, keep, mark};
+use duknavet::{member, reduce, reduce_rounds, return_to, state_kind, strong, successors, verdict};
 use duknavet::{Classes, Inclusion, Membership, StateKind};
-use duknavet::{Monitor, Partition, Refusal, Refused, Strength, Verdict};
+use duknavet::{Monitor, Operation, Partition, Refusal, Refused, Strength, Verdict};
 use duknavet::{
     BLOCKS, CLASSES_OUT, MOST_ROUNDS, NONE, POINTS, RULE_OUT, SCRATCH, SUCCESSORS_OUT, U_OUT,
     V_OUT, WORD,
@@ -52,11 +52,11 @@ fn graded(grade: u8, turns: usize) -> Result<Membership, Refused> {
     Ok(Membership { grade, turns })
 }
 
-/// The remainders by 64 under addition, with one letter, of image 1.
-fn cyclic(marks: &[u8]) -> Vec<u8> {
-    let mut rule = vec![64];
-    rule.extend((0..64).flat_map(|a| (0..64).map(move |b| (a + b) % 64)));
-    rule.extend([1, 1]);
+/// The remainders by n under addition, with one letter, of image 1.
+fn remainders(n: u8, marks: &[u8]) -> Vec<u8> {
+    let mut rule = vec![n];
+    rule.extend((0..n).flat_map(|a| (0..n).map(move |b| (a + b) % n)));
+    rule.extend([1, 1 % n]);
     rule.extend(marks);
     rule
 }
@@ -70,6 +70,12 @@ fn reduced(rule: &[u8]) -> Result<Vec<u8>, Refused> {
 fn complemented(rule: &[u8]) -> Result<Vec<u8>, Refused> {
     let mut out = vec![0; RULE_OUT];
     let length = complement(rule, &mut out, &mut scratch())?.length;
+    Ok(out[..length].to_vec())
+}
+
+fn combined(first: &[u8], second: &[u8], operation: Operation) -> Result<Vec<u8>, Refused> {
+    let mut out = vec![0; RULE_OUT];
+    let length = combine(first, second, operation, &mut out, &mut scratch())?.length;
     Ok(out[..length].to_vec())
 }
 
@@ -162,7 +168,7 @@ fn counts_of_elements_and_letters() {
     widest.extend([0; 16]);
     widest.extend([0, 0]);
     assert_eq!(strength(&widest), Ok(Strength::Strong));
-    assert_eq!(strength(&cyclic(&[0, 0])), Ok(Strength::Strong));
+    assert_eq!(strength(&remainders(64, &[0, 0])), Ok(Strength::Strong));
 }
 
 #[test]
@@ -203,7 +209,7 @@ fn turns_of_a_cycle() {
 
 #[test]
 fn turns_in_the_cyclic_group_of_64() {
-    let (marked, no_marks) = (cyclic(&[1, 0, 0, 0, 2]), cyclic(&[0, 0]));
+    let (marked, no_marks) = (remainders(64, &[1, 0, 0, 0, 2]), remainders(64, &[0, 0]));
     for length in 1..=64 {
         // The least number of turns whose letters together are a multiple of 64.
         let turns = (1..=64).find(|c| c * length % 64 == 0).expect("64 is one");
@@ -359,6 +365,91 @@ fn complement_and_inclusion_of_w() {
         panic!("W does not accept letter 1 for ever");
     };
     assert_eq!(lasso(&W, &u[..i], &v[..j]), graded(0, 1));
+}
+
+#[test]
+fn w_combined_with_its_complement() {
+    let other = complemented(&W).expect("strong");
+    let with = |operation| combined(&W, &other, operation);
+    let no_marks = [2, 0, 0, 0, 1, 2, 0, 1, 0, 0];
+    assert_eq!(with(Operation::Both), Ok(no_marks.to_vec()));
+    assert_eq!(with(Operation::Either), Ok(W_ALL.to_vec()));
+    assert_eq!(with(Operation::Without), Ok(W.to_vec()));
+    // The other way about only Without is another.
+    let back = |operation| combined(&other, &W, operation);
+    assert_eq!(back(Operation::Both), Ok(no_marks.to_vec()));
+    assert_eq!(back(Operation::Either), Ok(W_ALL.to_vec()));
+    assert_eq!(back(Operation::Without), Ok(other.clone()));
+}
+
+#[test]
+fn combined_grades() {
+    // W_GRADED has 3, 2 and 1 where W has 3, 0 and 0, and its complement has 0, 1 and 2.
+    let with = |second: &[u8], operation| combined(&W_GRADED, second, operation);
+    assert_eq!(with(&W, Operation::Both), Ok(W.to_vec()));
+    assert_eq!(with(&W, Operation::Either), Ok(W_GRADED.to_vec()));
+    let marked = |marks: &[u8]| Ok([&W[..8], marks].concat());
+    let beyond = marked(&[2, 0, 0, 1, 2, 1, 1, 1]);
+    assert_eq!(with(&W, Operation::Without), beyond);
+    let other = complemented(&W_GRADED).expect("strong");
+    let ones = marked(&[2, 0, 0, 1, 1, 1, 1, 1]);
+    assert_eq!(with(&other, Operation::Both), ones);
+    let higher = marked(&[3, 0, 0, 0, 3, 0, 1, 2, 1, 1, 2]);
+    assert_eq!(with(&other, Operation::Either), higher);
+    assert_eq!(with(&other, Operation::Without), Ok(W_GRADED.to_vec()));
+}
+
+#[test]
+fn a_rule_that_is_not_closed_combined_with_itself() {
+    // Its one lasso has grade 3 by (0, 0), and so by (1, 0), which is conjugate to it. The first word has the value 1, so 0 and 1 change
+    // places.
+    let itself = |operation| combined(&Z_ONE_LETTER, &Z_ONE_LETTER, operation);
+    let every = vec![2, 1, 0, 0, 1, 1, 0, 2, 0, 0, 1, 3, 1, 1, 3];
+    assert_eq!(itself(Operation::Both), Ok(every.clone()));
+    assert_eq!(itself(Operation::Either), Ok(every));
+    let none = vec![2, 1, 0, 0, 1, 1, 0, 0, 0];
+    assert_eq!(itself(Operation::Without), Ok(none));
+}
+
+#[test]
+fn pairs_of_remainders() {
+    let marks = [1, 0, 0, 0, 3];
+    let pairs = |m, n| {
+        let (first, second) = (remainders(m, &marks), remainders(n, &marks));
+        let rule = combined(&first, &second, Operation::Either)?;
+        Ok((rule.len(), rule[0]))
+    };
+    // As many as the least common multiple, here each with a mark for the idempotent that the last of them is.
+    assert_eq!(pairs(8, 8), Ok((64 + 5 + 3 * 8, 8)));
+    assert_eq!(pairs(8, 9), refused(19, 1, 0));
+    assert_eq!(pairs(64, 3), refused(19, 1, 0));
+    assert_eq!(pairs(5, 13), refused(19, 1, 0));
+    for (m, n) in [(64, 64), (1, 64), (64, 1), (4, 64)] {
+        assert_eq!(pairs(m, n), Ok((4293, 64)));
+    }
+}
+
+#[test]
+fn refused_combinations() {
+    let both = |first: &[u8], second: &[u8]| combined(first, second, Operation::Both);
+    assert_eq!(both(&W, &Z_ONE_LETTER), refused(18, 1, 0));
+    assert_eq!(both(&Z_ONE_LETTER, &W), refused(18, 1, 0));
+    assert_eq!(both(&W, &Z), refused(12, 2, 0));
+    assert_eq!(both(&Z, &W), refused(12, 1, 0));
+    assert_eq!(both(&Z, &Z), refused(12, 1, 0));
+    // Both files pass before letters are counted, letters agree before strength is asked, and strength comes before pairs.
+    assert_eq!(both(&Z, &Z_ONE_LETTER), refused(18, 1, 0));
+    let not_associative = [2, 1, 0, 0, 0, 1, 0, 0, 0];
+    assert_eq!(both(&Z, &not_associative), refused(5, 2, 1));
+    assert_eq!(both(&not_associative, &W[..5]), refused(5, 1, 1));
+    assert_eq!(both(&W, &W[..5]), refused(1, 2, 5));
+    // 13 comes before all, and no byte is written then; nor at any other refusal.
+    let mut out = [9; RULE_OUT];
+    let operation = Operation::Both;
+    let short = combine(&[], &Z, operation, &mut out[1..], &mut scratch());
+    assert_eq!(short, refused(13, 1, 0));
+    let weak = combine(&W, &Z, operation, &mut out, &mut scratch());
+    assert_eq!((weak, out), (refused(12, 2, 0), [9; RULE_OUT]));
 }
 
 #[test]

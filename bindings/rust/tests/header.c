@@ -55,6 +55,16 @@ int main(void)
     expect("finished", is_result(answer, 1, 1, 0) && memcmp(blocks, last_blocks, 5) == 0);
     answer = duknavet_reduce_rounds(sums, sizeof sums, DUKNAVET_MOST_ROUNDS + 1, blocks, sizeof blocks, scratch, sizeof scratch);
     expect("limit", duknavet_refusal_of(answer) == DUKNAVET_LIMIT_OUT_OF_RANGE && duknavet_input_of(answer) == 1);
+    expect("both", is_result(duknavet_both(rule, sizeof rule, every_mark, sizeof every_mark, out, sizeof out, scratch, sizeof scratch), sizeof rule, 0, 0));
+    expect("lower grades", memcmp(out, rule, sizeof rule) == 0);
+    answer = duknavet_either(rule, sizeof rule, every_mark, sizeof every_mark, out, sizeof out, scratch, sizeof scratch);
+    expect("either", is_result(answer, sizeof every_mark, 0, 0) && memcmp(out, every_mark, sizeof every_mark) == 0);
+    answer = duknavet_without(rule, sizeof rule, every_mark, sizeof every_mark, out, sizeof out, scratch, sizeof scratch);
+    expect("without", is_result(answer, 10, 0, 0) && out[8] == 0 && out[9] == 0);
+    answer = duknavet_both(rule, sizeof rule, one_letter, sizeof one_letter, out, sizeof out, scratch, sizeof scratch);
+    expect("letters", duknavet_refusal_of(answer) == DUKNAVET_LETTERS_DIFFER);
+    answer = duknavet_either(rule, sizeof rule, sums, sizeof sums, out, sizeof out, scratch, sizeof scratch);
+    expect("second weak", duknavet_refusal_of(answer) == DUKNAVET_NOT_STRONG && duknavet_input_of(answer) == 2);
     answer = duknavet_included(rule, sizeof rule, no_marks, sizeof no_marks, u, sizeof u, v, sizeof v, scratch, sizeof scratch);
     expect("included", duknavet_refusal_of(answer) == DUKNAVET_RESULT && duknavet_field(answer, 0) == 0);
     expect("witness", is_result(duknavet_member(rule, sizeof rule, u, duknavet_field(answer, 1), v, duknavet_field(answer, 2),

@@ -7,4 +7,5 @@ mod shorten;
 mod weak;
 
 pub use differ::{compare, Comparison, Difference};
+pub(crate) use pairs::pairs_of_values;
 pub use weak::{why_weak, Weakness};

@@ -54,3 +54,8 @@ impl Pairs {
         self.numbers.get(&pair).copied()
     }
 }
+
+/// How many pairs of values words have in two rules over the same letters.
+pub(crate) fn pairs_of_values(first: &Rule, second: &Rule) -> usize {
+    Pairs::reached(first, second).values.len()
+}

@@ -7,6 +7,7 @@ mod automaton;
 mod marks;
 mod rule;
 mod state;
+mod two_rules;
 
 use crate::text::{print_lasso, Names};
 use crate::{Refusal, Refused, RuleState, MOST_ROUNDS, WORD};
@@ -34,6 +35,13 @@ impl std::error::Error for Explained {}
 pub enum Asked<'a> {
     /// A rule alone.
     Rule(&'a [u8]),
+    /// Two rules.
+    TwoRules {
+        /// The first, input 1.
+        first: &'a [u8],
+        /// The second, input 2.
+        second: &'a [u8],
+    },
     /// A rule and a second marks section.
     Second {
         /// The rule.
@@ -112,7 +120,7 @@ fn in_words(refused: Refused, asked: Asked<'_>) -> Option<String> {
                 });
             }
         }
-        Refusal::NotStrong => return weak(asked),
+        Refusal::NotStrong => return weak(refused, asked),
         Refusal::NoSuchState => return state::words(asked),
         Refusal::LimitOutOfRange => {
             if let Asked::Rounds { limit, .. } = asked {
@@ -121,6 +129,8 @@ fn in_words(refused: Refused, asked: Asked<'_>) -> Option<String> {
                 ));
             }
         }
+        Refusal::LettersDiffer => return two_rules::letters_differ(asked),
+        Refusal::TooManyPairs => return two_rules::too_many_pairs(asked),
         Refusal::BufferTooShort | Refusal::TooManyMatrices => return None,
         // Byte 0 of a file is a count: the entry is the one that was handed over beside it.
         Refusal::EntryOutOfRange if place == 0 => {
@@ -132,6 +142,11 @@ fn in_words(refused: Refused, asked: Asked<'_>) -> Option<String> {
     }
     match asked {
         Asked::Automaton(automaton) => automaton::words(refused.refusal, place, automaton),
+        Asked::TwoRules { first, second } => {
+            let (name, rule) = two_rules::refused_one(refused, first, second);
+            let words = rule::words(refused.refusal, place, rule)?;
+            Some(format!("{name}: {words}"))
+        }
         Asked::Second { rule, second } if refused.input == 2 => {
             let table = crate::files::Rule::take_apart(rule)?;
             marks::words(refused.refusal, place, second, 0, &table)
@@ -148,9 +163,11 @@ fn in_words(refused: Refused, asked: Asked<'_>) -> Option<String> {
 }
 
 /// Two lassos that show that a rule is weak.
-fn weak(asked: Asked<'_>) -> Option<String> {
-    let (Asked::Rule(rule) | Asked::Rounds { rule, .. }) = asked else {
-        return None;
+fn weak(refused: Refused, asked: Asked<'_>) -> Option<String> {
+    let (name, rule) = match asked {
+        Asked::Rule(rule) | Asked::Rounds { rule, .. } => ("the rule", rule),
+        Asked::TwoRules { first, second } => two_rules::refused_one(refused, first, second),
+        _ => return None,
     };
     let weakness = crate::witness::why_weak(rule).ok()??;
     let shown = |(lasso, grade): &(crate::files::Lasso, u8)| {
@@ -159,7 +176,7 @@ fn weak(asked: Asked<'_>) -> Option<String> {
     let (start, cycle) = (weakness.start, weakness.cycle);
     let (higher, lower) = (shown(&weakness.higher), shown(&weakness.lower));
     Some(format!(
-        "the rule is weak: {higher}, but {lower}, both with the values {start} and {cycle}"
+        "{name} is weak: {higher}, but {lower}, both with the values {start} and {cycle}"
     ))
 }
 

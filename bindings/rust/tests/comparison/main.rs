@@ -33,6 +33,7 @@ fn share(half: usize) -> Tally {
     timed("words and monitors", &mut |c| parts::words::run(c, 60));
     timed("large rules", &mut |c| parts::large::run(c));
     timed("states", &mut |c| parts::states::run(c, 300));
+    timed("two rules", &mut |c| parts::combinations::run(c, 400));
     timed("rounds", &mut |c| parts::rounds::run(c, half));
     timed("prints", &mut |c| parts::prints::run(c, 300, half));
     c.tally

@@ -45,7 +45,7 @@ type Refusals = (&'static str, &'static [(u8, &'static [u8])]);
 
 /// Which refusals each call can answer, with their inputs: every number that applies to it.
 /// A rule's checks are 1 to 8; a second marks section has no table and no letters, so not 5 and 6.
-const REFUSALS: [Refusals; 15] = [
+const REFUSALS: [Refusals; 16] = [
     ("classes", &[(1, &[1, 2, 3, 4, 5, 6, 7, 8, 13])]),
     ("strong", &[(1, &[1, 2, 3, 4, 5, 6, 7, 8, 13])]),
     (
@@ -67,13 +67,20 @@ const REFUSALS: [Refusals; 15] = [
         "reduce_rounds",
         &[(1, &[1, 2, 3, 4, 5, 6, 7, 8, 12, 13, 20])],
     ),
+    (
+        "combine",
+        &[
+            (1, &[1, 2, 3, 4, 5, 6, 7, 8, 12, 13, 18, 19]),
+            (2, &[1, 2, 3, 4, 5, 6, 7, 8, 12]),
+        ],
+    ),
     ("state_kind", &[(1, &[1, 2, 3, 4, 5, 6, 7, 8, 13, 17])]),
     ("successors", &[(1, &[1, 2, 3, 4, 5, 6, 7, 8, 10, 13, 17])]),
     ("automaton_rule", &[(1, &[1, 2, 3, 4, 8, 13, 14])]),
 ];
 
 /// Outcomes that must occur at least so often.
-const LEAST: [(&str, &str, u64); 142] = [
+const LEAST: [(&str, &str, u64); 147] = [
     ("classes", "counts", 1000),
     ("strong", "weak", 100),
     ("strong", "strong, marks closed", 1000),
@@ -168,6 +175,11 @@ const LEAST: [(&str, &str, u64); 142] = [
     ("reduce_rounds", "finished at the limit", 500),
     ("reduce_rounds", "61 rounds", 1),
     ("reduce_rounds", "20 for a weak rule", 50),
+    ("combine", "Both", 200),
+    ("combine", "Either", 200),
+    ("combine", "Without", 200),
+    ("combine", "64 pairs", 1),
+    ("combine", "with its complement", 20),
     ("state_kind", "plain", 1000),
     ("state_kind", "initial", 1000),
     ("state_kind", "final", 1000),

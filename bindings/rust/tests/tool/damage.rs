@@ -38,7 +38,7 @@ fn every_subcommand_survives() {
         never.as_bytes(),
     ];
     let rule = Scrap::holding(W);
-    let calls: [&[&str]; 23] = [
+    let calls: [&[&str]; 25] = [
         &["check", "-"],
         &["check", "--as", "automaton", "-"],
         &["summary", "-"],
@@ -47,6 +47,8 @@ fn every_subcommand_survives() {
         &["member", rule.name(), "-"],
         &["classes", "-"],
         &["complement", "-"],
+        &["combine", "either", rule.name(), "-"],
+        &["combine", "without", "-", rule.name(), "--to", "text"],
         &["included", rule.name(), "-"],
         &["reduce", "-", "--to", "text"],
         &["rounds", "-", "--limit", "1"],

@@ -7,7 +7,7 @@ use crate::samples::rule;
 use duknavet::exchange::format;
 use duknavet::owned;
 use duknavet::text::kind;
-use duknavet::Refusal;
+use duknavet::{Operation, Refusal};
 
 /// No bytes that begin as a text do are a rule, an automaton or a marks section: a call refuses their first count.
 #[test]
@@ -28,6 +28,12 @@ fn what_begins_as_a_text_is_no_file() {
                     .expect_err("no automaton")
                     .refused,
                 1,
+            );
+            first_count(
+                owned::combine(&table, &bytes, Operation::Both)
+                    .expect_err("no rule")
+                    .refused,
+                2,
             );
             first_count(
                 owned::included(&table, &bytes)

@@ -12,6 +12,7 @@ mod random;
 
 mod calls;
 mod claims;
+mod combinations;
 mod damage;
 mod exchanges;
 mod following;

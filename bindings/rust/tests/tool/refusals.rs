@@ -1,10 +1,10 @@
 //! Refusals in words.
 
 use crate::random::Random;
-use crate::samples::{rule, AUTOMATON, GRADED, W, Z};
+use crate::samples::{remainders, rule, AUTOMATON, GRADED, W, Z};
 use duknavet::owned;
 use duknavet::words::Explained;
-use duknavet::{Monitor, RuleMonitor, POINTS};
+use duknavet::{Monitor, Operation, RuleMonitor, POINTS};
 
 fn words<T: std::fmt::Debug>(answer: Result<T, Explained>) -> String {
     answer.expect_err("a refusal").to_string()
@@ -43,6 +43,12 @@ fn of_rules() {
         (with(&with(GRADED, 16, 0), 17, 1), "mark 2, the pair (0, 1), stood before as mark 1, with grade 2 (refusal 8, input 1, place 16)"),
     ] {
         assert_eq!(words(owned::classes(&bytes)), expected);
+        // Of two rules it is also told which.
+        let of_first = owned::combine(&bytes, W, Operation::Both);
+        assert_eq!(words(of_first), format!("the first rule: {expected}"));
+        let expected = expected.replace("input 1", "input 2");
+        let of_second = owned::combine(W, &bytes, Operation::Both);
+        assert_eq!(words(of_second), format!("the second rule: {expected}"));
     }
 }
 
@@ -148,6 +154,31 @@ fn of_rounds_and_states() {
     assert_eq!(words(owned::successors(&bad, 9, 9, 9)), expected);
 }
 
+#[test]
+fn of_two_rules() {
+    let one_letter = [1, 0, 1, 0, 0, 0];
+    let letters = owned::combine(&one_letter, W, Operation::Both);
+    let general = letters.clone().expect_err("other letters").refused;
+    let expected =
+        "the first rule has 1 letter, but the second has 2 (refusal 18, input 1, place 0)";
+    assert_eq!(words(letters), expected);
+    let expected = "the rules have different numbers of letters (refusal 18, input 1, place 0)";
+    assert_eq!(general.to_string(), expected);
+    let (large, small) = (remainders(64).bytes(), remainders(63).bytes());
+    let pairs = owned::combine(&large, &small, Operation::Without);
+    let general = pairs.clone().expect_err("too many").refused;
+    let expected = "words have 4032 pairs of values in the two rules, more than 64 (refusal 19, input 1, place 0)";
+    assert_eq!(words(pairs), expected);
+    let expected = "the rules have more than 64 pairs of values (refusal 19, input 1, place 0)";
+    assert_eq!(general.to_string(), expected);
+    let why = "is weak: u: 0  v: 0 0 has grade 3, but u: 0  v: 1 has grade 0, both with the values 1 and 0";
+    let expected = format!("the second rule {why} (refusal 12, input 2, place 0)");
+    assert_eq!(words(owned::combine(W, Z, Operation::Either)), expected);
+    let expected = format!("the first rule {why} (refusal 12, input 1, place 0)");
+    assert_eq!(words(owned::combine(Z, W, Operation::Either)), expected);
+    assert_eq!(words(owned::combine(Z, Z, Operation::Either)), expected);
+}
+
 /// The refusal without its inputs says what its place tells.
 #[test]
 fn without_inputs() {
@@ -182,6 +213,9 @@ fn every_refusal_of_a_file_is_translated() {
             let told = explained.to_string();
             let number = explained.refused.refusal.number();
             assert!(told != general || number == 6, "{told} of {bytes:?}");
+            let of_two = owned::combine(W, &bytes, Operation::Either).expect_err("a refusal");
+            let expected = format!("the second rule: {}", explained.words);
+            assert_eq!((of_two.words, of_two.refused.input), (expected, 2));
         }
     }
     assert!(refusals > 2000, "{refusals}");

@@ -1,6 +1,6 @@
 //! Small rules and automata, and rules from random numbers.
 
-use crate::definitions::rule::Rule;
+use crate::definitions::rule::{Mark, Rule};
 use crate::inputs::{marks, morphisms};
 use crate::random::Random;
 
@@ -32,6 +32,12 @@ letters 2
 marks 1
   0 0 proper
 ";
+
+/// Sums modulo n, one letter of value 1 and the pair (0, 0) marked; strong.
+pub fn remainders(n: usize) -> Rule {
+    let pair = (0, 0);
+    morphisms::sums(n, &[1]).with(vec![Mark { pair, grade: 3 }])
+}
 
 /// A rule that passes the checks, strong or weak.
 pub fn rule(random: &mut Random, limit: usize) -> Rule {

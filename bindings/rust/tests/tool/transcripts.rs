@@ -218,6 +218,13 @@ fn examples_of_the_formats() {
         1,
         "u: 0  v: 1\ngrades 3 2",
     );
+    let others = Scrap::holding(&bytes("2  0 0 0 1  2  0 1  2 0  0 1 3  1 1 3"));
+    let none = "2  0 0 0 1  2  0 1  0 0";
+    example(FORMATS, none, &["check", "-"], 0, "marks 0");
+    for (operation, expected) in [("both", none), ("either", all), ("without", W)] {
+        let call = ["combine", operation, first.name(), others.name()];
+        assert_eq!(run_with(&call, b"").out, bytes(expected), "{operation}");
+    }
     let automaton = "2  1 2  2  4 0  0 0 1  0 1 0  1 0 1  1 1 0";
     let translated = "3  0 2 2  0 1 2  0 2 2  2  0 1  2 0  0 0 3  2 2 3";
     written(FORMATS, automaton, "automaton", translated);

@@ -3,13 +3,14 @@
 use crate::program::{run, tool, Scrap};
 use crate::samples::{AUTOMATON, W};
 
-const COMMANDS: [&str; 18] = [
+const COMMANDS: [&str; 19] = [
     "check",
     "summary",
     "strong",
     "member",
     "classes",
     "complement",
+    "combine",
     "included",
     "reduce",
     "rounds",
@@ -75,6 +76,7 @@ fn full_disk() {
     for name in COMMANDS {
         let words = match name {
             "member" => vec![name, rule.name(), "v: 0"],
+            "combine" => vec![name, "both", rule.name(), rule.name()],
             "included" | "follow" => continue,
             "automaton" => vec![name, automaton.name()],
             "stretch" => vec![name, "v: 0", "0"],

@@ -2,7 +2,7 @@
 
 use crate::definitions::acceptance::{grade, Marking};
 use crate::definitions::equivalence;
-use crate::definitions::rule::{Mark, Morphism, Rule};
+use crate::definitions::rule::{Mark, Rule};
 use crate::definitions::splits;
 use crate::inputs::{automata, marks, morphisms};
 use crate::random::Random;
@@ -161,17 +161,12 @@ fn automata_by_their_rules() {
 
 /// Sums modulo m, with a letter that adds 1 and one that adds nothing, and the grade 3 for some sums.
 fn sums(m: u8, marked: impl Fn(u8) -> bool) -> Rule {
-    let table = (0..m).flat_map(|a| (0..m).map(move |b| (a + b) % m));
-    let morphism = Morphism {
-        n: usize::from(m),
-        table: table.collect(),
-        images: vec![1, 0],
-    };
     let mark = |sum: u8| Mark {
         pair: (sum, 0),
         grade: 3,
     };
-    morphism.with((0..m).filter(|sum| marked(*sum)).map(mark).collect())
+    let marks = (0..m).filter(|sum| marked(*sum)).map(mark).collect();
+    morphisms::sums(usize::from(m), &[1, 0]).with(marks)
 }
 
 /// With more pairs of values than a rule has room for, a difference is found all the same, and equality is not claimed.

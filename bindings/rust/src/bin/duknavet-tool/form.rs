@@ -13,14 +13,6 @@ pub const TO: Choice = Choice {
     meaning: "bytes or text; else a text for a text and bytes for bytes",
 };
 
-/// Whether a result is to be a text: as asked, else as the input was.
-pub fn wants_text(arguments: &Arguments, source: &Source) -> Result<bool, Failure> {
-    Ok(match arguments.one_of("to", &["bytes", "text"])? {
-        Some(form) => form == "text",
-        None => source.is_text(),
-    })
-}
-
 /// The text of bytes, if their sections have the lengths that their counts say.
 pub fn text_of(bytes: &[u8], kind: Kind, names: &Names) -> Option<String> {
     match kind {
@@ -33,8 +25,22 @@ pub fn text_of(bytes: &[u8], kind: Kind, names: &Names) -> Option<String> {
 
 /// Writes a rule that a call made of a source: its letters are those of the source, and so are their names.
 pub fn write_rule(arguments: &Arguments, source: &Source, bytes: &[u8]) -> Result<Answer, Failure> {
-    let text = match wants_text(arguments, source)? {
-        true => text_of(bytes, Kind::Rule, &source.names),
+    write_rule_named(arguments, source.is_text(), &source.names, bytes)
+}
+
+/// Writes a rule with such names of letters: as a text or bytes as asked, else as the input was.
+pub fn write_rule_named(
+    arguments: &Arguments,
+    from_text: bool,
+    names: &Names,
+    bytes: &[u8],
+) -> Result<Answer, Failure> {
+    let to_text = match arguments.one_of("to", &["bytes", "text"])? {
+        Some(form) => form == "text",
+        None => from_text,
+    };
+    let text = match to_text {
+        true => text_of(bytes, Kind::Rule, names),
         false => None,
     };
     match text {

@@ -67,6 +67,25 @@ impl Source {
     }
 }
 
+/// The refusal of a call with two files, told of the file that it lies in; what stands between two rules is told of neither.
+pub fn refused_by_input(first: &Source, second: &Source, explained: &Explained) -> Failure {
+    match (explained.refused.refusal, explained.refused.input) {
+        (Refusal::LettersDiffer | Refusal::TooManyPairs, _) => {
+            Failure::Refused(explained.to_string())
+        }
+        (_, 2) => second.refused(explained),
+        _ => first.refused(explained),
+    }
+}
+
+/// The names of letters that two files share: those of the first that names any.
+pub fn names_of_two<'a>(first: &'a Source, second: &'a Source) -> &'a Names {
+    match first.names.any() {
+        true => &first.names,
+        false => &second.names,
+    }
+}
+
 /// A name as messages show it.
 pub fn shown(name: &OsStr) -> String {
     match name == "-" {

@@ -1,6 +1,7 @@
 //! Each call made on lent buffers, and held against the definitions: the answer and every byte.
 
 mod automata;
+mod combinations;
 mod lassos;
 mod markings;
 mod monitors;
@@ -20,6 +21,7 @@ use duknavet::Refused;
 use std::fmt::Debug;
 
 pub use automata::AUTOMATON_SIZES;
+pub use combinations::COMBINE_SIZES;
 pub use lassos::MEMBER_SIZES;
 pub use markings::{CLASSES_SIZES, COMPLEMENT_SIZES, INCLUDED_SIZES, STRONG_SIZES};
 pub use monitors::MONITOR_SIZES;

@@ -3,6 +3,7 @@
 pub mod acceptance;
 pub mod automata;
 pub mod checks;
+pub mod combined;
 pub mod conjugacy;
 pub mod contexts;
 pub mod cycles;

@@ -144,6 +144,16 @@ pub fn monogenic(
     generated(random, &powers, move |a, b| reduce(a + b), 64)
 }
 
+/// Sums modulo n, with the letters' elements modulo n too.
+pub fn sums(n: usize, images: &[usize]) -> Morphism {
+    let table = (0..n * n).map(|at| ((at / n + at % n) % n) as u8);
+    Morphism {
+        n,
+        table: table.collect(),
+        images: images.iter().map(|image| (image % n) as u8).collect(),
+    }
+}
+
 /// Part of the direct product of two: letter i is the pair of a letter of each.
 pub fn product(
     random: &mut Random,

@@ -4,7 +4,7 @@ use crate::calls::*;
 use crate::definitions::rule::{marks_section, Mark, Rule, GRADES};
 use crate::inputs::{automata, marks, morphisms};
 use crate::subject::Subject;
-use duknavet::{Monitor, NONE, POINTS};
+use duknavet::{Monitor, Operation, NONE, POINTS};
 
 pub fn run(c: &mut Comparison, part: usize) {
     let rules = small_rules(c);
@@ -187,7 +187,7 @@ fn any_call(c: &mut Comparison, subject: &Subject, second: &[u8]) {
 }
 
 /// How many calls get a rule.
-const CALLS: usize = 14;
+const CALLS: usize = 15;
 
 /// A call by number, with further inputs that may be faulty too, and buffers that may be short.
 fn call(c: &mut Comparison, which: usize, subject: &Subject, second: &[u8]) {
@@ -270,6 +270,15 @@ fn call(c: &mut Comparison, which: usize, subject: &Subject, second: &[u8]) {
         11 => {
             let sizes = sizes(c, short, KIND_SIZES);
             c.state_kind(subject, state, least, sizes);
+        }
+        13 => {
+            let sizes = sizes(c, short, COMBINE_SIZES);
+            let whole = Subject::new(vec![1, 0, 1, 0, 0, 0]);
+            let pair = match c.random.once_in(2) {
+                true => (subject, &whole),
+                false => (&whole, subject),
+            };
+            c.combine(pair, Operation::Either, sizes);
         }
         12 => {
             let sizes = sizes(c, short, SUCCESSORS_SIZES);

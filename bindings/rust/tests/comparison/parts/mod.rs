@@ -1,6 +1,7 @@
 //! The inputs that are compared, a part for each kind.
 
 pub mod automata;
+pub mod combinations;
 pub mod damage;
 pub mod large;
 pub mod logs;

@@ -2,7 +2,7 @@
 
 use crate::arguments::Arguments;
 use crate::command::{Answer, Command, Failure};
-use crate::input::Source;
+use crate::input::{self, Source};
 use crate::kinds::{self, AS};
 use crate::output;
 use duknavet::owned;
@@ -44,10 +44,7 @@ fn run(arguments: &Arguments) -> Result<Answer, Failure> {
             Ok(Answer::Yes)
         }
         Comparison::Different(difference) => {
-            let names = match first.names.any() {
-                true => &first.names,
-                false => &second.names,
-            };
+            let names = input::names_of_two(&first, &second);
             let lasso = print_lasso(&difference.lasso, names);
             let (by_first, by_second) = (difference.first, difference.second);
             output::write(format!("{lasso}\ngrades {by_first} {by_second}\n").as_bytes())?;

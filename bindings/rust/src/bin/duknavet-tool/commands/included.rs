@@ -22,13 +22,8 @@ The rule may be weak.",
 fn run(arguments: &Arguments) -> Result<Answer, Failure> {
     let rule = input::rule(arguments.plain(0))?;
     let second = input::expected(arguments.plain(1), Kind::Marks)?;
-    let higher =
-        owned::included(&rule.bytes, &second.bytes).map_err(|explained| {
-            match explained.refused.input {
-                2 => second.refused(&explained),
-                _ => rule.refused(&explained),
-            }
-        })?;
+    let higher = owned::included(&rule.bytes, &second.bytes)
+        .map_err(|explained| input::refused_by_input(&rule, &second, &explained))?;
     let Some(lasso) = higher else {
         output::write(b"included\n")?;
         return Ok(Answer::Yes);

@@ -3,6 +3,7 @@
 mod automaton;
 mod check;
 mod classes;
+mod combine;
 mod compare;
 mod complement;
 mod convert;
@@ -28,6 +29,7 @@ pub const ALL: &[&Command] = &[
     &member::COMMAND,
     &classes::COMMAND,
     &complement::COMMAND,
+    &combine::COMMAND,
     &included::COMMAND,
     &reduce::COMMAND,
     &rounds::COMMAND,

@@ -1,0 +1,45 @@
+//! Two rules made one.
+
+use crate::arguments::Arguments;
+use crate::command::{Answer, Command, Failure};
+use crate::form::{self, TO};
+use crate::input;
+use duknavet::{owned, Operation};
+
+pub const COMMAND: Command = Command {
+    name: "combine",
+    arguments: "both|either|without FIRST SECOND",
+    least: 3,
+    most: 3,
+    purpose: "make one rule of two strong ones over as many letters",
+    options: &[TO],
+    details: "Each lasso has the lower of its two grades (both), the higher (either), or the lower of the first and of 3 less the second \
+(without). Letters go by their numbers; their names are those of FIRST, or of SECOND where FIRST names none. The rule is written \
+as a text where one of them is. Its elements are the pairs of values that words have in the two rules, and need not be the fewest: \
+reduce makes them so. Different numbers of letters are refused by 18, a weak rule by 12, more than 64 pairs of values by 19.",
+    run,
+};
+
+fn run(arguments: &Arguments) -> Result<Answer, Failure> {
+    let operation = operation(arguments)?;
+    let first = input::rule(arguments.plain(1))?;
+    let second = input::rule(arguments.plain(2))?;
+    let written = owned::combine(&first.bytes, &second.bytes, operation)
+        .map_err(|explained| input::refused_by_input(&first, &second, &explained))?;
+    let from_text = first.is_text() || second.is_text();
+    let names = input::names_of_two(&first, &second);
+    form::write_rule_named(arguments, from_text, names, &written)
+}
+
+fn operation(arguments: &Arguments) -> Result<Operation, Failure> {
+    let word = arguments.plain(0).to_string_lossy();
+    match word.as_ref() {
+        "both" => Ok(Operation::Both),
+        "either" => Ok(Operation::Either),
+        "without" => Ok(Operation::Without),
+        _ => {
+            let message = format!("`{word}` is none of both, either, without");
+            Err(arguments.usage(&message))
+        }
+    }
+}
