@@ -17,7 +17,7 @@ use Rattle.two_rules.specs.declared.Strengths.{Strengths}
 use Rattle.two_rules.specs.declared.Strengths.the-variants.{Strong, FirstWeak, SecondWeak}
 use Rattle.two_rules.specs.Checking.{BothPromise}
 use Rattle.two_rules.specs.Deciding.{BothDecided}
-use Rattle.two_rules.proofs.Calling.{refused-then, passed-then, first-good, second-good, files-strong, first-file-weak, second-file-weak, strengths-room, both-left}
+use Rattle.two_rules.proofs.Calling.{refused-then, passed-then, first-file-weak, second-file-weak, strong-files, both-left}
 use Rattle.promises.specs.declared.Operation.{Operation}
 use Rattle.promises.specs.declared.Combined.{Combined}
 use Rattle.promises.specs.declared.Combined.the-variants.{Refused}
@@ -61,16 +61,7 @@ module _ {first second : List ℕ} {one two : Shape} {scratch out : List ℕ} (r
 
     -- both are strong
     pub strong-place : answer ≡ Strong → StrongReady first second one two decided out
-    strong-place e = record {
-      first-good = first-good first second (r .entry) (r .checked);
-      second-good = second-good first second (r .entry) (r .checked);
-      first-shape = r .checked .scratch .first-shape;
-      second-shape = r .checked .scratch .second-shape;
-      same-letters = same;
-      strong = files-strong first second (r .entry) (r .checked) d e;
-      room = strengths-room first second (r .entry) (r .checked) d;
-      out-room = r .out-room;
-    }
+    strong-place e = record { files = strong-files first second (r .entry) (r .checked) d e; same-letters = same; out-room = r .out-room }
 
     pub strong-combined : {operation : Operation} {after exit : List ℕ} {result : Combined} → PairsPromise first second operation out after decided exit result
         → PairsPromise first second operation out after scratch exit result

@@ -1,6 +1,6 @@
 -- Two strong rules whose closures stand in scratch: the list of their pairs, and the rule that was written of it, whole. Assumes nothing.
 use Prim.Native.Nat.{ℕ, _≤_, _<_}
-use mathlib.Core.Path.{_≡_, refl, sym, ap, ap₂, _∙_, subst}
+use mathlib.Core.Path.{_≡_, refl, sym, ap₂, _∙_, subst}
 use mathlib.Core.List.{List}
 use native.Mathlib.Omega.{arith}
 use Rattle.answer.specs.declared.Refusal.the-variants.{TooManyPairs}
@@ -10,18 +10,16 @@ use Rattle.theory.proofs.Combined.{left-inside, right-inside, pairs-reached}
 use Rattle.theory.proofs.ClosureGrades.{closure-grade}
 use Rattle.theory.proofs.Gradings.{GradedMarks}
 use Rattle.minimality.proofs.Saturation.{MarksOutcomes}
-use Rattle.minimality.proofs.Combined.{pairwise, StrongGrades, GradesCombined, combined-grades, combined-good}
+use Rattle.minimality.proofs.Combined.{pairwise, GradesCombined, combined-grades, combined-good}
 use Rattle.formats.specs.Table.{morphismAt}
-use Rattle.formats.specs.RuleFile.{lettersOf, morphismOf, markingOf}
+use Rattle.formats.specs.RuleFile.{morphismOf, markingOf}
 use Rattle.formats.specs.WrittenFile.{FitsFormat}
 use Rattle.formats.proofs.ReadBack.{written-rule}
 use Rattle.scratch.specs.Map.{secondBase, searchEnd, pairNumbersBase, pairLeftsBase, laidMarksBase, marksFrom, MarkingAt}
 use Rattle.scratch.proofs.Markings.{marking-kept}
 use Rattle.sections.specs.Answers.{PartZeroed}
-use Rattle.rule_table.specs.Table.{Table}
 use Rattle.rule_layout.specs.declared.Shape.{Shape}
-use Rattle.rule_check.proofs.CheckedRule.{graded-marks}
-use Rattle.rule_check.proofs.Calls.{shape-morphism, shape-table}
+use Rattle.two_rules.proofs.StrongFiles.{first-is, first-read, first-law, first-grades, second-grades, letters-agree, second-is-too, second-read-too}
 use Rattle.pair_list.specs.declared.PairCount.{PairCount}
 use Rattle.pair_list.specs.declared.PairCount.the-variants.{Listed, TooMany}
 use Rattle.pair_list.specs.Pairs.{leftAt, rightAt, TwoTables, Empty, PairList, ListAnswer, PairsAnswer}
@@ -37,38 +35,21 @@ use Rattle.promises.proofs.CombinedGrades.{combined-small}
 use Rattle.combine_call.specs.Steps.{StrongReady, PairsPromise}
 
 module _ {first second : List ℕ} {one two : Shape} {entry out : List ℕ} (s : StrongReady first second one two entry out) where
-  -- the morphisms of the files, by the counts that were read
-  first-is : morphismAt first (one .elements) (one .letters) ≡ morphismOf first
-  first-is = shape-morphism (s .first-shape)
-
-  second-is : morphismAt second (two .elements) (one .letters) ≡ morphismOf second
-  second-is = ap (morphismAt second (two .elements)) (s .same-letters) ∙ shape-morphism (s .second-shape)
-
-  letters-agree : lettersOf first ≡ lettersOf second
-  letters-agree = sym (s .first-shape .letters) ∙ s .same-letters ∙ s .second-shape .letters
-
   pub two-tables : TwoTables first (one .elements) second (two .elements) (one .letters)
   two-tables = record {
-    first-table = shape-table (s .first-shape) (s .first-good .table);
-    second-table = subst (Table second (two .elements)) (sym (s .same-letters)) (shape-table (s .second-shape) (s .second-good .table));
-    first-law = subst Lawful (sym first-is) (s .first-good .lawful);
-    second-law = subst Lawful (sym second-is) (s .second-good .lawful);
+    first-table = first-read (s .files);
+    second-table = second-read-too (s .files) (s .same-letters);
+    first-law = first-law (s .files);
+    second-law = subst Lawful (sym (second-is-too (s .files) (s .same-letters))) (s .files .second-good .lawful);
   }
 
   pub some-letters : 1 ≤ one .letters
-  some-letters = omega (arith, s .first-good .letters-some, s .first-shape .letters)
-
-  -- what a strong rule has
-  first-grades : StrongGrades (morphismOf first) (markingOf first)
-  first-grades = record { lawful = s .first-good .lawful; reached = s .first-good .reached; grades = graded-marks (s .first-good); strong = s .strong .first-strong }
-
-  second-grades : StrongGrades (morphismOf second) (markingOf second)
-  second-grades = record { lawful = s .second-good .lawful; reached = s .second-good .reached; grades = graded-marks (s .second-good); strong = s .strong .second-strong }
+  some-letters = omega (arith, s .files .first-good .letters-some, s .files .first-shape .letters)
 
   module _ {zeroed : List ℕ} (z : PartZeroed pairNumbersBase pairLeftsBase entry zeroed) where
     -- no pair has a number
     pub list-empty : Empty zeroed
-    list-empty = record { room = omega (arith, s .room, z .outside .same-length); blank = z .zeros }
+    list-empty = record { room = omega (arith, s .files .room, z .outside .same-length); blank = z .zeros }
 
     -- the list, or more than 64 pairs
     module _ {listed : List ℕ} (answer : PairCount)
@@ -78,10 +59,10 @@ module _ {first second : List ℕ} {one two : Shape} {entry out : List ℕ} (s :
           let more : MorePairs (morphismAt first (one .elements) (one .letters)) (morphismAt second (two .elements) (one .letters)) 64 =
           subst (ListAnswer first (one .elements) second (two .elements) (one .letters) listed) e (l .says) in
           let of-files : MorePairs (morphismOf first) (morphismOf second) 64 =
-          subst (λ (m : Morphism). MorePairs (morphismOf first) m 64) second-is
-          (subst (λ (m : Morphism). MorePairs m (morphismAt second (two .elements) (one .letters)) 64) first-is more) in
+          subst (λ (m : Morphism). MorePairs (morphismOf first) m 64) (second-is-too (s .files) (s .same-letters))
+          (subst (λ (m : Morphism). MorePairs m (morphismAt second (two .elements) (one .letters)) 64) (first-is (s .files)) more) in
           record {
-            refusal = pairs-last first second letters-agree (s .strong .first-strong) (s .strong .second-strong) of-files;
+            refusal = pairs-last first second (letters-agree (s .files) (s .same-letters)) (s .files .strong .first-strong) (s .files .strong .second-strong) of-files;
             answered = refl;
             same-length = l .kept .same-length ∙ z .outside .same-length;
           }
@@ -92,7 +73,7 @@ module _ {first second : List ℕ} {one two : Shape} {entry out : List ℕ} (s :
 
         pub write-place : PairsRuleNeeds first (one .elements) second (two .elements) (one .letters) count listed out
         write-place = record {
-          lay = record { list = list; room = omega (arith, s .room, z .outside .same-length, l .kept .same-length) };
+          lay = record { list = list; room = omega (arith, s .files .room, z .outside .same-length, l .kept .same-length) };
           letters-some = some-letters;
           out-room = s .out-room;
         }
@@ -100,11 +81,11 @@ module _ {first second : List ℕ} {one two : Shape} {entry out : List ℕ} (s :
         -- the closures stand behind the list and before it
         first-stands : MarkingAt (morphismOf first .size) (closure-grade (morphismOf first) (markingOf first)) listed searchEnd
         first-stands =
-            marking-kept searchEnd (s .first-good .table .small) (λ i g h. l .kept .after i (omega arith) ∙ z .outside .after i (omega arith)) (s .strong .first-closure)
+            marking-kept searchEnd (s .files .first-good .table .small) (λ i g h. l .kept .after i (omega arith) ∙ z .outside .after i (omega arith)) (s .files .strong .first-closure)
 
         second-stands : MarkingAt (morphismOf second .size) (closure-grade (morphismOf second) (markingOf second)) listed secondBase
         second-stands =
-            marking-kept secondBase (s .second-good .table .small) (λ i g h. l .kept .before i (omega arith) ∙ z .outside .before i (omega arith)) (s .strong .second-closure)
+            marking-kept secondBase (s .files .second-good .table .small) (λ i g h. l .kept .before i (omega arith) ∙ z .outside .before i (omega arith)) (s .files .strong .second-closure)
 
         -- the rule of the pairs was written
         module _ {operation : Operation} {exit after : List ℕ} {end : ℕ}
@@ -120,8 +101,8 @@ module _ {first second : List ℕ} {one two : Shape} {entry out : List ℕ} (s :
 
           pairs : PairsOf (morphismOf first) (morphismOf second) m (leftAt listed) (rightAt listed)
           pairs =
-              subst (λ (n : Morphism). PairsOf (morphismOf first) n m (leftAt listed) (rightAt listed)) second-is
-              (subst (λ (n : Morphism). PairsOf n (morphismAt second (two .elements) (one .letters)) m (leftAt listed) (rightAt listed)) first-is
+              subst (λ (n : Morphism). PairsOf (morphismOf first) n m (leftAt listed) (rightAt listed)) (second-is-too (s .files) (s .same-letters))
+              (subst (λ (n : Morphism). PairsOf n (morphismAt second (two .elements) (one .letters)) m (leftAt listed) (rightAt listed)) (first-is (s .files))
               (table-pairs two-tables list (w .laid .table)))
 
           -- the grades that are combined are two looks in the closures
@@ -132,8 +113,8 @@ module _ {first second : List ℕ} {one two : Shape} {entry out : List ℕ} (s :
           unfolding pairGrade pairwise
           grade-looks i j hi hj =
               ap₂ (combinedGrade operation)
-              (sym (first-stands .same _ _ (left-inside pairs (s .first-good .lawful) i hi) (left-inside pairs (s .first-good .lawful) j hj)))
-              (sym (second-stands .same _ _ (right-inside pairs (s .second-good .lawful) i hi) (right-inside pairs (s .second-good .lawful) j hj)))
+              (sym (first-stands .same _ _ (left-inside pairs (s .files .first-good .lawful) i hi) (left-inside pairs (s .files .first-good .lawful) j hj)))
+              (sym (second-stands .same _ _ (right-inside pairs (s .files .second-good .lawful) i hi) (right-inside pairs (s .files .second-good .lawful) j hj)))
 
           looks : MarksOutcomes m
               (pairwise (combinedGrade operation) (closure-grade (morphismOf first) (markingOf first)) (closure-grade (morphismOf second) (markingOf second)) (leftAt listed)
@@ -144,10 +125,10 @@ module _ {first second : List ℕ} {one two : Shape} {entry out : List ℕ} (s :
           }
 
           combined : GradesCombined (combinedGrade operation) (morphismOf first) (markingOf first) (morphismOf second) (markingOf second) m marks
-          combined = combined-grades pairs law first-grades second-grades (combinedGrade operation) looks
+          combined = combined-grades pairs law (first-grades (s .files)) (second-grades (s .files)) (combinedGrade operation) looks
 
           good : GradedMarks m marks
-          good = combined-good pairs law first-grades second-grades (combinedGrade operation) looks (combined-small operation)
+          good = combined-good pairs law (first-grades (s .files)) (second-grades (s .files)) (combinedGrade operation) looks (combined-small operation)
 
           fits : FitsFormat m
           fits = record { some = list .some; small = list .few; letters-some = some-letters; letters-small = two-tables .first-table .letters-small }
@@ -168,12 +149,12 @@ module _ {first second : List ℕ} {one two : Shape} {entry out : List ℕ} (s :
           not-more : MorePairs (morphismOf first) (morphismOf second) 64 → ⊥
           not-more more =
               no-more-pairs two-tables list
-              (subst (λ (n : Morphism). MorePairs n (morphismAt second (two .elements) (one .letters)) 64) (sym first-is)
-              (subst (λ (n : Morphism). MorePairs (morphismOf first) n 64) (sym second-is) more))
+              (subst (λ (n : Morphism). MorePairs n (morphismAt second (two .elements) (one .letters)) 64) (sym (first-is (s .files)))
+              (subst (λ (n : Morphism). MorePairs (morphismOf first) n 64) (sym (second-is-too (s .files) (s .same-letters))) more))
 
           pub pairs-combined : PairsPromise first second operation out after entry exit (Is-rule end)
           pairs-combined = record {
-            refusal = none-fails first second letters-agree (s .strong .first-strong) (s .strong .second-strong) not-more;
+            refusal = none-fails first second (letters-agree (s .files) (s .same-letters)) (s .files .strong .first-strong) (s .files .strong .second-strong) not-more;
             answered = combined-to;
             same-length = w .laid .same-length ∙ l .kept .same-length ∙ z .outside .same-length;
           }

@@ -4,14 +4,11 @@ use mathlib.Core.Path.{_≡_}
 use mathlib.Core.List.{List}
 use lib.ListN.{length}
 use Rattle.answer.specs.Checks.{FirstFailure}
-use Rattle.formats.specs.RuleFile.{morphismOf, markingOf}
-use Rattle.formats.specs.RuleChecks.{ruleSize, scratchSize}
+use Rattle.formats.specs.RuleChecks.{ruleSize}
 use Rattle.rule_layout.specs.declared.Shape.{Shape}
-use Rattle.rule_layout.specs.Answers.{IsShape}
-use Rattle.rule_check.specs.GoodRule.{GoodRule}
 use Rattle.two_rules.specs.declared.BothChecked.the-variants.{Rules}
 use Rattle.two_rules.specs.Checking.{BothPromise}
-use Rattle.two_rules.specs.Deciding.{BothStrong}
+use Rattle.two_rules.specs.Deciding.{StrongFiles}
 use Rattle.promises.specs.declared.Operation.{Operation}
 use Rattle.promises.specs.declared.Combined.{Combined}
 use Rattle.promises.specs.Combine.{pairChecks, combinedVerdict, CombinedAnswer}
@@ -24,13 +21,8 @@ pub record BothReady (first second : List ℕ) (one two : Shape) (scratch out : 
 
 -- two good rules over as many letters, both strong, the closures of their marks in scratch
 pub record StrongReady (first second : List ℕ) (one two : Shape) (scratch out : List ℕ) : Type 0 where
-  pub first-good : GoodRule first
-  pub second-good : GoodRule second
-  pub first-shape : IsShape first one
-  pub second-shape : IsShape second two
+  pub files : StrongFiles first second one two scratch
   pub same-letters : one .letters ≡ two .letters
-  pub strong : BothStrong (morphismOf first) (morphismOf second) (markingOf first) (markingOf second) scratch
-  pub room : scratchSize ≤ length scratch
   pub out-room : ruleSize ≤ length out
 
 -- the verdict of the checks behind those of the files, and what was written

@@ -1,11 +1,11 @@
 -- What the definitions of the rows leave out: for each a case that it excludes. Assumes nothing.
 use Prim.Native.Nat.{ℕ, _≤_, _<_}
 use native.Mathlib.Omega.{arith}
-use mathlib.Core.Path.{_≡_, refl, sym, _∙_}
+use mathlib.Core.Path.{_≡_, refl, sym, ap, _∙_}
 use mathlib.Core.Bool.{Bool, not, _||_}
 use mathlib.Core.Logic.{⊎-elim}
 use mathlib.Core.List.{List, [], _∷_, _++_}
-use lib.ListN.{length, drop, replicate, length-replicate}
+use lib.ListN.{length, drop, replicate, getD, length-replicate}
 use Rattle.finite.proofs.Tests.{T-or-cases, not-T}
 use Rattle.answer.specs.Checks.{passed, numbered}
 use Rattle.theory.specs.Words.{Over, over-cons}
@@ -18,6 +18,7 @@ use Rattle.promises.specs.declared.Reduced.the-variants.{Rule as Is-rule}
 use Rattle.formats.specs.RuleChecks.{ruleSize, scratchSize}
 use Rattle.examples.specs.Files.{W, W-all, one-element, Z, Z₀, not-associative, unreached, automaton}
 use Rattle.promises.specs.Printed.{Prints}
+use Rattle.promises.specs.Reduce.{mapSize}
 use Rattle.promises.proofs.Printing.{other-print}
 use Rattle.rule_check.proofs.CheckedRule.{graded-marks}
 use Rattle.theory.proofs.Computing.{lasso-elim, graded-is}
@@ -103,30 +104,30 @@ always-one k = let e : _≡_ {A = ℕ} 1 2 = one-number k (examples .m1 .3) in o
 pub copied-table : ¬ ReducesTo Z₀ 2
 copied-table k = let e : _≡_ {A = ℕ} 2 1 = one-number k (examples .m7 .3) in omega arith
 
--- W with all linked pairs marked, copied to out
-module _ (before entry : List ℕ) (long : ruleSize ≤ length before) (room : scratchSize ≤ length entry) (k : ReducesToBytes W-all W-all) where
-  abbrev after : List ℕ
-  after = W-all ++ drop 19 before
+-- W with all linked pairs marked, copied to out, or mapped to itself
+module _ (before map entry : List ℕ) (long : ruleSize ≤ length before) (map-long : mapSize ≤ length map) (room : scratchSize ≤ length entry) {file moves : List ℕ}
+    (k : ReducesToBytes W-all file moves) where
+  handed : HandsBack one-element (0 ∷ 0 ∷ []) before (file ++ drop (length file) before) map (moves ++ drop (length moves) map) entry (replicate (length entry) 0) (Is-rule (length file))
+  handed =
+      examples .m4 .1 .exactly _ _ _ _ _ _ _ long map-long room .0
+      (k .exactly before (file ++ drop (length file) before) map (moves ++ drop (length moves) map) entry (replicate (length entry) 0) (Is-rule (length file)) long map-long room .1
+      (record { answer-is = refl; stands = record { holds = refl; counts = refl }; map-stands = record { holds = refl; counts = refl }; scratch-is = refl }))
 
-  abbrev exit : List ℕ
-  exit = replicate (length entry) 0
+zeros-long : (n : ℕ) → n ≤ length (replicate {A = ℕ} n 0)
+zeros-long n = omega (arith, length-replicate {A = ℕ} n 0)
 
-  copy : HandsBack W-all before after entry exit (Is-rule 19)
-  copy = record { end = 19; answer-is = refl; stands = record { holds = refl; counts = refl }; scratch-is = refl }
+pub copied-file : ¬ ReducesToBytes W-all W-all (0 ∷ 0 ∷ [])
+copied-file k =
+    let r = handed (replicate ruleSize 0) (replicate mapSize 0) (replicate scratchSize 0) (zeros-long ruleSize) (zeros-long mapSize) (zeros-long scratchSize) k in
+    let e = r .answer-is in
+    let f : _≡_ {A = ℕ} 19 10 = cc in
+    omega arith
 
-  reduced : HandsBack one-element before after entry exit (Is-rule 19)
-  reduced = examples .m4 .1 .exactly before after entry exit (Is-rule 19) long room .0 (k .exactly before after entry exit (Is-rule 19) long room .1 copy)
-
-  not-copied : ⊥
-  not-copied =
-      let e = reduced .answer-is in
-      let f : 19 ≡ reduced .end = cc in
-      omega (arith, reduced .stands .counts)
-
-pub copied-file : ¬ ReducesToBytes W-all W-all
-copied-file =
-    not-copied (replicate ruleSize 0) (replicate scratchSize 0) (omega (arith, length-replicate {A = ℕ} ruleSize 0))
-    (omega (arith, length-replicate {A = ℕ} scratchSize 0))
+pub mapped-to-itself : ¬ ReducesToBytes W-all one-element (0 ∷ 1 ∷ [])
+mapped-to-itself k =
+    let r = handed (replicate ruleSize 0) (replicate mapSize 0) (replicate scratchSize 0) (zeros-long ruleSize) (zeros-long mapSize) (zeros-long scratchSize) k in
+    let e : _≡_ {A = ℕ} 1 0 = ap (λ (l : List ℕ). getD l 1 0) (r .map-stands .holds) in
+    omega arith
 
 -- ---- automata
 
@@ -140,6 +141,9 @@ two-matrices k = let h : 2 < 2 = k .matrices 2 .0 (examples .m10 .matrices 2 .1 
 abbrev out : List ℕ
 out = replicate ruleSize 0
 
+abbrev map : List ℕ
+map = replicate mapSize 0
+
 abbrev scratch : List ℕ
 scratch = replicate scratchSize 0
 
@@ -147,12 +151,14 @@ all-prints : Prints W-all one-element
 all-prints = record {
   before = out;
   after = one-element ++ drop 10 out;
+  map-before = map;
+  map-after = 0 ∷ 0 ∷ drop 2 map;
   entry = scratch;
   exit = replicate (length scratch) 0;
   end = 10;
-  promised = examples .m4 .1 .exactly out (one-element ++ drop 10 out) scratch (replicate (length scratch) 0) (Is-rule 10)
-      (omega (arith, length-replicate {A = ℕ} ruleSize 0)) (omega (arith, length-replicate {A = ℕ} scratchSize 0)) .1
-      (record { end = 10; answer-is = refl; stands = record { holds = refl; counts = refl }; scratch-is = refl });
+  promised = examples .m4 .1 .exactly out (one-element ++ drop 10 out) map (0 ∷ 0 ∷ drop 2 map) scratch (replicate (length scratch) 0) (Is-rule 10)
+      (zeros-long ruleSize) (zeros-long mapSize) (zeros-long scratchSize) .1
+      (record { answer-is = refl; stands = record { holds = refl; counts = refl }; map-stands = record { holds = refl; counts = refl }; scratch-is = refl });
   printed = record { holds = refl; counts = refl };
 }
 

@@ -17,7 +17,7 @@ use Rattle.formats.specs.RuleChecks.{ruleChecks, ruleSize, scratchSize}
 use Rattle.formats.specs.Front.{AtFront}
 use Rattle.promises.specs.declared.Reduced.{Reduced}
 use Rattle.promises.specs.declared.Reduced.the-variants.{Rule as Is-rule}
-use Rattle.promises.specs.Reduce.{ruleOf, ReducePromise}
+use Rattle.promises.specs.Reduce.{mapSize, ruleOf, ReducePromise}
 use Rattle.buchi.specs.Rule.{MoreMatrices}
 use Rattle.promises.specs.declared.Translated.{Translated}
 use Rattle.promises.specs.declared.Translated.the-variants.{Rule as Is-translated}
@@ -80,17 +80,18 @@ pub record ReducesTo (bytes : List ℕ) (n : ℕ) : Type 0 where
   pub lawful : Lawful (morphismOf bytes)
   pub reduces : (law : Lawful (morphismOf bytes)) → RuleReducesTo (ruleOf bytes law) n
 
--- what a call hands back that reduces to the file: its length, out with the file at its front, and zeros in scratch
-pub record HandsBack (file before after entry exit : List ℕ) (answer : Reduced) : Type 0 where
-  pub end : ℕ
-  pub answer-is : answer ≡ Is-rule end
-  pub stands : AtFront file before after end
+-- what a call hands back that reduces to the file by the moves: the file's length, out with the file and map with the moves at the front, and
+-- zeros in scratch
+pub record HandsBack (file moves before after map map′ entry exit : List ℕ) (answer : Reduced) : Type 0 where
+  pub answer-is : answer ≡ Is-rule (length file)
+  pub stands : AtFront file before after (length file)
+  pub map-stands : AtFront moves map map′ (length moves)
   pub scratch-is : exit ≡ replicate (length entry) 0
 
 -- with buffers that are long enough, the call's promise allows this and nothing else
-pub record ReducesToBytes (bytes file : List ℕ) : Type 0 where
-  pub exactly : (before after entry exit : List ℕ) (answer : Reduced) → ruleSize ≤ length before → scratchSize ≤ length entry
-      → ReducePromise bytes before after entry exit answer ↔ HandsBack file before after entry exit answer
+pub record ReducesToBytes (bytes file moves : List ℕ) : Type 0 where
+  pub exactly : (before after map map′ entry exit : List ℕ) (answer : Reduced) → ruleSize ≤ length before → mapSize ≤ length map → scratchSize ≤ length entry
+      → ReducePromise bytes before after map map′ entry exit answer ↔ HandsBack file moves before after map map′ entry exit answer
 
 -- an answer to an automaton, with two buffers, that the call's promise allows
 pub record Translation (bytes before entry : List ℕ) : Type 0 where
@@ -128,8 +129,8 @@ pub record Examples : Type 0 where
   pub m2 : AcceptsLasso W (1 ∷ []) (0 ∷ [])
   -- "M3 W refuses u=0, v=1."
   pub m3 : RefusesLasso W (0 ∷ []) (1 ∷ [])
-  -- "M4 W with all 3 linked pairs marked reduces to bytes 1 0 2 0 0 1 0 0 0.", with the grade 3 behind its mark
-  pub m4 : MarksLinked W-all × ReducesToBytes W-all one-element
+  -- "M4 W with all 3 linked pairs marked reduces to bytes 1 0 2 0 0 1 0 0 0.", with the grade 3 behind its mark; both elements go to the one
+  pub m4 : MarksLinked W-all × ReducesToBytes W-all one-element (0 ∷ 0 ∷ [])
   -- "M5 Z has 2 linked pairs, 1 class, 1 join."
   pub m5 : ChecksTo Z passed × ClassCounts (morphismOf Z) 2 1 1
   -- "M6 Z is weak: u=0, v=1 isn't accepted, though its pair (1, 0) is conjugate to the mark; u=0, v=0 0, with equal values, is

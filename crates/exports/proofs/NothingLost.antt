@@ -16,7 +16,7 @@ use Rattle.answer.proofs.Limits.{Limited, limited-nil, limited-cons, limited-ap
 use Rattle.theory.specs.Rules.{Morphism, Marking}
 use Rattle.theory.specs.Pairs.{LinkedPairs, Classes, LeastExponent}
 use Rattle.formats.specs.RuleFile.{elementsOf, lettersOf, morphismOf}
-use Rattle.formats.specs.RuleChecks.{ruleSize, bufferCheck, ruleChecks}
+use Rattle.formats.specs.RuleChecks.{ruleChecks}
 use Rattle.formats.specs.Calls.{checkedChecks}
 use Rattle.rule_check.proofs.Calls.{called-good}
 use Rattle.rule_check.proofs.CheckedRule.{graded-marks}
@@ -42,6 +42,9 @@ use Rattle.promises.specs.Complement.{ComplementPromise}
 use Rattle.promises.specs.declared.Operation.{Operation}
 use Rattle.promises.specs.declared.Combined.{Combined}
 use Rattle.promises.specs.declared.Combined.the-variants.{Rule as Combined-rule, Refused as Not-combined}
+use Rattle.promises.specs.declared.Confirmation.{Confirmation}
+use Rattle.promises.specs.declared.Confirmation.the-variants.{Yes, No, Refused as Not-confirmed}
+use Rattle.promises.specs.Confirm.{ConfirmPromise}
 use Rattle.promises.specs.Combine.{LettersDifferAt, TooManyPairsAt, CombinePromise}
 use Rattle.promises.specs.declared.Inclusion.{Inclusion}
 use Rattle.promises.specs.declared.Inclusion.the-variants.{Included, NotIncluded, Refused as Not-compared}
@@ -68,10 +71,10 @@ use Rattle.promises.specs.declared.Strength.the-variants.{Strong, Weak, Refused
 use Rattle.promises.specs.Strong.{StrongPromise}
 use Rattle.promises.specs.declared.MonitorVerdict.{MonitorVerdict}
 use Rattle.promises.specs.declared.MonitorVerdict.the-variants.{Decided as Judged, Refused as Not-judged}
-use Rattle.packing.specs.Packing.{unpack, listedContents, strengthContents, membershipContents, complementedContents, reducedContents, combinedContents, bit, partitionContents, translatedContents, inclusionContents, monitorContents, movedContents, monitorVerdictContents, kindContents, successorsContents, packMonitor}
+use Rattle.packing.specs.Packing.{unpack, listedContents, strengthContents, membershipContents, complementedContents, reducedContents, confirmationContents, combinedContents, bit, partitionContents, translatedContents, inclusionContents, monitorContents, movedContents, monitorVerdictContents, kindContents, successorsContents, packMonitor}
 use Rattle.packing.proofs.ReadBack.{FieldsFit, Fits, read-back}
-use Rattle.packing.proofs.Contents.{listed-told, strength-told, membership-told, complemented-told, reduced-told, combined-told, partition-told, translated-told, inclusion-told, judged-told, moved-told, kind-told, successors-told}
-use Rattle.exports.specs.Exports.{ExportedClasses, ExportedStrength, ExportedMember, ExportedComplement, ExportedInclusion, ExportedEvent, ExportedMark, ExportedKeep, ExportedReturn, ExportedReduction, ExportedCombination, ExportedRounds, ExportedVerdict, ExportedAutomaton, ExportedKind, ExportedSuccessors}
+use Rattle.packing.proofs.Contents.{listed-told, strength-told, membership-told, complemented-told, reduced-told, confirmation-told, combined-told, partition-told, translated-told, inclusion-told, judged-told, moved-told, kind-told, successors-told}
+use Rattle.exports.specs.Exports.{ExportedClasses, ExportedStrength, ExportedMember, ExportedComplement, ExportedInclusion, ExportedEvent, ExportedMark, ExportedKeep, ExportedReturn, ExportedReduction, ExportedConfirmation, ExportedCombination, ExportedRounds, ExportedVerdict, ExportedAutomaton, ExportedKind, ExportedSuccessors}
 use Rattle.exports.proofs.Limits.{Near, near, refused-fits, at-zero, buffer-limited, rule-limited, checked-limited, second-limited, lasso-limited}
 use Rattle.exports.proofs.AutomatonLimits.{translated-limited}
 use Rattle.exports.proofs.Monitors.{mark-fits, event-fits, keep-fits, return-fits}
@@ -93,10 +96,9 @@ written-fits : {m : Morphism} {marks : Marking} {entry exit : List ℕ} {r : ℕ
 written-fits w = record { first = omega (arith, w .front .counts, w .shape .short); second = omega arith; third = omega arith }
 
 -- the checks of the calls that write a rule, and of those that get a monitor
-strong-rule-limited : {out : List ℕ} (bytes entry : List ℕ) → Limited Near (bufferCheck ruleSize out ∷ (checkedChecks 1 bytes entry ++ (weakCheck 1 bytes ∷ [])))
-strong-rule-limited bytes entry =
-    buffer-limited (limited-append (checkedChecks 1 bytes entry) (checked-limited bytes entry)
-    (λ _. limited-cons (λ place (f : WeakAt _ place). at-zero (f .is-place)) (λ _. limited-nil)))
+checked-strong-limited : (bytes entry : List ℕ) → Limited Near (checkedChecks 1 bytes entry ++ (weakCheck 1 bytes ∷ []))
+checked-strong-limited bytes entry =
+    limited-append (checkedChecks 1 bytes entry) (checked-limited bytes entry) (λ _. limited-cons (λ place (f : WeakAt _ place). at-zero (f .is-place)) (λ _. limited-nil))
 
 monitor-limited : (bytes : List ℕ) (f : Monitor) (entry : List ℕ) → Limited Near (monitorChecks bytes f entry)
 monitor-limited bytes f entry =
@@ -133,12 +135,21 @@ member-fits {bytes} {u} {v} {entry} (Not-a-member r i place) p =
 complement-fits : {bytes before after entry exit : List ℕ} (answer : Complemented) → ComplementPromise bytes before after entry exit answer
     → Fits (complementedContents answer)
 complement-fits (Complement-rule length) p = written-fits (p .answered .written)
-complement-fits {bytes} {entry = entry} (Not-complemented r i place) p = refused-fits r (strong-rule-limited bytes entry) (p .refusal)
+complement-fits {bytes} {entry = entry} (Not-complemented r i place) p = refused-fits r (buffer-limited (checked-strong-limited bytes entry)) (p .refusal)
 
 -- reduce
-reduce-fits : {bytes before after entry exit : List ℕ} (answer : Reduced) → ReducePromise bytes before after entry exit answer → Fits (reducedContents answer)
+reduce-fits : {bytes before after map map′ entry exit : List ℕ} (answer : Reduced) → ReducePromise bytes before after map map′ entry exit answer → Fits (reducedContents answer)
 reduce-fits (Reduced-rule length) p = written-fits (p .answered .written)
-reduce-fits {bytes} {entry = entry} (Not-reduced r i place) p = refused-fits r (strong-rule-limited bytes entry) (p .refusal)
+reduce-fits {bytes} {entry = entry} (Not-reduced r i place) p = refused-fits r (buffer-limited (buffer-limited (checked-strong-limited bytes entry))) (p .refusal)
+
+-- confirm
+confirm-fits : {first second map entry exit : List ℕ} (answer : Confirmation) → ConfirmPromise first second map entry exit answer → Fits (confirmationContents answer)
+confirm-fits Yes p = bit-fits (omega arith)
+confirm-fits No p = bit-fits (omega arith)
+confirm-fits {first} {second} {entry = entry} (Not-confirmed r i place) p =
+    refused-fits r (limited-append (checkedChecks 1 first entry) (checked-limited first entry)
+    (λ _. limited-append (ruleChecks 2 second) (rule-limited 2 second (omega arith))
+    (λ _. limited-cons (λ place (f : WeakAt _ place). at-zero (f .is-place)) (λ _. limited-nil)))) (p .refusal)
 
 -- combine
 combine-fits : {first second : List ℕ} {operation : Operation} {before after entry exit : List ℕ} (answer : Combined)
@@ -265,6 +276,9 @@ module _ {bytes entry exit : List ℕ} {r : ℕ} where
   pub strong-read : (x : ExportedStrength bytes entry exit r) → unpack r ≡ strengthContents (x .answer)
   strong-read x = ap unpack (x .packed) ∙ read-back _ (strength-fits (x .answer) (x .promise))
 
+  pub confirm-read : {second map : List ℕ} (x : ExportedConfirmation bytes second map entry exit r) → unpack r ≡ confirmationContents (x .answer)
+  confirm-read x = ap unpack (x .packed) ∙ read-back _ (confirm-fits (x .answer) (x .promise))
+
   pub kind-read : {s e least : ℕ} (x : ExportedKind bytes s e least entry exit r) → unpack r ≡ kindContents (x .answer)
   kind-read x = ap unpack (x .packed) ∙ read-back _ (kind-fits (x .answer) (x .promise))
 
@@ -291,7 +305,7 @@ module _ {bytes entry exit : List ℕ} {r : ℕ} where
     pub complement-read : (x : ExportedComplement bytes before after entry exit r) → unpack r ≡ complementedContents (x .answer)
     complement-read x = ap unpack (x .packed) ∙ read-back _ (complement-fits (x .answer) (x .promise))
 
-    pub reduce-read : (x : ExportedReduction bytes before after entry exit r) → unpack r ≡ reducedContents (x .answer)
+    pub reduce-read : {map map′ : List ℕ} (x : ExportedReduction bytes before after map map′ entry exit r) → unpack r ≡ reducedContents (x .answer)
     reduce-read x = ap unpack (x .packed) ∙ read-back _ (reduce-fits (x .answer) (x .promise))
 
     pub combine-read : {second : List ℕ} {operation : Operation} (x : ExportedCombination bytes second operation before after entry exit r) → unpack r ≡ combinedContents (x .answer)
@@ -317,6 +331,10 @@ module _ {bytes entry exit : List ℕ} {r : ℕ} where
 module _ {bytes entry exit bytes′ entry′ exit′ : List ℕ} {r : ℕ} where
   pub strong-told : (x : ExportedStrength bytes entry exit r) (y : ExportedStrength bytes′ entry′ exit′ r) → x .answer ≡ y .answer
   strong-told x y = strength-told _ _ (sym (strong-read x) ∙ strong-read y)
+
+  pub confirm-told : {second map second′ map′ : List ℕ} (x : ExportedConfirmation bytes second map entry exit r) (y : ExportedConfirmation bytes′ second′ map′ entry′ exit′ r)
+      → x .answer ≡ y .answer
+  confirm-told x y = confirmation-told _ _ (sym (confirm-read x) ∙ confirm-read y)
 
   pub state-kind-told : {s e least s′ e′ least′ : ℕ} (x : ExportedKind bytes s e least entry exit r) (y : ExportedKind bytes′ s′ e′ least′ entry′ exit′ r)
       → x .answer ≡ y .answer
@@ -352,7 +370,8 @@ module _ {bytes entry exit bytes′ entry′ exit′ : List ℕ} {r : ℕ} where
         → x .answer ≡ y .answer
     complement-told x y = complemented-told _ _ (sym (complement-read x) ∙ complement-read y)
 
-    pub reduce-told : (x : ExportedReduction bytes before after entry exit r) (y : ExportedReduction bytes′ before′ after′ entry′ exit′ r)
+    pub reduce-told : {map map-after map′ map-after′ : List ℕ} (x : ExportedReduction bytes before after map map-after entry exit r)
+        (y : ExportedReduction bytes′ before′ after′ map′ map-after′ entry′ exit′ r)
         → x .answer ≡ y .answer
     reduce-told x y = reduced-told _ _ (sym (reduce-read x) ∙ reduce-read y)
 

@@ -11,6 +11,8 @@ use Rattle.promises.specs.Complement.{ComplementPromise}
 use Rattle.promises.specs.declared.Operation.{Operation}
 use Rattle.promises.specs.declared.Combined.{Combined}
 use Rattle.promises.specs.Combine.{CombinePromise}
+use Rattle.promises.specs.declared.Confirmation.{Confirmation}
+use Rattle.promises.specs.Confirm.{ConfirmPromise}
 use Rattle.promises.specs.declared.Inclusion.{Inclusion}
 use Rattle.promises.specs.Inclusion.{InclusionPromise}
 use Rattle.promises.specs.declared.Membership.{Membership}
@@ -30,7 +32,7 @@ use Rattle.promises.specs.declared.Strength.{Strength}
 use Rattle.promises.specs.Strong.{StrongPromise}
 use Rattle.promises.specs.declared.MonitorVerdict.{MonitorVerdict}
 use Rattle.promises.specs.Verdict.{VerdictPromise}
-use Rattle.packing.specs.Packing.{packListed, packStrength, packMembership, packComplemented, packReduced, packCombined, packPartition, packTranslated, packInclusion, packMoved, packMonitorVerdict, packKind, packSuccessors}
+use Rattle.packing.specs.Packing.{packListed, packStrength, packMembership, packComplemented, packReduced, packConfirmation, packCombined, packPartition, packTranslated, packInclusion, packMoved, packMonitorVerdict, packKind, packSuccessors}
 
 pub record ExportedClasses (bytes out-entry out-exit entry exit : List ℕ) (r : ℕ) : Type 0 where
   pub answer : Listed
@@ -77,10 +79,15 @@ pub record ExportedReturn (bytes : List ℕ) (m : Monitor) (name : ℕ) (points 
   pub promise : ReturnPromise bytes m name points entry exit answer
   pub packed : r ≡ packMoved answer
 
-pub record ExportedReduction (bytes out-entry out-exit entry exit : List ℕ) (r : ℕ) : Type 0 where
+pub record ExportedReduction (bytes out-entry out-exit map-entry map-exit entry exit : List ℕ) (r : ℕ) : Type 0 where
   pub answer : Reduced
-  pub promise : ReducePromise bytes out-entry out-exit entry exit answer
+  pub promise : ReducePromise bytes out-entry out-exit map-entry map-exit entry exit answer
   pub packed : r ≡ packReduced answer
+
+pub record ExportedConfirmation (first second map entry exit : List ℕ) (r : ℕ) : Type 0 where
+  pub answer : Confirmation
+  pub promise : ConfirmPromise first second map entry exit answer
+  pub packed : r ≡ packConfirmation answer
 
 pub record ExportedCombination (first second : List ℕ) (operation : Operation) (out-entry out-exit entry exit : List ℕ) (r : ℕ) : Type 0 where
   pub answer : Combined

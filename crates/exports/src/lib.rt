@@ -3,6 +3,7 @@
 // buffer that is written overlaps no other.
 use packing::pack_combined;
 use packing::pack_complemented;
+use packing::pack_confirmation;
 use packing::pack_fields;
 use packing::pack_inclusion;
 use packing::pack_kind;
@@ -21,7 +22,7 @@ ghost use mathlib.Core.Path.{_≡_};
 ghost use Rattle.promises.specs.Monitor.{freshMonitor};
 ghost use Rattle.promises.specs.declared.Operation.the-variants.{Both, Either, Without};
 ghost use Rattle.packing.specs.Packing.{packMonitor};
-ghost use Rattle.exports.specs.Exports.{ExportedClasses, ExportedStrength, ExportedMember, ExportedComplement, ExportedInclusion, ExportedEvent, ExportedMark, ExportedKeep, ExportedReturn, ExportedReduction, ExportedCombination, ExportedRounds, ExportedAutomaton, ExportedVerdict, ExportedKind, ExportedSuccessors};
+ghost use Rattle.exports.specs.Exports.{ExportedClasses, ExportedStrength, ExportedMember, ExportedComplement, ExportedInclusion, ExportedEvent, ExportedMark, ExportedKeep, ExportedReturn, ExportedReduction, ExportedConfirmation, ExportedCombination, ExportedRounds, ExportedAutomaton, ExportedVerdict, ExportedKind, ExportedSuccessors};
 
 // The linked pairs, the classes and the joins; each pair's class in `out`.
 #[no_mangle]
@@ -143,12 +144,30 @@ pub extern "C" fn duknavet_verdict(
     pack_monitor_verdict(rules::verdict(rule, Monitor { before, since }, scratch))
 }
 
-// How many bytes the reduction has, which stands in `out`.
+// How many bytes the reduction has, which stands in `out`; in `map` for each element of the rule the number of the element that it went to.
 #[no_mangle]
-pub extern "C" fn duknavet_reduce(rule: &[u8], out: &mut [u8], scratch: &mut [u8]) -> u64
-    ensures { λ r. ⌜ ExportedReduction (now (rule .entry)) (now (out .entry)) (now (out .exit)) (now (scratch .entry)) (now (scratch .exit)) r ⌝ }
+pub extern "C" fn duknavet_reduce(
+    rule: &[u8],
+    out: &mut [u8],
+    map: &mut [u8],
+    scratch: &mut [u8],
+) -> u64
+    ensures { λ r. ⌜ ExportedReduction (now (rule .entry)) (now (out .entry)) (now (out .exit)) (now (map .entry)) (now (map .exit)) (now (scratch .entry)) (now (scratch .exit)) r ⌝ }
 {
-    pack_reduced(rules::reduce(rule, out, scratch))
+    pack_reduced(rules::reduce(rule, out, map, scratch))
+}
+
+// 1 if the second rule is the first one reduced by the map, else 0.
+#[no_mangle]
+pub extern "C" fn duknavet_confirm(
+    first: &[u8],
+    second: &[u8],
+    map: &[u8],
+    scratch: &mut [u8],
+) -> u64
+    ensures { λ r. ⌜ ExportedConfirmation (now (first .entry)) (now (second .entry)) (now (map .entry)) (now (scratch .entry)) (now (scratch .exit)) r ⌝ }
+{
+    pack_confirmation(rules::confirm(first, second, map, scratch))
 }
 
 // How many bytes the rule with the lower of two grades has, which stands in `out`.

@@ -3,6 +3,7 @@ pub mod Numbers
 pub mod Count
 pub mod Search
 pub mod Pigeonhole
+pub mod Preimages
 pub mod Worklist
 pub mod Shortlex
 pub mod FirstWords
@@ -12,4 +13,5 @@ pub mod Explored
 pub mod Discovery
 pub mod Select
 pub mod Tells
+pub mod Each
 pub mod Highest

@@ -3,3 +3,4 @@ pub mod Search
 pub mod Select
 pub mod Shortlex
 pub mod Tells
+pub mod Each

@@ -6,6 +6,7 @@ use mathlib.Core.List.{List}
 use Rattle.theory.specs.Words.{Over, over-nil, over-cons}
 use Rattle.theory.specs.Rules.{Morphism, Lawful, Value, element, join, value, WordOf, AllReached}
 use Rattle.theory.specs.Pairs.{Idempotent, Linked}
+use Rattle.theory.specs.Maps.{MapsOnto}
 use Rattle.theory.proofs.Values.{Inside, inside-none, inside-element, value-inside}
 
 -- the second morphism has the first one's size, letters, products and images
@@ -36,6 +37,17 @@ module _ {m m′ : Morphism} (agree : Agree m m′) where
     inside = below-second (l .inside);
     idempotent = agree-idempotent (l .idempotent);
     stays = agree .same-product s e (l .inside) (l .idempotent .inside) ∙ l .stays;
+  }
+
+  -- a map onto the elements of one is a map onto those of the other
+  pub agree-maps : {a : Morphism} {f : ℕ → ℕ} → a .letters ≡ m .letters → MapsOnto a m f → MapsOnto a m′ f
+  agree-maps {f = f} letters p = record {
+    inside = λ s h. below-second (p .inside s h);
+    onto = λ t h. p .onto t (below-first h);
+    carries = record {
+      products = λ s t hs ht. p .carries .products s t hs ht ∙ sym (agree .same-product (f s) (f t) (p .inside s hs) (p .inside t ht));
+      images = λ x h. p .carries .images x h ∙ sym (agree .same-image x (subst (λ (n : ℕ). x < n) letters h));
+    };
   }
 
   agree-join : {s : ℕ} {x : Value} → s < m .size → Inside m x → join m′ (element s) x ≡ join m (element s) x

@@ -18,26 +18,27 @@ use Rattle.theory.proofs.Gradings.{GradedMarks, one-grade}
 use Rattle.theory.proofs.ClosureGrades.{closure-grade, closure-grade-small}
 use Rattle.minimality.proofs.Contexts.{HasValue}
 use Rattle.minimality.proofs.Smallest.{outcome, LassoValues, lasso-values, values-outcome}
-use Rattle.minimality.proofs.Saturation.{DependsOnWord, MarksOutcomes, Saturates, marks-at-most, marks-saturate, saturates-graded}
-use Rattle.minimality.proofs.GradeOutcomes.{grading, grading-linked, grading-graded, grading-depends}
+use Rattle.minimality.proofs.Saturation.{DependsOnWord, MarksOutcomes, GradesAreOutcomes, Saturates, marks-at-most, marks-saturate, saturates-graded}
+use Rattle.minimality.proofs.GradeOutcomes.{grading, grading-linked, grading-outcome, grading-graded, grading-depends}
 
 -- the outcome of a lasso in a table that another is carried to: that of the carried values
-module _ {a b : Morphism} {to : ℕ → ℕ} (law : Lawful a) (law′ : Lawful b) (letters : a .letters ≡ b .letters) (f : Carries a b to) (acc : ℕ → ℕ → ℕ) where
-  has-carried : {w : List ℕ} {s : ℕ} → HasValue a w (element s) → HasValue b w (element (to s))
+module _ {a b : Morphism} {to : ℕ → ℕ} (law : Lawful a) (letters : a .letters ≡ b .letters) (f : Carries a b to) where
+  pub has-carried : {w : List ℕ} {s : ℕ} → HasValue a w (element s) → HasValue b w (element (to s))
   has-carried {w} h = record { over = subst (λ (k : ℕ). Over k w) letters (h .over); is = element-carried law f (h .over) (h .is) }
 
+module _ {a b : Morphism} {to : ℕ → ℕ} (law : Lawful a) (law′ : Lawful b) (letters : a .letters ≡ b .letters) (f : Carries a b to) (acc : ℕ → ℕ → ℕ) where
   has-inside : {w : List ℕ} {s : ℕ} → HasValue b w (element s) → s < b .size
   has-inside h = inside-of law′ (h .over) (h .is)
 
-  carried-outcome : {u v : List ℕ} (k : LassoValues a u v) → outcome b acc u v ≡ acc (to (k .start)) (to (k .cycle))
+  pub carried-outcome : {u v : List ℕ} (k : LassoValues a u v) → outcome b acc u v ≡ acc (to (k .start)) (to (k .cycle))
   carried-outcome {u} {v} k =
       let carried : LassoValues b u v = record {
         start = to (k .start);
         cycle = to (k .cycle);
-        start-inside = has-inside (has-carried (k .start-has));
-        cycle-inside = has-inside (has-carried (k .cycle-has));
-        start-has = has-carried (k .start-has);
-        cycle-has = has-carried (k .cycle-has);
+        start-inside = has-inside (has-carried law letters f (k .start-has));
+        cycle-inside = has-inside (has-carried law letters f (k .cycle-has));
+        start-has = has-carried law letters f (k .start-has);
+        cycle-has = has-carried law letters f (k .cycle-has);
       } in
       values-outcome acc carried
 
@@ -76,6 +77,9 @@ pub record StrongGrades (m : Morphism) (marks : Marking) : Type 0 where
   pub reached : AllReached m
   pub grades : GradedMarks m marks
   pub strong : StrongMarking m marks
+
+pub strong-outcomes : {m : Morphism} {marks : Marking} → StrongGrades m marks → GradesAreOutcomes m marks (grading m marks)
+strong-outcomes k = grading-outcome (k .lawful) (k .reached) (k .grades) (k .strong)
 
 -- each lasso has a number computed from its two grades for a grade; the marking is strong and marks each linked pair, and no other, with
 -- the grade of its lassos

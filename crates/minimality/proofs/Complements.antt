@@ -48,7 +48,7 @@ module _ {m : Morphism} {marks : Marking} (law : Lawful m) (reached : AllReached
   complement-rest {u} {v} g some h l =
       let a = complement-saturates .accepts (4 - g) (omega arith) u v l in
       let e = outcome-after law (grading m marks) (λ n. 3 - n) l in
-      let o = grading-outcome law reached good strong g some l in (
+      let o = grading-outcome law reached good strong g some u v l in (
         λ x y. (let p : 4 - g ≤ 3 - outcome m (grading m marks) u v = subst (λ n. 4 - g ≤ n) e (a .0 x) in omega (arith, o .0 y)),
         λ f. a .1 (subst (λ n. 4 - g ≤ n) (sym e)
             (⊎-elim (λ (k : g ≤ outcome m (grading m marks) u v). absurd (f (o .1 k))) (λ k. omega arith) (le-or-lt g (outcome m (grading m marks) u v)))),

@@ -14,6 +14,8 @@ pub mod Complements
 pub mod Reductions
 pub mod Combined
 pub mod ReducedElements
+pub mod Discrete
+pub mod KeptGrades
 pub mod ReduceModel
 pub mod ReducedExamples
 pub mod GradeOutcomes

@@ -87,7 +87,7 @@ module _ (m : Morphism) (acc : ℕ → ℕ → ℕ) (i : ℕ) where
   leaders-count = listed (m .size) (leads m acc i) .count
 
   -- two leaders in one block are one
-  leaders-equal : (s t : ℕ) → T (leads m acc i s) → T (leads m acc i t) → Together m acc i s t → s ≡ t
+  pub leaders-equal : (s t : ℕ) → T (leads m acc i s) → T (leads m acc i t) → Together m acc i s t → s ≡ t
   leaders-equal s t p q r = go (compared s t)
     where
       go : Compared s t → s ≡ t

@@ -5,6 +5,7 @@ use mathlib.Core.Path.{_≡_, refl, sym, subst₂, ap, _∙_}
 use mathlib.Core.List.{List}
 use Rattle.theory.specs.Words.{Over, Lasso}
 use Rattle.theory.specs.Rules.{Morphism, Lawful, Value, element, value, WordOf, AllReached}
+use Rattle.theory.specs.Maps.{MapsOnto}
 use Rattle.theory.proofs.Values.{Inside, inside-none, inside-element}
 use Rattle.theory.proofs.Carried.{renamed, value-carried}
 use Rattle.theory.specs.Rounds.{SameOutcomes}
@@ -79,6 +80,15 @@ module _ {m : Morphism} {acc : ℕ → ℕ → ℕ} {c : ℕ} (law : Lawful m) (
     images = λ a h. b .number-below _ (law .images a h);
   }
 
+  -- the numbers are a map onto the blocks that carries products and letter images over
+  pub quotient-maps : MapsOnto m (quotient b) (b .number)
+  unfolding quotient
+  quotient-maps = record {
+    inside = b .number-below;
+    onto = λ j h. (b .leader j, b .leader-below j h, b .number-leader j h);
+    carries = record { products = number-product; images = λ a h. refl };
+  }
+
   renamed-inside : {x : Value} → Inside m x → Inside (quotient b) (renamed (b .number) x)
   unfolding quotient renamed
   renamed-inside inside-none = inside-none
@@ -87,7 +97,7 @@ module _ {m : Morphism} {acc : ℕ → ℕ → ℕ} {c : ℕ} (law : Lawful m) (
   -- a word's value is the number of its value before
   pub quotient-value : {w : List ℕ} → Over (m .letters) w → value (quotient b) w ≡ renamed (b .number) (value m w)
   unfolding quotient
-  quotient-value = value-carried law (record { products = number-product; images = λ a h. refl })
+  quotient-value = value-carried law (quotient-maps .carries)
 
   pub quotient-has : {w : List ℕ} {s : ℕ} → HasValue m w (element s) → HasValue (quotient b) w (element (b .number s))
   unfolding quotient renamed

@@ -11,10 +11,10 @@ use Rattle.theory.specs.Pairs.{LinkedOnly}
 use Rattle.theory.specs.Grades.{AtLeast, RuleStrong}
 use Rattle.theory.specs.Smallest.{SameGrades, Smallest, Reduction}
 use Rattle.theory.proofs.Gradings.{GradedMarks}
-use Rattle.minimality.proofs.Smallest.{outcome, Factors, smallest-size, smallest-copy}
+use Rattle.minimality.proofs.Smallest.{outcome, Factors, Syntactic, smallest-size, smallest-copy}
 use Rattle.minimality.proofs.Quotient.{Numbering, quotient, quotient-acc, quotient-lawful, quotient-reached, quotient-outcome, quotient-syntactic}
-use Rattle.minimality.proofs.Saturation.{DependsOnWord, saturated, Saturates, saturates}
-use Rattle.minimality.proofs.GradeOutcomes.{grading, grading-outcome, grading-depends}
+use Rattle.minimality.proofs.Saturation.{DependsOnWord, GradesAreOutcomes, saturated, Saturates, saturates}
+use Rattle.minimality.proofs.GradeOutcomes.{grading, grading-outcome, grading-depends, outcomes-same}
 
 -- c numbered blocks of the rule's elements, with the grade for the outcome
 abbrev pub RuleNumbering : Rule → ℕ → Type 0
@@ -44,6 +44,23 @@ strong-factors {m} {acc} rival strong letters accepted = record {
     moved g some u v u′ v′ l l′ p q h =
         accepted g some u′ v′ l′ .1
         (strong .at-each g some .both-or-neither u v u′ v′ (for-rival u v l) (for-rival u′ v′ l′) p q .0 (accepted g some u v l .0 h))
+
+-- a strong rule whose grades are outcomes, by which contexts tell its elements apart, is the smallest with its grades
+module _ (r : Rule) {acc : ℕ → ℕ → ℕ} (reached : AllReached (r .morphism)) (strong : RuleStrong r)
+    (accepts : GradesAreOutcomes (r .morphism) (r .marks) acc) where
+  -- a rival's values decide the outcomes
+  rival-factors : (rival : Rule) → RuleStrong rival → SameGrades r rival → Factors (r .morphism) acc (rival .morphism)
+  rival-factors rival rs same = strong-factors rival rs (same .same-letters) (λ g some u v l.
+      (let a = accepts g some u v l in
+      let s = same .both-or-neither g some u v l in
+      (λ h. s .0 (a .1 h), λ h. a .0 (s .1 h))))
+
+  pub syntactic-smallest : Syntactic (r .morphism) acc → Smallest r
+  syntactic-smallest apart = record {
+    strong = strong;
+    at-least = λ rival rs same. smallest-size acc (r .lawful) reached (rival .lawful) (sym (same .same-letters)) (rival-factors rival rs same) apart;
+    copy = λ rival rs same. smallest-copy acc (r .lawful) reached (rival .lawful) (sym (same .same-letters)) (rival-factors rival rs same) apart;
+  }
 
 module _ {c : ℕ} (r : Rule) (reached : AllReached (r .morphism)) (good : GradedMarks (r .morphism) (r .marks)) (strong : RuleStrong r) (b : RuleNumbering r c) where
   -- the blocks' outcome depends on the endless word only
@@ -75,40 +92,14 @@ module _ {c : ℕ} (r : Rule) (reached : AllReached (r .morphism)) (good : Grade
   -- it gives each lasso the same grade
   pub reduced-same : SameGrades r (reduced-rule r b)
   unfolding reduced-rule quotient
-  reduced-same = record {
-    same-letters = refl;
-    both-or-neither = λ g some u v l.
-        (let a = grading-outcome (r .lawful) reached good strong g some l in
-        let q = reduced-saturates .accepts g some u v l in
-        let e : outcome (quotient b) (quotient-acc b) u v ≡ outcome (r .morphism) (grading (r .morphism) (r .marks)) u v = quotient-outcome (r .lawful) b l in
-        (λ h. q .1 (subst (λ n. g ≤ n) (sym e) (a .0 h)), λ h. a .1 (subst (λ n. g ≤ n) e (q .0 h))));
-  }
-
-  module _ (rival : Rule) (rival-strong : RuleStrong rival) (same : SameGrades (reduced-rule r b) rival) where
-    rival-letters : quotient b .letters ≡ rival .morphism .letters
-    unfolding reduced-rule
-    rival-letters = same .same-letters
-
-    -- the rival's values decide the outcomes
-    pub rival-factors : Factors (quotient b) (quotient-acc b) (rival .morphism)
-    unfolding reduced-rule
-    rival-factors = strong-factors rival rival-strong rival-letters (λ g some u v l.
-        (let q = reduced-saturates .accepts g some u v l in
-        let s = same .both-or-neither g some u v l in
-        (λ h. s .0 (q .1 h), λ a. q .0 (s .1 a))))
+  reduced-same =
+      outcomes-same r (reduced-rule r b) (grading (r .morphism) (r .marks)) (quotient-acc b)
+      (grading-outcome (r .lawful) reached good strong) (reduced-saturates .accepts) refl (λ u v l. sym (quotient-outcome (r .lawful) b l))
 
   -- no strong rule with the same grades has fewer elements, and one with just as many is a renumbering
   pub reduced-smallest : Smallest (reduced-rule r b)
   unfolding reduced-rule
-  reduced-smallest = record {
-    strong = reduced-strong;
-    at-least = λ rival rs same.
-        smallest-size (quotient-acc b) (quotient-lawful (r .lawful) b) (quotient-reached (r .lawful) b reached) (rival .lawful)
-        (sym (rival-letters rival rs same)) (rival-factors rival rs same) (quotient-syntactic (r .lawful) b);
-    copy = λ rival rs same sizes.
-        smallest-copy (quotient-acc b) (quotient-lawful (r .lawful) b) (quotient-reached (r .lawful) b reached) (rival .lawful)
-        (sym (rival-letters rival rs same)) (rival-factors rival rs same) (quotient-syntactic (r .lawful) b) sizes;
-  }
+  reduced-smallest = syntactic-smallest (reduced-rule r b) reduced-reached reduced-strong (reduced-saturates .accepts) (quotient-syntactic (r .lawful) b)
 
   -- it is the reduction of the rule
   pub reduction-right : Reduction r (reduced-rule r b)

@@ -102,10 +102,14 @@ module _ {m : Morphism} {acc : ℕ → ℕ → ℕ} {marks : Marking} (by-outcom
       both-or-neither = λ u v u′ v′ l l′ eu ev. (one-way l l′ eu ev, one-way l′ l (sym eu) (sym ev));
     }
 
+-- a lasso has grade g or more exactly if its outcome is that or more
+abbrev pub GradesAreOutcomes : Morphism → Marking → (ℕ → ℕ → ℕ) → Type 0
+GradesAreOutcomes m marks acc = (g : ℕ) → 1 ≤ g → (u v : List ℕ) → Lasso (m .letters) u v → AtLeast m marks g u v ↔ (g ≤ outcome m acc u v)
+
 -- the linked pairs marked with their outcomes give each lasso its outcome for a grade, are strong, and each linked pair has the grade of
 -- its lassos
 pub record Saturates (m : Morphism) (acc : ℕ → ℕ → ℕ) (marks : Marking) : Type 0 where
-  pub accepts : (g : ℕ) → 1 ≤ g → (u v : List ℕ) → Lasso (m .letters) u v → AtLeast m marks g u v ↔ (g ≤ outcome m acc u v)
+  pub accepts : GradesAreOutcomes m marks acc
   pub strong : StrongMarking m marks
   pub linked-only : LinkedOnly m (level 1 marks)
   pub marks-grades : MarksGrades m marks

@@ -7,10 +7,8 @@ use mathlib.Core.Path.{_≡_, refl, sym, subst, ap, ap₂, _∙_}
 use mathlib.Core.Logic.{dite}
 use mathlib.Core.List.{List, [], _∷_, _++_}
 use lib.ListN.{length}
-use lib.Dec.{eqb, eqb→eq}
-use mir.Facts.{yes-eqb}
-use Rattle.finite.proofs.Search.{leastBelow, least-holds, least-bound}
 use Rattle.finite.proofs.Pigeonhole.{Injection, injection-le, injection-onto}
+use Rattle.finite.proofs.Preimages.{preimage, preimage-below, preimage-maps, preimage-injection}
 use Rattle.theory.specs.Words.{Over, over-nil, over-cons, Lasso}
 use Rattle.theory.specs.Rules.{Morphism, Lawful, Value, none, element, join, value, ValueWord, AllReached}
 use Rattle.theory.specs.Smallest.{Renumbered}
@@ -181,21 +179,18 @@ module _ {m rival : Morphism} (acc : ℕ → ℕ → ℕ) (law : Lawful m) (reac
     smallest-size = injection-le injection
 
     module _ (sizes : rival .size ≡ m .size) where
-      -- our element that is sent to b
-      back : ℕ → ℕ
-      back b = leastBelow (m .size) (λ s. eqb (send s) b)
-
       source : (b : ℕ) → b < rival .size → (s : ℕ) × (s < m .size) × (send s ≡ b)
       source b h = injection-onto (subst (λ n. Injection (m .size) n send) sizes injection) b (omega arith)
 
+      -- our element that is sent to b
+      abbrev back : ℕ → ℕ
+      back = preimage (m .size) send
+
       back-inside : (b : ℕ) → b < rival .size → back b < m .size
-      unfolding back
-      back-inside b h =
-          omega (arith, source b h .1, least-bound (m .size) (λ s. eqb (send s) b) (source b h .0) (source b h .1) (yes-eqb (source b h .2)))
+      back-inside = preimage-below source
 
       send-back : (b : ℕ) → b < rival .size → send (back b) ≡ b
-      unfolding back
-      send-back b h = eqb→eq _ _ (least-holds (m .size) (λ s. eqb (send s) b) (back-inside b h))
+      send-back = preimage-maps source
 
       back-has : (b : ℕ) → b < rival .size → HasValue m (chosen reached (back b)) (element (back b))
       back-has b h = chosen-has reached (back b) (back-inside b h)
@@ -231,7 +226,7 @@ module _ {m rival : Morphism} (acc : ℕ → ℕ → ℕ) (law : Lawful m) (reac
         same-letters = letters;
         to = back;
         inside = back-inside;
-        one-to-one = λ a b ha hb e. sym (send-back a ha) ∙ ap send e ∙ send-back b hb;
+        one-to-one = preimage-injection source .apart;
         onto = λ b h.
             (send b, send-inside b h, back-value (send b) (send-inside b h) h (chosen-has reached b h) (send-value b h));
         products = back-product;

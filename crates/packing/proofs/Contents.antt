@@ -11,6 +11,8 @@ use Rattle.promises.specs.declared.Listed.{Listed}
 use Rattle.promises.specs.declared.Listed.the-variants.{Counts, Refused as Not-listed}
 use Rattle.promises.specs.declared.Combined.{Combined}
 use Rattle.promises.specs.declared.Combined.the-variants.{Rule as Combined-rule, Refused as Not-combined}
+use Rattle.promises.specs.declared.Confirmation.{Confirmation}
+use Rattle.promises.specs.declared.Confirmation.the-variants.{Yes, No, Refused as Not-confirmed}
 use Rattle.promises.specs.declared.Inclusion.{Inclusion}
 use Rattle.promises.specs.declared.Inclusion.the-variants.{Included, NotIncluded, Refused as Not-compared}
 use Rattle.promises.specs.declared.Complemented.{Complemented}
@@ -33,7 +35,7 @@ use Rattle.promises.specs.declared.SuccessorList.{SuccessorList}
 use Rattle.promises.specs.declared.SuccessorList.the-variants.{Listed as Successors, Refused as No-successors}
 use Rattle.promises.specs.declared.Strength.{Strength}
 use Rattle.promises.specs.declared.Strength.the-variants.{Strong, Weak, Refused as Not-decided}
-use Rattle.packing.specs.Packing.{refusal-at, monitorContents, movedContents, listedContents, strengthContents, membershipContents, complementedContents, reducedContents, combinedContents, bit, partitionContents, translatedContents, inclusionContents, monitorVerdictContents, kindContents, successorsContents}
+use Rattle.packing.specs.Packing.{refusal-at, monitorContents, movedContents, listedContents, strengthContents, membershipContents, complementedContents, reducedContents, confirmationContents, combinedContents, bit, partitionContents, translatedContents, inclusionContents, monitorVerdictContents, kindContents, successorsContents}
 
 -- a refusal's contents are its verdict
 verdict-of : {n n′ i i′ p p′ : ℕ} → refusal-at n i p ≡ refusal-at n′ i′ p′ → numbered n i p ≡ numbered n′ i′ p′
@@ -73,6 +75,17 @@ reduced-told (Reduced-rule a) (Reduced-rule a′) e = cc
 reduced-told (Reduced-rule a) (Not-reduced r′ i′ p′) e = cc
 reduced-told (Not-reduced r i p) (Reduced-rule a′) e = cc
 reduced-told (Not-reduced r i p) (Not-reduced r′ i′ p′) e = same-refusal Not-reduced r r′ i i′ p p′ (verdict-of e)
+
+pub confirmation-told : (x y : Confirmation) → confirmationContents x ≡ confirmationContents y → x ≡ y
+confirmation-told Yes Yes e = refl
+confirmation-told Yes No e = cc
+confirmation-told Yes (Not-confirmed r′ i′ p′) e = cc
+confirmation-told No Yes e = cc
+confirmation-told No No e = refl
+confirmation-told No (Not-confirmed r′ i′ p′) e = cc
+confirmation-told (Not-confirmed r i p) Yes e = cc
+confirmation-told (Not-confirmed r i p) No e = cc
+confirmation-told (Not-confirmed r i p) (Not-confirmed r′ i′ p′) e = same-refusal Not-confirmed r r′ i i′ p p′ (verdict-of e)
 
 pub combined-told : (x y : Combined) → combinedContents x ≡ combinedContents y → x ≡ y
 combined-told (Combined-rule a) (Combined-rule a′) e = cc

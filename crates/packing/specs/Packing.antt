@@ -15,6 +15,8 @@ use Rattle.promises.specs.declared.Complemented.{Complemented}
 use Rattle.promises.specs.declared.Complemented.the-variants.{Rule as Complement-rule, Refused as Not-complemented}
 use Rattle.promises.specs.declared.Combined.{Combined}
 use Rattle.promises.specs.declared.Combined.the-variants.{Rule as Combined-rule, Refused as Not-combined}
+use Rattle.promises.specs.declared.Confirmation.{Confirmation}
+use Rattle.promises.specs.declared.Confirmation.the-variants.{Yes, No, Refused as Not-confirmed}
 use Rattle.promises.specs.declared.Inclusion.{Inclusion}
 use Rattle.promises.specs.declared.Inclusion.the-variants.{Included, NotIncluded, Refused as Not-compared}
 use Rattle.promises.specs.declared.Membership.{Membership}
@@ -98,6 +100,15 @@ reducedContents (Not-reduced refusal input place) = refusal-at (numberOf refusal
 
 abbrev pub packReduced : Reduced → ℕ
 packReduced answer = pack (reducedContents answer)
+
+-- 1 for yes
+abbrev pub confirmationContents : Confirmation → Contents
+confirmationContents Yes = fields 1 0 0
+confirmationContents No = fields 0 0 0
+confirmationContents (Not-confirmed refusal input place) = refusal-at (numberOf refusal) input place
+
+abbrev pub packConfirmation : Confirmation → ℕ
+packConfirmation answer = pack (confirmationContents answer)
 
 -- the rounds done, and 1 where they are finished
 abbrev pub bit : Bool → ℕ

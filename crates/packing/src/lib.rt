@@ -3,6 +3,7 @@ use answer::Refusal;
 use answer::number;
 use promises::Combined;
 use promises::Complemented;
+use promises::Confirmation;
 use promises::Inclusion;
 use promises::Listed;
 use promises::Membership;
@@ -16,7 +17,7 @@ use promises::SuccessorList;
 use promises::Translated;
 ghost use mathlib.Core.Path.{_≡_};
 ghost use Rattle.answer.specs.Refusals.{numberOf};
-ghost use Rattle.packing.specs.Packing.{packRefusal, packFields, packListed, packStrength, packMembership, packComplemented, packInclusion, packMoved, packReduced, packCombined, bit, packPartition, packTranslated, packMonitorVerdict, packKind, packSuccessors};
+ghost use Rattle.packing.specs.Packing.{packRefusal, packFields, packListed, packStrength, packMembership, packComplemented, packInclusion, packMoved, packReduced, packConfirmation, packCombined, bit, packPartition, packTranslated, packMonitorVerdict, packKind, packSuccessors};
 
 pub fn pack_refusal(refusal: Refusal, input: usize, place: usize) -> u64
     ensures { λ r. ⌜ r ≡ packRefusal (numberOf refusal) input place ⌝ }
@@ -128,6 +129,21 @@ pub fn pack_reduced(answer: Reduced) -> u64
     match answer {
         Reduced::Rule(length) => pack_fields(length, 0, 0),
         Reduced::Refused {
+            refusal,
+            input,
+            place,
+        } => pack_refusal(refusal, input, place),
+    }
+}
+
+// 1 for yes.
+pub fn pack_confirmation(answer: Confirmation) -> u64
+    ensures { λ r. ⌜ r ≡ packConfirmation answer ⌝ }
+{
+    match answer {
+        Confirmation::Yes => pack_fields(1, 0, 0),
+        Confirmation::No => pack_fields(0, 0, 0),
+        Confirmation::Refused {
             refusal,
             input,
             place,

@@ -2,6 +2,7 @@ pub mod AutomatonGrades
 pub mod AutomatonReadings
 pub mod CombinedGrades
 pub mod CombineOrder
+pub mod ReduceOrder
 pub mod Logs
 pub mod OneCombine
 pub mod OneComplement
@@ -24,3 +25,7 @@ pub mod Points
 pub mod Readings
 pub mod SameReductions
 pub mod Printing
+pub mod OneConfirmation
+pub mod Confirmed
+pub mod ConfirmOrder
+pub mod NotConfirmed

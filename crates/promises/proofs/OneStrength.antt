@@ -13,10 +13,13 @@ use Rattle.promises.specs.declared.Strength.{Strength}
 use Rattle.promises.specs.declared.Strength.the-variants.{Strong, Weak, Refused}
 use Rattle.promises.specs.Strong.{strengthVerdict, StrengthAnswer, StrongPromise}
 
--- each check of a call that needs another buffer and asks for a strong rule fails at one place at most
+-- each check of a call that asks for a strong rule fails at one place at most
+pub checked-strong-single : (bytes scratch : List ℕ) → AllSingle (checkedChecks 1 bytes scratch ++ (weakCheck 1 bytes ∷ []))
+checked-strong-single bytes scratch = single-append (checked-single 1 bytes scratch) (single-cons (single-at (λ place (a : WeakAt bytes place). a .is-place)) single-nil)
+
+-- and where it needs another buffer
 pub strong-rule-single : (needed : ℕ) (buffer bytes scratch : List ℕ) → AllSingle (bufferCheck needed buffer ∷ (checkedChecks 1 bytes scratch ++ (weakCheck 1 bytes ∷ [])))
-strong-rule-single needed buffer bytes scratch =
-    buffer-single (single-append (checked-single 1 bytes scratch) (single-cons (single-at (λ place (a : WeakAt bytes place). a .is-place)) single-nil))
+strong-rule-single needed buffer bytes scratch = buffer-single (checked-strong-single bytes scratch)
 
 module _ {bytes entry exit exit′ : List ℕ} where
   pub one-answer : (answer answer′ : Strength) → StrongPromise bytes entry exit answer → StrongPromise bytes entry exit′ answer′ → answer ≡ answer′

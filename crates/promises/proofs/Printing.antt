@@ -26,16 +26,16 @@ use Rattle.formats.proofs.ReadBack.{reads-agree}
 use Rattle.formats.proofs.ReadRules.{reads-at-least, reads-strong}
 use Rattle.promises.specs.declared.Reduced.{Reduced}
 use Rattle.promises.specs.declared.Reduced.the-variants.{Rule as Is-rule, Refused}
-use Rattle.promises.specs.Reduce.{reduceChecks, reducedVerdict, ruleOf, ReducedTo, ReducePromise}
+use Rattle.promises.specs.Reduce.{mapSize, reduceChecks, reducedVerdict, ruleOf, ReducedTo, ReducePromise}
 use Rattle.promises.specs.Printed.{Prints}
-use Rattle.promises.proofs.OneStrength.{strong-rule-single}
+use Rattle.promises.proofs.OneReduction.{reduce-single}
 use Rattle.theory.proofs.SameGrades.{same-back, same-on}
 use Rattle.promises.proofs.SameReductions.{same-rule, reductions-file}
 
 -- ---- a printed file means a rule with the grades of the rule that was reduced
 
 -- the reduction that a print was written of
-abbrev reduced-to : {bytes file : List ℕ} (p : Prints bytes file) → ReducedTo bytes (p .before) (p .after) (p .end)
+abbrev reduced-to : {bytes file : List ℕ} (p : Prints bytes file) → ReducedTo bytes (p .before) (p .after) (p .map-before) (p .map-after) (p .end)
 reduced-to p = p .promised .answered
 
 print-is : {bytes file : List ℕ} (p : Prints bytes file) → fileOf (reduced-to p .reduced .morphism) (reduced-to p .reduced .marks) ≡ file
@@ -47,7 +47,7 @@ reads p = subst (ReadsBack (reduced-to p .reduced .morphism) (reduced-to p .redu
 pub print-lawful : {bytes file : List ℕ} → Prints bytes file → Lawful (morphismOf file)
 print-lawful p = agree-lawful (reads-agree (reads p)) (reduced-to p .reduced .lawful)
 
-read-same : (x : Rule) {file : List ℕ} → ReadsBack (x .morphism) (x .marks) file → (law : Lawful (morphismOf file)) → SameGrades x (ruleOf file law)
+pub read-same : (x : Rule) {file : List ℕ} → ReadsBack (x .morphism) (x .marks) file → (law : Lawful (morphismOf file)) → SameGrades x (ruleOf file law)
 read-same x r law = record {
   same-letters = sym (reads-agree r .same-letters);
   both-or-neither = λ g some u v l. reads-at-least (x .lawful) r g u v;
@@ -86,24 +86,24 @@ pub record Printed (bytes before after : List ℕ) (answer : Reduced) : Type 0 w
 
 -- whatever the promise allows for the file of a strong rule that passes the checks, with buffers that are long enough
 module _ (bytes : List ℕ) (checks : FirstFailure (ruleChecks 1 bytes) passed) (strong : StrongMarking (morphismOf bytes) (markingOf bytes))
-    (out out′ entry exit : List ℕ) (long : ruleSize ≤ length out) (room : scratchSize ≤ length entry) where
-  strong-passes : FirstFailure (reduceChecks bytes out entry) passed
+    (out out′ map map′ entry exit : List ℕ) (long : ruleSize ≤ length out) (map-long : mapSize ≤ length map) (room : scratchSize ≤ length entry) where
+  strong-passes : FirstFailure (reduceChecks bytes out map entry) passed
   strong-passes =
-      buffer-long long
+      buffer-long long (buffer-long map-long
       (passed-before (checkedChecks 1 bytes entry) _ (buffer-long room checks)
-      (first-passes (record { nowhere = λ place f. f .weak strong }) none-left))
+      (first-passes (record { nowhere = λ place f. f .weak strong }) none-left)))
 
-  pub strong-printed : (answer : Reduced) → ReducePromise bytes out out′ entry exit answer → Printed bytes out out′ answer
-  strong-printed answer promise = printed answer promise (one-verdict (strong-rule-single ruleSize out bytes entry) (promise .refusal) strong-passes)
+  pub strong-printed : (answer : Reduced) → ReducePromise bytes out out′ map map′ entry exit answer → Printed bytes out out′ answer
+  strong-printed answer promise = printed answer promise (one-verdict (reduce-single bytes out map entry) (promise .refusal) strong-passes)
     where
-      printed : (answer : Reduced) → ReducePromise bytes out out′ entry exit answer → reducedVerdict answer ≡ passed → Printed bytes out out′ answer
+      printed : (answer : Reduced) → ReducePromise bytes out out′ map map′ entry exit answer → reducedVerdict answer ≡ passed → Printed bytes out out′ answer
       printed (Is-rule end) p e =
           let front = p .answered .written .front in
           record {
             file = fileOf (p .answered .reduced .morphism) (p .answered .reduced .marks);
             length-is = ap Is-rule (front .counts);
             front = record { holds = front .holds; counts = refl };
-            prints = record { before = out; after = out′; entry = entry; exit = exit; end = end; promised = p; printed = front };
+            prints = record { before = out; after = out′; map-before = map; map-after = map′; entry = entry; exit = exit; end = end; promised = p; printed = front };
           }
       printed (Refused k i place) p e = absurd (not-passed e)
 
@@ -120,11 +120,11 @@ module _ {bytes file : List ℕ} (p : Prints bytes file) where
   checks-pass : FirstFailure (ruleChecks 1 file) passed
   checks-pass = subst (λ (f : List ℕ). FirstFailure (ruleChecks 1 f) passed) (print-is p) (reduced-to p .written .passes 1)
 
-  module _ (out out′ entry exit : List ℕ) (long : ruleSize ≤ length out) (room : scratchSize ≤ length entry) where
+  module _ (out out′ map map′ entry exit : List ℕ) (long : ruleSize ≤ length out) (map-long : mapSize ≤ length map) (room : scratchSize ≤ length entry) where
     -- it is not refused, and the file is printed again
-    pub reduce-again : (answer : Reduced) → ReducePromise file out out′ entry exit answer → (answer ≡ Is-rule (length file)) × AtFront file out out′ (length file)
+    pub reduce-again : (answer : Reduced) → ReducePromise file out out′ map map′ entry exit answer → (answer ≡ Is-rule (length file)) × AtFront file out out′ (length file)
     reduce-again answer promise =
-        let again = strong-printed file checks-pass print-strong out out′ entry exit long room answer promise in
+        let again = strong-printed file checks-pass print-strong out out′ map map′ entry exit long map-long room answer promise in
         subst (λ (f : List ℕ). (answer ≡ Is-rule (length f)) × AtFront f out out′ (length f)) (sym (print-again p (again .prints))) (again .length-is, again .front)
 
 -- ---- rules that differ in one lasso's grade print differently

@@ -20,3 +20,4 @@ pub mod Printed
 pub mod Rounds
 pub mod RuleAutomaton
 pub mod Combine
+pub mod Confirm

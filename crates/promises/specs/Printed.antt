@@ -9,8 +9,10 @@ use Rattle.promises.specs.Reduce.{ReducePromise}
 pub record Prints (bytes file : List ℕ) : Type 0 where
   pub before : List ℕ
   pub after : List ℕ
+  pub map-before : List ℕ
+  pub map-after : List ℕ
   pub entry : List ℕ
   pub exit : List ℕ
   pub end : ℕ
-  pub promised : ReducePromise bytes before after entry exit (Is-rule end)
+  pub promised : ReducePromise bytes before after map-before map-after entry exit (Is-rule end)
   pub printed : AtFront file before after end

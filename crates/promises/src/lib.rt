@@ -104,6 +104,20 @@ pub enum Combined {
     },
 }
 
+// The bytes of the map that reduce hands out, as specs/Reduce has them.
+pub const MAP_SIZE: usize = 64;
+
+// Whether a reduction made elsewhere is right.
+pub enum Confirmation {
+    Yes,
+    No,
+    Refused {
+        refusal: Refusal,
+        input: usize,
+        place: usize,
+    },
+}
+
 // How many rounds were done after round 0, and whether one more would change nothing.
 pub enum Partition {
     Blocks {

@@ -2,7 +2,7 @@
 -- element. Assumes nothing.
 use Prim.Native.Nat.{ℕ, _+_, _≤_, _<_}
 use mathlib.Core.Path.{_≡_, refl, sym, _∙_}
-use mathlib.Core.Bool.{Bool, true, false, not}
+use mathlib.Core.Bool.{true, false}
 use mathlib.Core.Logic.{_≢_}
 use native.Mathlib.Omega.{arith}
 use native.Mathlib.Decide.{ℕ-discrete}
@@ -10,15 +10,6 @@ use Rattle.theory.specs.Rules.{Morphism}
 use Rattle.theory.specs.Rounds.{SameOutcomes}
 use Rattle.finite.specs.Tells.{Tells}
 use Rattle.finite.proofs.Tells.{told-yes, told-no}
-
--- a negated answer
-pub not-true : (b : Bool) → not b ≡ true → b ≡ false
-not-true true e = sym e
-not-true false e = refl
-
-pub not-false : (b : Bool) → not b ≡ false → b ≡ true
-not-false true e = refl
-not-false false e = sym e
 
 -- two elements have the same outcomes with the elements below a number
 pub record SameBelow (acc : ℕ → ℕ → ℕ) (s t z : ℕ) : Type 0 where

@@ -25,9 +25,9 @@ use Rattle.scratch.proofs.Unchanged.{unchanged-none, unchanged-both, unchanged-
 use Rattle.formats.specs.RuleChecks.{scratchSize}
 
 -- one look in a table of marks
-pub look-mark : (scratch : List ℕ) (f : ℕ) {s t : ℕ} → t ≡ s → getD scratch (secondBase + (t * 64 + f)) 0 ≡ marksFrom scratch secondBase s f
+pub look-mark : (scratch : List ℕ) (base f : ℕ) {s t : ℕ} → t ≡ s → getD scratch (base + (t * 64 + f)) 0 ≡ marksFrom scratch base s f
 unfolding marksFrom
-look-mark scratch f e = ap (λ (t : ℕ). getD scratch (secondBase + (t * 64 + f)) 0) e
+look-mark scratch base f e = ap (λ (t : ℕ). getD scratch (base + (t * 64 + f)) 0) e
 
 -- the table of marks is as it was
 pub marks-kept : {to : ℕ} {entry now : List ℕ} (s e : ℕ) → UnchangedOutside outcomesBase to entry now → s < 64 → e < 64 → marksFrom now secondBase s e ≡ marksFrom entry secondBase s e
@@ -101,10 +101,16 @@ module _ {m : Morphism} (law : Lawful m) (small : m .size ≤ 64) where
   pub outcomes-all : {z : ℕ} {entry now : List ℕ} → m .size ≤ z → OutcomesWritten m z entry now → OutcomesWritten m (m .size) entry now
   outcomes-all h w = record { outcomes = λ s y hs l. w .outcomes s y hs (omega arith); kept = w .kept }
 
-  -- where the table of marks holds the closure of a marking, the outcomes are the grades
-  pub outcome-grading : (marks : Marking) (scratch : List ℕ) → MarkingAt (m .size) (closure-grade m marks) scratch secondBase
-      → (s z : ℕ) → s < m .size → z < m .size → outcomeOf m scratch s z ≡ grading m marks s z
-  unfolding outcomeOf grading
-  outcome-grading marks scratch closed s z hs hz =
+  -- where a table of marks holds the closure of a marking, its looks are the grades
+  pub look-grading : (marks : Marking) (scratch : List ℕ) (base : ℕ) → MarkingAt (m .size) (closure-grade m marks) scratch base
+      → (s z : ℕ) → s < m .size → z < m .size → marksFrom scratch base (settled-start m s z) (settled-cycle m z) ≡ grading m marks s z
+  unfolding grading
+  look-grading marks scratch base closed s z hs hz =
       let f = idempotent-inside (semigroup law) hz in
       sym (closed .same (settled-start m s z) (settled-cycle m z) (law .closed s (settled-cycle m z) hs f) f)
+
+  -- the outcomes are looks in the one at 4096
+  pub outcome-grading : (marks : Marking) (scratch : List ℕ) → MarkingAt (m .size) (closure-grade m marks) scratch secondBase
+      → (s z : ℕ) → s < m .size → z < m .size → outcomeOf m scratch s z ≡ grading m marks s z
+  unfolding outcomeOf
+  outcome-grading marks scratch closed = look-grading marks scratch secondBase closed

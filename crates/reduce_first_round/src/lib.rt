@@ -6,27 +6,35 @@ use scratch::BLOCKS_BASE;
 use scratch::OUTCOMES_BASE;
 use scratch::SECOND_BASE;
 ghost use mathlib.Core.Path.{_≡_};
-ghost use Prim.Native.Nat.{_≤_, _<_};
+ghost use Prim.Native.Nat.{_+_, _≤_, _<_};
 ghost use lib.ListN.{length};
 ghost use Rattle.finite.specs.Tells.{Tells};
 ghost use Rattle.theory.specs.Rules.{Lawful};
 ghost use Rattle.rule_table.specs.Table.{Table};
 ghost use Rattle.formats.specs.Table.{productAt, morphismAt};
-ghost use Rattle.scratch.specs.Map.{blocksBase, secondBase, marksFrom};
+ghost use Rattle.scratch.specs.Map.{blocksBase, markTableSize, marksFrom};
 ghost use Rattle.theory.specs.Rounds.{SameOutcomes, Together};
 ghost use Rattle.reduce_first_round.specs.Map.{outcomeAt};
 ghost use Rattle.reduce_first_round.specs.Steps.{LeastRelated, ColumnWritten, OutcomesWritten, BlocksWritten};
 ghost use Rattle.formats.specs.RuleChecks.{scratchSize};
 
-// The mark of the pair (s·f, f) in the table of marks.
-pub fn outcome(rule: &[u8], n: usize, k: usize, scratch: &[u8], s: usize, f: usize) -> u8
+// The mark of the pair (s·f, f) in the table of marks that begins at a byte.
+pub fn outcome(
+    rule: &[u8],
+    n: usize,
+    k: usize,
+    scratch: &[u8],
+    base: usize,
+    s: usize,
+    f: usize,
+) -> u8
     requires { ⌜ Table (now rule) n k ⌝ }
     requires { ⌜ (s < n) × (f < n) ⌝ }
-    requires { ⌜ scratchSize ≤ length (now scratch) ⌝ }
-    ensures { λ r. ⌜ r ≡ marksFrom (now (scratch .entry)) secondBase (productAt (now (rule .entry)) n s f) f ⌝ }
+    requires { ⌜ base + markTableSize ≤ length (now scratch) ⌝ }
+    ensures { λ r. ⌜ r ≡ marksFrom (now (scratch .entry)) base (productAt (now (rule .entry)) n s f) f ⌝ }
 {
     let t = product(rule, n, s, f);
-    scratch[SECOND_BASE + (t * 64 + f)]
+    scratch[base + (t * 64 + f)]
 }
 
 // The outcomes of all values with z for the cycle.
@@ -40,7 +48,7 @@ pub fn outcome_column(rule: &[u8], n: usize, k: usize, scratch: &mut [u8], z: us
     let power = idempotent_power(rule, n, k, z);
     let f = power.element;
     for s in 0..n {
-        let found = outcome(rule, n, k, scratch, s, f);
+        let found = outcome(rule, n, k, scratch, SECOND_BASE, s, f);
         scratch[OUTCOMES_BASE + (s * 64 + z)] = found;
     }
 }

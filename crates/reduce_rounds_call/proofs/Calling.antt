@@ -1,11 +1,10 @@
 -- What the call for the rounds promises, from what the check of the rule, the verdict on its strength and the rounds promise. Assumes nothing.
 use Prim.Native.Nat.{ℕ, _+_, _-_, _≤_, _<_}
-use mathlib.Core.Path.{_≡_, refl, sym, subst, _∙_}
+use mathlib.Core.Path.{_≡_, refl, sym, subst}
 use mathlib.Core.Bool.{Bool, true, false}
 use mathlib.Core.List.{List, [], _∷_}
 use native.Mathlib.Omega.{arith}
-use lib.ListN.{length, replicate, take, drop, getD, length-drop}
-use lib.Seq.{length-take-le, getD-take, getD-drop}
+use lib.ListN.{length, replicate, take, drop}
 use Rattle.finite.proofs.Tells.{tells-same}
 use Rattle.scratch.specs.Map.{blocksBase}
 use Rattle.scratch.proofs.Unchanged.{unchanged-room}
@@ -21,7 +20,6 @@ use Rattle.minimality.proofs.Rounds.{together-carry, stable-carry}
 use Rattle.minimality.proofs.GradeOutcomes.{grading, grading-lassos}
 use Rattle.formats.specs.RuleChecks.{scratchSize}
 use Rattle.formats.specs.RuleFile.{elementsOf, morphismOf, markingOf}
-use Rattle.formats.proofs.SectionList.{rest-of}
 use Rattle.formats.proofs.Buffers.{buffer-short, buffer-long}
 use Rattle.rule_layout.specs.declared.Shape.{Shape}
 use Rattle.rule_check.specs.declared.Checked.the-variants.{Rule as Checked-rule, Refused as Checked-refused}
@@ -43,34 +41,24 @@ use Rattle.reduce_first_round.proofs.BlockBytes.{blocks-carry}
 use Rattle.reduce_rounds.specs.declared.Refined.{Refined}
 use Rattle.reduce_rounds.specs.Rounds.{RoundsRefined}
 use Rattle.rule_writer.specs.Writing.{Written}
-use Rattle.rule_writer.proofs.Placed.{written-at-front}
+use Rattle.rule_writer.proofs.CopiedParts.{part-entry, part-length, copied-part}
 use Rattle.reduce_rounds_call.specs.Steps.{BlocksGiven}
 
 -- the bytes of blocks as a list
 blocks-list : {n : ℕ} {R : ℕ → ℕ → Type 0} {l : List ℕ} → blocksBase + n ≤ length l → BlocksAt n R l blocksBase → IsBlocks n R (take n (drop blocksBase l))
 blocks-list {n} {l = l} room b = record {
-  count = length-take-le n (drop blocksBase l) (omega (arith, length-drop blocksBase l));
-  at-most = λ s h. rw (entry s h) (b .at-most s h);
-  related = λ s h. rw (entry s h) (b .related s h);
-  least = λ s t h k. b .least s t h (rw (entry s h) at k);
+  count = part-length l blocksBase n room;
+  at-most = λ s h. rw (part-entry l blocksBase n s h) (b .at-most s h);
+  related = λ s h. rw (part-entry l blocksBase n s h) (b .related s h);
+  least = λ s t h k. b .least s t h (rw (part-entry l blocksBase n s h) at k);
 }
-  where
-    entry : (s : ℕ) → s < n → getD (take n (drop blocksBase l)) s 0 ≡ getD l (blocksBase + s) 0
-    entry s h = getD-take n (drop blocksBase l) s 0 h ∙ getD-drop blocksBase l s 0
 
 -- the copy of the blocks is at the front
 pub blocks-given : {m : Morphism} {limit : ℕ} {entry exit before after : List ℕ} {r : Refined} {end : ℕ} → m .size ≤ 64 → scratchSize ≤ length entry
     → RoundsRefined m limit entry exit r → Written before 0 (take (m .size) (take (length exit - blocksBase) (drop blocksBase exit))) after end
     → BlocksGiven m limit entry exit before after r
-blocks-given {m} {exit = exit} {before = before} {after = after} {end = end} small room r w =
-    let front = written-at-front (subst (λ (part : List ℕ). Written before 0 (take (m .size) part) after end) (rest-of exit blocksBase) w) in
-    record {
-      refined = r;
-      given = record {
-        holds = front .holds;
-        counts = sym (length-take-le (m .size) (drop blocksBase exit) (omega (arith, length-drop blocksBase exit, unchanged-room (r .kept) room)));
-      };
-    }
+blocks-given {m} {exit = exit} small room r w =
+    record { refined = r; given = copied-part exit blocksBase (m .size) (omega (arith, unchanged-room (r .kept) room)) w }
 
 -- a short buffer is refused, and both are left as they came
 pub blocks-short : (bytes : List ℕ) (limit : ℕ) (blocks scratch : List ℕ) → length blocks < blocksSize

@@ -3,16 +3,15 @@ use Prim.Native.Nat.{ℕ, _≤_, _<_}
 use mathlib.Core.Path.{_≡_}
 use mathlib.Core.List.{List}
 use lib.ListN.{length}
-use Rattle.theory.specs.Rules.{Morphism, Lawful, AllReached}
-use Rattle.formats.specs.FirstWords.{ByFirstWords}
-use Rattle.minimality.proofs.Quotient.{Numbering, quotient, quotient-acc}
+use Rattle.theory.specs.Rules.{Morphism}
+use Rattle.minimality.proofs.Quotient.{quotient, quotient-acc}
 use Rattle.minimality.proofs.Saturation.{saturated}
-use Rattle.reduce_first_round.specs.Map.{outcomeOf, outcomeAt}
+use Rattle.reduce_first_round.specs.Map.{outcomeAt}
 use Rattle.reduce_numbering.specs.Numbering.{NumberedAs}
 use Rattle.reduce_table.specs.Layout.{BlocksNeeds}
 use Rattle.formats.specs.WrittenFile.{fileOf}
 use Rattle.formats.specs.Front.{AtFront}
-use Rattle.formats.specs.RuleChecks.{ruleSize, scratchSize}
+use Rattle.formats.specs.RuleChecks.{ruleSize}
 
 -- c blocks whose leaders are elements, and room
 pub record QuotientNeeds (n k c : ℕ) (scratch out : List ℕ) : Type 0 where
@@ -27,21 +26,3 @@ pub record QuotientWritten (m : Morphism) (c : ℕ) (entry exit before after : L
   pub written : (acc : ℕ → ℕ → ℕ) (b : NumberedAs m acc c entry)
       → ((s z : ℕ) → s < m .size → z < m .size → outcomeAt entry s z ≡ acc s z)
       → AtFront (fileOf (quotient (b .numbering)) (saturated (quotient (b .numbering)) (quotient-acc (b .numbering)))) before after end
-
--- a lawful table whose elements are all reached, and room
-pub record ReduceNeeds (m : Morphism) (scratch out : List ℕ) : Type 0 where
-  pub lawful : Lawful m
-  pub reached : AllReached m
-  pub letters-some : 1 ≤ m .letters
-  pub room : scratchSize ≤ length scratch
-  pub out-room : ruleSize ≤ length out
-
--- the blocks were numbered and their rule was written, by the outcomes that the second table of marks gives
-pub record ReducedWritten (m : Morphism) (entry exit before after : List ℕ) (end : ℕ) : Type 0 where
-  pub same-length : length exit ≡ length entry
-  pub count : ℕ
-  pub some : 1 ≤ count
-  pub few : count ≤ m .size
-  pub numbering : Numbering m (outcomeOf m entry) count
-  pub in-order : ByFirstWords (quotient numbering)
-  pub written : AtFront (fileOf (quotient numbering) (saturated (quotient numbering) (quotient-acc numbering))) before after end

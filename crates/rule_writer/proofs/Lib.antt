@@ -3,3 +3,4 @@ pub mod Rows
 pub mod Copied
 pub mod SoFar
 pub mod Parts
+pub mod CopiedParts

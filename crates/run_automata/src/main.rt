@@ -1,4 +1,5 @@
 // Runs `rules::automaton_rule` over document 01's automata and over automata at the limit of 64 matrices, and writes a line for each.
+use rules::MAP_SIZE;
 use rules::Membership;
 use rules::RULE_SIZE;
 use rules::Reduced;
@@ -57,7 +58,8 @@ fn member_line(answer: Membership) {
 
 fn reduce(rule: &[u8], scratch: &mut [u8]) {
     let mut out = [9u8; RULE_SIZE];
-    reduced_line(rules::reduce(rule, &mut out, scratch), &out);
+    let mut map = [9u8; MAP_SIZE];
+    reduced_line(rules::reduce(rule, &mut out, &mut map, scratch), &out);
 }
 
 // Translates an automaton. The command says whether its rule is written, reduced, or asked for the lasso of letter 0.

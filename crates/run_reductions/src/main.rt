@@ -1,22 +1,29 @@
 // Runs `rules::reduce` over document 01's small rules and over rules of 64 elements, and writes a line for each.
+use rules::MAP_SIZE;
 use rules::RULE_SIZE;
 use rules::Reduced;
 use rules::SCRATCH_SIZE;
 
-// What a reduction wrote: its bytes where they are few, and else how many there are and the number of its elements.
-fn written_line(out: &[u8], length: usize) {
+// What a reduction wrote: its bytes where they are few, and else how many there are and the number of its elements; and where the elements
+// of the rule went, the first eight of them.
+fn written_line(out: &[u8], length: usize, map: &[u8], elements: usize) {
     example_text::word_and(b"bytes ", length);
     if length < 32 {
         example_text::row(b":", out, length);
     } else {
         example_text::row(b", elements", out, 1);
     }
+    if elements < 8 {
+        example_text::row(b"; to", map, elements);
+    } else {
+        example_text::row(b"; first to", map, 8);
+    }
     example_text::word(b"\n");
 }
 
-fn reduced_line(answer: Reduced, out: &[u8]) {
+fn reduced_line(answer: Reduced, out: &[u8], map: &[u8], elements: usize) {
     match answer {
-        Reduced::Rule(length) => written_line(out, length),
+        Reduced::Rule(length) => written_line(out, length, map, elements),
         Reduced::Refused {
             refusal,
             input,
@@ -27,7 +34,9 @@ fn reduced_line(answer: Reduced, out: &[u8]) {
 
 fn tell(rule: &[u8], scratch: &mut [u8]) {
     let mut out = [9u8; RULE_SIZE];
-    reduced_line(rules::reduce(rule, &mut out, scratch), &out);
+    let mut map = [9u8; MAP_SIZE];
+    let answer = rules::reduce(rule, &mut out, &mut map, scratch);
+    reduced_line(answer, &out, &map, example_text::byte_at(rule, 0) as usize);
 }
 
 // How many bytes a reduction wrote, 0 for a refusal.
@@ -41,7 +50,8 @@ fn length_of(answer: Reduced) -> usize {
 // Reduces what a reduction wrote.
 fn tell_again(rule: &[u8], scratch: &mut [u8]) {
     let mut out = [9u8; RULE_SIZE];
-    let length = length_of(rules::reduce(rule, &mut out, scratch));
+    let mut map = [9u8; MAP_SIZE];
+    let length = length_of(rules::reduce(rule, &mut out, &mut map, scratch));
     tell(example_text::front(&out, length), scratch);
 }
 

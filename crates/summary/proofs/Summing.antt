@@ -30,8 +30,8 @@ use Rattle.promises.specs.Classes.{classesSize, ListPromise}
 use Rattle.promises.specs.Weak.{weakCheck}
 use Rattle.promises.specs.declared.Reduced.{Reduced}
 use Rattle.promises.specs.declared.Reduced.the-variants.{Rule as Reduced-rule, Refused as Reduced-refused}
-use Rattle.promises.specs.Reduce.{reduceChecks, ReducePromise}
-use Rattle.promises.proofs.OneStrength.{strong-rule-single}
+use Rattle.promises.specs.Reduce.{mapSize, reduceChecks, reduceLeft, ReducePromise}
+use Rattle.promises.proofs.OneReduction.{reduce-single}
 use Rattle.promises.specs.declared.Summary.{Summary}
 use Rattle.promises.specs.declared.Summary.the-variants.{Counts, Refused}
 use Rattle.promises.specs.Summary.{summaryChecks, SummaryPromise}
@@ -64,18 +64,18 @@ module _ {bytes work entry : List ℕ} (p : CheckedNeeds bytes work entry) where
       q .scratch ∙ kept ∙ sym (zeros-after entry long)
 
   -- of the reduction
-  module _ (answer : Reduced) {after exit : List ℕ} (q : ReducePromise bytes work after entry exit answer) where
+  module _ (answer : Reduced) {after map map′ exit : List ℕ} (map-room : mapSize ≤ length map) (q : ReducePromise bytes work after map map′ entry exit answer) where
     reduction-left : exit ≡ replicate (length entry) 0
     reduction-left =
-        let kept : scratchLeft ruleSize work entry ≡ afterCall entry = simp (le-ltb (length work) ruleSize (p .room)) in
+        let kept : reduceLeft work map entry ≡ afterCall entry = simp (le-ltb (length work) ruleSize (p .room), le-ltb (length map) mapSize map-room) in
         q .scratch ∙ kept ∙ sym (zeros-after entry long)
 
     -- a reduction was written: the rule is strong, and the first byte is the number of elements
     pub size-strong : {end : ℕ} → answer ≡ Reduced-rule end → SizeFound bytes entry exit true (getD after 0 0)
     unfolding fileOf elementsBytes
     size-strong e =
-        let known = subst (ReducePromise bytes work after entry exit) e q in
-        let not-weak = passes-head (passed-last (checkedChecks 1 bytes entry) (weakCheck 1 bytes ∷ []) (passes-tail (known .refusal))) in
+        let known = subst (ReducePromise bytes work after map map′ entry exit) e q in
+        let not-weak = passes-head (passed-last (checkedChecks 1 bytes entry) (weakCheck 1 bytes ∷ []) (passes-tail (passes-tail (known .refusal)))) in
         let r = known .answered in
         record {
           reduces = record {
@@ -89,16 +89,16 @@ module _ {bytes work entry : List ℕ} (p : CheckedNeeds bytes work entry) where
         }
 
     -- a strong rule passes every check of a reduction
-    all-pass : StrongMarking (morphismOf bytes) (markingOf bytes) → FirstFailure (reduceChecks bytes work entry) passed
+    all-pass : StrongMarking (morphismOf bytes) (markingOf bytes) → FirstFailure (reduceChecks bytes work map entry) passed
     all-pass strong =
-        buffer-long (p .room)
-        (passed-before (checkedChecks 1 bytes entry) (weakCheck 1 bytes ∷ []) (p .passes) (first-passes (record { nowhere = λ place w. w .weak strong }) none-left))
+        buffer-long (p .room) (buffer-long map-room
+        (passed-before (checkedChecks 1 bytes entry) (weakCheck 1 bytes ∷ []) (p .passes) (first-passes (record { nowhere = λ place w. w .weak strong }) none-left)))
 
     -- none was written: every other check passes, so the rule is weak
     pub size-weak : {r : Refusal} {input place : ℕ} → answer ≡ Reduced-refused r input place → SizeFound bytes entry exit false 0
     size-weak e =
-        let known = subst (ReducePromise bytes work after entry exit) e q in
-        record { reduces = (λ strong. not-refused (strong-rule-single ruleSize work bytes entry) (all-pass strong) (known .refusal), refl); scratch = reduction-left }
+        let known = subst (ReducePromise bytes work after map map′ entry exit) e q in
+        record { reduces = (λ strong. not-refused (reduce-single bytes work map entry) (all-pass strong) (known .refusal), refl); scratch = reduction-left }
 
   -- the rule was counted, its classes listed, its reduction measured, and work cleared
   pub measured : (answer : Listed) {elements letters marks linked classes joins reduced : ℕ} {strong : Bool} {listed mid after exit : List ℕ} {n : ℕ} → RuleCounts bytes elements letters marks

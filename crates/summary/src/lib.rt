@@ -5,6 +5,7 @@ use formats::RULE_SIZE;
 use mark_classes::list_classes;
 use promises::Inspected;
 use promises::Listed;
+use promises::MAP_SIZE;
 use promises::Reduced;
 use promises::Summary;
 use reduce_call::reduce;
@@ -20,12 +21,14 @@ struct ReducedSize {
     reduced: usize,
 }
 
-// Reduces a checked rule: the reduction's file begins with its number of elements, and only a weak rule is refused.
+// Reduces a checked rule: the reduction's file begins with its number of elements, and only a weak rule is refused. Nobody asks for the map
+// here, so it goes to bytes of this function's own.
 fn reduced_size(rule: &[u8], work: &mut [u8], scratch: &mut [u8]) -> ReducedSize
     requires { ⌜ CheckedNeeds (now rule) (now work) (now scratch) ⌝ }
     ensures { λ r. ⌜ SizeFound (now (rule .entry)) (now (scratch .entry)) (now (scratch .exit)) (r .strong) (r .reduced) ⌝ }
 {
-    match reduce(rule, work, scratch) {
+    let mut map = [0u8; MAP_SIZE];
+    match reduce(rule, work, &mut map, scratch) {
         Reduced::Rule(_) => ReducedSize {
             strong: true,
             reduced: work[0] as usize,

@@ -7,6 +7,7 @@ pub mod Conjugacy
 pub mod IdempotentPowers
 pub mod BestConjugates
 pub mod Carried
+pub mod Maps
 pub mod Combined
 pub mod SameGrades
 pub mod Turns
@@ -35,5 +36,6 @@ pub mod Examples
 pub mod Exclusions
 pub mod RivalExclusions
 pub mod CombinedExclusions
+pub mod MapExclusions
 pub mod SmallReductions
 pub mod RoundExclusions

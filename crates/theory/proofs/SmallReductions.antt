@@ -1,12 +1,12 @@
 -- Reductions to one element: the rule of one element, its pair marked with 3, is the smallest rule that gives every lasso grade 3, and
--- so the reduction of every such rule that has a letter. Two of the small rules are such. Assumes nothing.
+-- so the reduction of every such rule that has a letter, by the map that takes each element to the one. Two of the small rules are such. Assumes nothing.
 use Prim.Native.Nat.{ℕ, _<_}
 use mathlib.Core.Path.{_≡_, refl, sym, ap}
 use mathlib.Core.List.{[], _∷_}
 use native.Mathlib.Omega.{arith}
 use Rattle.theory.specs.Words.{over-nil, over-cons}
 use Rattle.theory.specs.Rules.{Rule, element, join, value, WordOf}
-use Rattle.theory.specs.Smallest.{SameGrades, Smallest, MarksGrades, Reduction}
+use Rattle.theory.specs.Smallest.{SameGrades, Smallest, MarksGrades, Reduction, ReducedBy}
 use Rattle.theory.proofs.SmallRules.{W-all, Z₀-rule}
 use Rattle.theory.proofs.EveryLasso.{GradesEvery, one-strong, every-same, one, one-rule, one-every}
 use Rattle.theory.proofs.Examples.{W-all-every, Z₀-every}
@@ -59,9 +59,26 @@ every-reduction r some a = record {
   marks = one-marks (r .morphism .letters) some;
 }
 
+-- and is reduced so by the map that takes each element to the one
+pub every-reduced : (r : Rule) → 0 < r .morphism .letters → GradesEvery (r .morphism) (r .marks) → ReducedBy r (one-rule (r .morphism .letters)) (λ s. 0)
+every-reduced r some a =
+    let k = every-reduction r some a in
+    record {
+      maps = record {
+        inside = λ s h. omega arith;
+        onto = λ t h. (r .morphism .image 0, r .lawful .images 0 some, omega arith);
+        carries = record { products = λ s t hs ht. refl; images = λ x h. refl };
+      };
+      same = k .same;
+      smallest = k .smallest;
+    }
+
 -- M4: W with its three linked pairs marked reduces to one element
 pub W-all-reduction : Reduction W-all (one-rule 2)
 W-all-reduction = every-reduction W-all (omega arith) W-all-every
+
+pub W-all-reduced : ReducedBy W-all (one-rule 2) (λ s. 0)
+W-all-reduced = every-reduced W-all (omega arith) W-all-every
 
 -- M7: so does Z with letter 0 only
 pub Z₀-reduction : Reduction Z₀-rule (one-rule 1)

@@ -1,10 +1,10 @@
 pub mod Words
 pub mod Rules
+pub mod Maps
 pub mod Acceptance
 pub mod Pairs
 pub mod Grades
 pub mod Smallest
 pub mod Inclusion
 pub mod Rounds
-pub mod Maps
 pub mod Combined

@@ -7,6 +7,7 @@ use mathlib.Core.Logic.{_↔_}
 use mathlib.Core.List.{List}
 use Rattle.theory.specs.Words.{Lasso}
 use Rattle.theory.specs.Rules.{Morphism, Marking, Rule}
+use Rattle.theory.specs.Maps.{MapsOnto}
 use Rattle.theory.specs.Pairs.{Linked}
 use Rattle.theory.specs.Grades.{AtLeast, RuleStrong, LinkedGraded}
 
@@ -48,6 +49,13 @@ pub record Reduction (r reduced : Rule) : Type 0 where
   pub same : SameGrades r reduced
   pub smallest : Smallest reduced
   pub marks : MarksGrades (reduced .morphism) (reduced .marks)
+
+-- "map onto the reduced elements, carry products and letter images over, keep every lasso's grade, and the reduced rule is strong and the
+-- smallest" (Job 13): marks may be any that give the grades, and elements may be numbered in any way
+pub record ReducedBy (r r′ : Rule) (to : ℕ → ℕ) : Type 0 where
+  pub maps : MapsOnto (r .morphism) (r′ .morphism) to
+  pub same : SameGrades r r′
+  pub smallest : Smallest r′
 
 -- "Complement turns g into 3 − g" (Job 12): a linked pair whose lassos have the grade g gets 3 − g
 pub record Turned (m : Morphism) (marks : Marking) (s e g′ : ℕ) : Type 0 where

@@ -24,7 +24,7 @@ use Rattle.rule_check.proofs.Calls.{scratch-long, called-good, zeros-left, shap
 use Rattle.mark_strong.specs.Deciding.{DecideNeeds}
 use Rattle.mark_strong.proofs.Calling.{shape-graded, shape-needs}
 use Rattle.two_rules.specs.Checking.{BothPromise}
-use Rattle.two_rules.specs.Deciding.{BothStrong, OnlyFirstStrong, StrengthsAre, BothDecided}
+use Rattle.two_rules.specs.Deciding.{BothStrong, OnlyFirstStrong, StrengthsAre, BothDecided, StrongFiles}
 use Rattle.two_rules.specs.declared.BothChecked.{BothChecked}
 use Rattle.two_rules.specs.declared.BothChecked.the-variants.{Rules, Refused}
 use Rattle.two_rules.specs.declared.Strengths.{Strengths}
@@ -107,7 +107,7 @@ module _ (first second entry : List ℕ) {one two : Shape} {mid : List ℕ} (p :
         (d .strengths (markingOf first) (markingOf second) (shape-graded first-good (p .scratch .first-shape)) (shape-graded second-good (p .scratch .second-shape)) first-stands second-stands))
 
     -- both are strong, and the closures of their marks stand in scratch
-    pub files-strong : answer ≡ Strong → BothStrong (morphismOf first) (morphismOf second) (markingOf first) (markingOf second) exit
+    files-strong : answer ≡ Strong → BothStrong (morphismOf first) (morphismOf second) (markingOf first) (markingOf second) exit
     files-strong e = subst (StrengthsAre (morphismOf first) (morphismOf second) (markingOf first) (markingOf second) exit) e files-strengths
 
     pub first-file-weak : answer ≡ FirstWeak → StrongMarking (morphismOf first) (markingOf first) → ⊥
@@ -116,8 +116,18 @@ module _ (first second entry : List ℕ) {one two : Shape} {mid : List ℕ} (p :
     pub second-file-weak : answer ≡ SecondWeak → OnlyFirstStrong (morphismOf first) (morphismOf second) (markingOf first) (markingOf second)
     second-file-weak e = subst (StrengthsAre (morphismOf first) (morphismOf second) (markingOf first) (markingOf second) exit) e files-strengths
 
-    pub strengths-room : scratchSize ≤ length exit
+    strengths-room : scratchSize ≤ length exit
     strengths-room = omega (arith, both-room, d .same-length)
+
+    pub strong-files : answer ≡ Strong → StrongFiles first second one two exit
+    strong-files e = record {
+      first-good = first-good;
+      second-good = second-good;
+      first-shape = p .scratch .first-shape;
+      second-shape = p .scratch .second-shape;
+      strong = files-strong e;
+      room = strengths-room;
+    }
 
     pub strengths-left : (was end : List ℕ) → length was ≡ length exit → end ≡ replicate (length was) 0 → end ≡ afterCall entry
     strengths-left was end e z = both-left was end (e ∙ d .same-length) z

@@ -2,3 +2,4 @@ pub mod Checking
 pub mod Moving
 pub mod Deciding
 pub mod Calling
+pub mod StrongFiles

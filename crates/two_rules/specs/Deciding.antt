@@ -1,5 +1,5 @@
 -- Whether two markings are strong, decided one after the other in one scratch: what is answered, and which closures are left. Assumes nothing.
-use Prim.Native.Nat.{ℕ, _+_, _<_}
+use Prim.Native.Nat.{ℕ, _+_, _≤_, _<_}
 use mathlib.Core.Path.{_≡_}
 use mathlib.Core.List.{List}
 use lib.ListN.{length, getD}
@@ -7,7 +7,12 @@ use Rattle.theory.specs.Rules.{Morphism, Marking}
 use Rattle.theory.specs.Grades.{StrongMarking}
 use Rattle.theory.proofs.Gradings.{GradedMarks}
 use Rattle.theory.proofs.ClosureGrades.{closure-grade}
+use Rattle.formats.specs.RuleFile.{morphismOf, markingOf}
+use Rattle.formats.specs.RuleChecks.{scratchSize}
 use Rattle.scratch.specs.Map.{secondBase, searchEnd, MarkingAt}
+use Rattle.rule_layout.specs.declared.Shape.{Shape}
+use Rattle.rule_layout.specs.Answers.{IsShape}
+use Rattle.rule_check.specs.GoodRule.{GoodRule}
 use Rattle.two_rules.specs.declared.Strengths.{Strengths}
 use Rattle.two_rules.specs.declared.Strengths.the-variants.{Strong, FirstWeak, SecondWeak}
 
@@ -39,3 +44,12 @@ pub record BothDecided (m₁ m₂ : Morphism) (entry exit : List ℕ) (answer : 
   pub same-length : length exit ≡ length entry
   pub strengths : (first second : Marking) → GradedMarks m₁ first → GradedMarks m₂ second → MarkingAt (m₁ .size) first entry 0
       → MarkingAt (m₂ .size) second entry searchEnd → StrengthsAre m₁ m₂ first second exit answer
+
+-- two good files whose rules are strong, with their counts, and the closures of their marks in scratch
+pub record StrongFiles (first second : List ℕ) (one two : Shape) (scratch : List ℕ) : Type 0 where
+  pub first-good : GoodRule first
+  pub second-good : GoodRule second
+  pub first-shape : IsShape first one
+  pub second-shape : IsShape second two
+  pub strong : BothStrong (morphismOf first) (morphismOf second) (markingOf first) (markingOf second) scratch
+  pub room : scratchSize ≤ length scratch

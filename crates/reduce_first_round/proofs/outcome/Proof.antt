@@ -1,4 +1,4 @@
--- `reduce_first_round::outcome` meets its contract: one look in the table of marks. Assumes nothing.
+-- `reduce_first_round::outcome` meets its contract: one look in a table of marks. Assumes nothing.
 use native.Mathlib.Omega.{arith}
 use borrow.Author.Needs.{needs}
 use Rattle.rule_table.proofs.Facts.{product-below}
@@ -30,7 +30,7 @@ shared-slice-read-result c =
     omega (arith, product-below (b .pre .0) (b .pre .1 .0 .0) (b .pre .1 .0 .1) (c .before .product .ensures), b .pre .0 .small)
 
 returns : tie.Need-returns
-returns c = look-mark _ _ (c .before .product .ensures)
+returns c = look-mark _ _ _ (c .before .product .ensures)
 
 pub outcome-spec : {M : Type 1} → statement M
 outcome-spec = tie.close (tie.spec product-requires mul-result add-result add-result-2 shared-slice-read-result returns)

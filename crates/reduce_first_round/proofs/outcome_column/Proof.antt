@@ -26,7 +26,7 @@ loop-holds c =
 outcome-requires : tie.Need-outcome-requires Inv-loop μ-loop
 outcome-requires c κs =
     let b = c .before .before .before .before .before .before in
-    (b .pre .0, ((c .before .loop-test .taken, least-power-idempotent (c .before .before .before .idempotent-power .ensures) .inside), unchanged-room (c .before .before .loop .inv .kept) (b .pre .1 .1 .1)))
+    (b .pre .0, ((c .before .loop-test .taken, least-power-idempotent (c .before .before .before .idempotent-power .ensures) .inside), omega (arith, unchanged-room (c .before .before .loop .inv .kept) (b .pre .1 .1 .1))))
 
 mul-scratch : tie.Need-mul-scratch Inv-loop μ-loop
 mul-scratch c = omega (arith, c .before .before .before .before .before .before .before .pre .0 .small)

@@ -3,9 +3,9 @@
 use Prim.Native.Nat.{_-_, _≤_}
 use mathlib.Core.Path.{_∙_}
 use native.Mathlib.Omega.{arith}
+use borrow.Author.Tests.{not-true, not-false}
 use Rattle.formats.specs.Table.{morphismAt}
 use Rattle.scratch.proofs.Unchanged.{unchanged-room}
-use Rattle.reduce_first_round.proofs.Comparing.{not-true, not-false}
 use Rattle.reduce_rounds.proofs.Settling.{Started, started, Running, running-start, running-bound, running-next, running-finished, running-stopped}
 use Rattle.reduce_rounds.proofs.refine.Statement.{statement}
 use Rattle.reduce_rounds.proofs.refine.Tie as tie

@@ -1,0 +1,84 @@
+-- `confirm_grades::column_kept` meets its contract: the outcomes of the values that were passed are kept. Assumes nothing.
+use Prim.Native.Nat.{_-_}
+use native.Mathlib.Omega.{arith}
+use Rattle.formats.specs.Table.{morphismAt}
+use Rattle.theory.proofs.IdempotentPowers.{least-power-idempotent}
+use Rattle.finite.specs.Each.{EachBelow}
+use Rattle.finite.proofs.Each.{each-none, each-more, each-all, each-not}
+use Rattle.confirm_grades.specs.Grades.{OutcomeKept}
+use Rattle.confirm_grades.proofs.Keeping.{outcome-kept, outcome-differs, mapped-small}
+use Rattle.confirm_grades.proofs.column_kept.Statement.{statement}
+use Rattle.confirm_grades.proofs.column_kept.Tie as tie
+
+abbrev Inv-loop : tie.InvT-loop
+Inv-loop first n1 k1 map n2 scratch z f y s₀ s = EachBelow (λ i. OutcomeKept (morphismAt first n1 k1) map scratch i z) s
+
+abbrev μ-loop : tie.MeasureT-loop
+μ-loop first n1 k1 map n2 scratch z f y s₀ s = n1 - s
+
+idempotent-power-requires : tie.Need-idempotent-power-requires Inv-loop μ-loop
+idempotent-power-requires c κs =
+    let start = c .before .before .before in
+    (start .pre .0 .table, (start .pre .0 .law, start .pre .1))
+
+mapped-requires : tie.Need-mapped-requires Inv-loop μ-loop
+mapped-requires c κs = omega (arith, c .before .before .before .before .pre .0 .bytes)
+
+loop-holds : tie.Need-loop-holds Inv-loop μ-loop
+loop-holds c = each-none
+
+outcome-requires : tie.Need-outcome-requires Inv-loop μ-loop
+outcome-requires c κs =
+    let start = c .before .before .before .before .before .before .before in
+    (start .pre .0 .table, ((omega arith, least-power-idempotent (c .before .before .before .idempotent-power .ensures) .inside), start .pre .0 .room))
+
+mapped-requires-2 : tie.Need-mapped-requires-2 Inv-loop μ-loop
+mapped-requires-2 c κs = omega (arith, c .before .before .before .before .before .before .before .before .pre .0 .bytes)
+
+outcome-at-requires : tie.Need-outcome-at-requires Inv-loop μ-loop
+outcome-at-requires c κs =
+    let start = c .before .before .before .before .before .before .before .before .before in
+    let start-small = mapped-small (start .pre .0) (omega arith) (c .mapped2 .ensures) in
+    let cycle-small = mapped-small (start .pre .0) (start .pre .1) (c .before .before .before .before .mapped .ensures) in
+    ((omega arith, omega arith), start .pre .0 .room)
+
+returns : tie.Need-returns Inv-loop μ-loop
+returns c =
+    let start = c .before .before .before .before .before .before .before .before .before .before .before in
+    each-not (omega arith)
+    (outcome-differs (start .pre .0) (start .pre .1) (c .before .before .before .before .before .before .before .idempotent-power .ensures) _ (c .before .before .before .outcome .ensures)
+    (c .before .before .mapped2 .ensures) (c .before .before .before .before .before .before .mapped .ensures) (c .before .outcome-at .ensures) (c .if1 .taken))
+
+add-s : tie.Need-add-s Inv-loop μ-loop
+add-s c = omega arith
+
+loop-less : tie.Need-loop-less Inv-loop μ-loop
+loop-less c = omega arith
+
+loop-again : tie.Need-loop-again Inv-loop μ-loop
+loop-again c =
+    let start = c .before .before .before .before .before .before .before .before .before .before .before in
+    each-more (c .before .before .before .before .before .loop .inv)
+    (outcome-kept (start .pre .0) (start .pre .1) (c .before .before .before .before .before .before .before .idempotent-power .ensures) _ (c .before .before .before .outcome .ensures)
+    (c .before .before .mapped2 .ensures) (c .before .before .before .before .before .before .mapped .ensures) (c .before .outcome-at .ensures) (c .if1 .left))
+
+returns-2 : tie.Need-returns-2 Inv-loop μ-loop
+returns-2 c = each-all (c .before .loop .inv) (c .loop-test .left)
+
+pub column-kept-spec : {M : Type 1} → statement M
+column-kept-spec =
+    tie.close
+    (tie.spec
+    Inv-loop
+    μ-loop
+    idempotent-power-requires
+    mapped-requires
+    loop-holds
+    outcome-requires
+    mapped-requires-2
+    outcome-at-requires
+    returns
+    add-s
+    loop-less
+    loop-again
+    returns-2)

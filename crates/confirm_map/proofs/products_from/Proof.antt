@@ -1,0 +1,76 @@
+-- `confirm_map::products_from` meets its contract: the products with the elements that were passed are carried over. Assumes nothing.
+use Prim.Native.Nat.{_-_}
+use native.Mathlib.Omega.{arith}
+use Rattle.formats.specs.Table.{morphismAt}
+use Rattle.rule_table.proofs.Facts.{table-place, product-below}
+use Rattle.finite.specs.Each.{EachBelow}
+use Rattle.confirm_map.specs.Mapping.{mapOf, ProductCarried}
+use Rattle.finite.proofs.Each.{each-none, each-more, each-all, each-not}
+use Rattle.confirm_map.proofs.Mapping.{mapped-below, product-carried, product-differs}
+use Rattle.confirm_map.proofs.products_from.Statement.{statement}
+use Rattle.confirm_map.proofs.products_from.Tie as tie
+
+abbrev Inv-loop : tie.InvT-loop
+Inv-loop first n1 second n2 k map s a t₀ t = EachBelow (ProductCarried (morphismAt first n1 k) (morphismAt second n2 k) (mapOf map) s) t
+
+abbrev μ-loop : tie.MeasureT-loop
+μ-loop first n1 second n2 k map s a t₀ t = n1 - t
+
+mapped-requires : tie.Need-mapped-requires Inv-loop μ-loop
+mapped-requires c κs = omega (arith, c .before .before .before .pre .0 .bytes)
+
+loop-holds : tie.Need-loop-holds Inv-loop μ-loop
+loop-holds c = each-none
+
+mapped-requires-2 : tie.Need-mapped-requires-2 Inv-loop μ-loop
+mapped-requires-2 c κs = omega (arith, c .before .before .before .before .before .before .pre .0 .bytes)
+
+product-requires : tie.Need-product-requires Inv-loop μ-loop
+product-requires c κs =
+    let start = c .before .before .before .before .before .before .before in
+    table-place (start .pre .0 .second-table) (mapped-below (start .pre .0) (start .pre .1) (c .before .before .before .mapped .ensures)) (mapped-below (start .pre .0) (c .before .loop-test .taken) (c .mapped2 .ensures))
+
+product-requires-2 : tie.Need-product-requires-2 Inv-loop μ-loop
+product-requires-2 c κs = table-place (c .before .before .before .before .before .before .before .before .pre .0 .first-table) (c .before .before .before .before .before .before .before .before .pre .1) (c .before .before .loop-test .taken)
+
+mapped-requires-3 : tie.Need-mapped-requires-3 Inv-loop μ-loop
+mapped-requires-3 c κs =
+    let start = c .before .before .before .before .before .before .before .before .before in
+    omega (arith, start .pre .0 .bytes, product-below (start .pre .0 .first-table) (start .pre .1) (c .before .before .before .loop-test .taken) (c .product2 .ensures))
+
+returns : tie.Need-returns Inv-loop μ-loop
+returns c =
+    each-not (c .before .before .before .before .before .loop-test .taken)
+    (product-differs (c .before .before .before .before .before .before .before .mapped .ensures) (c .before .before .before .before .mapped2 .ensures) (c .before .before .before .product .ensures) (c .before .before .product2 .ensures) (c .before .mapped3 .ensures) (c .if1 .taken))
+
+add-t : tie.Need-add-t Inv-loop μ-loop
+add-t c = omega arith
+
+loop-less : tie.Need-loop-less Inv-loop μ-loop
+loop-less c = omega arith
+
+loop-again : tie.Need-loop-again Inv-loop μ-loop
+loop-again c =
+    each-more (c .before .before .before .before .before .before .loop .inv)
+    (product-carried (c .before .before .before .before .before .before .before .mapped .ensures) (c .before .before .before .before .mapped2 .ensures) (c .before .before .before .product .ensures) (c .before .before .product2 .ensures) (c .before .mapped3 .ensures) (c .if1 .left))
+
+returns-2 : tie.Need-returns-2 Inv-loop μ-loop
+returns-2 c = each-all (c .before .loop .inv) (c .loop-test .left)
+
+pub products-from-spec : {M : Type 1} → statement M
+products-from-spec =
+    tie.close
+    (tie.spec
+    Inv-loop
+    μ-loop
+    mapped-requires
+    loop-holds
+    mapped-requires-2
+    product-requires
+    product-requires-2
+    mapped-requires-3
+    returns
+    add-t
+    loop-less
+    loop-again
+    returns-2)
