@@ -3,8 +3,8 @@
  *
  * What a caller owes
  *   - Each pointer is not null, also for a length of 0, and good for its length.
- *   - A buffer that is written (out, blocks, scratch, u and v of duknavet_included, points of duknavet_keep) overlaps no other
- *     argument's bytes during the call. Bytes that are only read may overlap.
+ *   - A buffer that is written (out, blocks, scratch, map of duknavet_reduce, u and v of duknavet_included, points of duknavet_keep)
+ *     overlaps no other argument's bytes during the call. Bytes that are only read may overlap.
  *   - Nothing else: any bytes of any length, and any numbers, have their answer. No call keeps a pointer, allocates, or
  *     uses memory shared between calls; calls on different buffers may run at the same time.
  *
@@ -49,6 +49,7 @@ extern "C" {
 #define DUKNAVET_U 64          /* u of included */
 #define DUKNAVET_V 4224        /* v of included */
 #define DUKNAVET_POINTS 24     /* points of keep and return: three bytes for each of the names 0 to 7 */
+#define DUKNAVET_MAP 64        /* map of reduce: a byte for each element; the map of confirm may have any length */
 #define DUKNAVET_BLOCKS 64     /* blocks of reduce_rounds: a byte for each element */
 #define DUKNAVET_SUCCESSORS 65 /* out of successors: a byte for each element, and one for none */
 
@@ -151,10 +152,24 @@ uint64_t duknavet_included(const uint8_t *rule, size_t rule_length,
                            uint8_t *scratch, size_t scratch_length);
 
 /* The smallest strong rule that gives every lasso the grade that a strong rule gives it. It marks every linked pair whose lassos
- * it grades 1 or more, with that grade. Field 0: how many bytes of out (DUKNAVET_RULE) it has. */
+ * it grades 1 or more, with that grade. Field 0: how many bytes of out (DUKNAVET_RULE) it has. map (DUKNAVET_MAP) gets a byte for each
+ * element of the given rule, the element of the smallest rule that it went to. */
 uint64_t duknavet_reduce(const uint8_t *rule, size_t rule_length,
                          uint8_t *out, size_t out_length,
+                         uint8_t *map, size_t map_length,
                          uint8_t *scratch, size_t scratch_length);
+
+/* Whether the rule second is the strong rule first reduced, by whomever, where map has a byte for each element of the first, the
+ * element of the second that it went to. Field 0: 1 for yes, 0 for no. Yes exactly if map has as many bytes as the first rule has
+ * elements, each names an element of the second, and each of these is named; products go to products and the letters' elements to
+ * those of the same letters, as many in both; every lasso has the same grade by both; and the second is strong and the smallest with
+ * these grades. Its elements may be numbered in any way, and its marks may be any that give the grades. What duknavet_reduce writes
+ * gets 1, with the bytes of map that it wrote. Refused, in this order: 13; the first file's; the second's; 12 for the first.
+ * Whatever is wrong else is 0. */
+uint64_t duknavet_confirm(const uint8_t *first, size_t first_length,
+                          const uint8_t *second, size_t second_length,
+                          const uint8_t *map, size_t map_length,
+                          uint8_t *scratch, size_t scratch_length);
 
 /* Two strong rules over as many letters made one, whose elements are the pairs of values that non-empty words have. A lasso has the
  * lower of its two grades (both), the higher (either), or the lower of the first and of 3 less the second (without). It marks every

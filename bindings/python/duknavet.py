@@ -24,6 +24,7 @@ CLASSES_OUT = 8192
 U_OUT = 64
 V_OUT = 4224
 POINTS = 24
+MAP_OUT = 64
 BLOCKS = 64
 SUCCESSORS_OUT = 65
 #: The value of a monitor, and of a state's s, that stands for no letters.
@@ -84,6 +85,13 @@ class Classes(NamedTuple):
     joins: int
 
 
+class Reduction(NamedTuple):
+    """The file of a reduction, and for each element of the given rule the element of the reduction that it went to."""
+
+    rule: bytes
+    map: bytes
+
+
 class Rounds(NamedTuple):
     """The rounds done after round 0, whether one more would change nothing, and for each element the least of its block."""
 
@@ -142,7 +150,8 @@ def _load() -> ctypes.CDLL:
         "member": lent + lent + lent + written,
         "complement": lent + written + written,
         "included": lent + lent + written + written + written,
-        "reduce": lent + written + written,
+        "reduce": lent + written + written + written,
+        "confirm": lent + lent + lent + written,
         "both": lent + lent + written + written,
         "either": lent + lent + written + written,
         "without": lent + lent + written + written,
@@ -230,7 +239,19 @@ def complement(rule: bytes) -> bytes:
 
 def reduce(rule: bytes) -> bytes:
     """The smallest strong rule that gives every lasso the grade that a strong rule gives it."""
-    return _written("reduce", rule)
+    return reduce_with_map(rule).rule
+
+
+def reduce_with_map(rule: bytes) -> Reduction:
+    """The same with the map: where each element of the rule went."""
+    out, map = ctypes.create_string_buffer(RULE_OUT), ctypes.create_string_buffer(MAP_OUT)
+    length, _, _ = _call("reduce", rule, out, map)
+    return Reduction(out.raw[:length], map.raw[: rule[0]])
+
+
+def confirm(first: bytes, second: bytes, map: bytes) -> bool:
+    """Whether the second rule is the first, a strong one, reduced: by the bytes that say for each element of the first where it went."""
+    return _call("confirm", first, second, map)[0] == 1
 
 
 def both(first: bytes, second: bytes) -> bytes:

@@ -8,7 +8,7 @@ import re
 import unittest
 
 import duknavet
-from duknavet import FINAL, INITIAL, NONE, PLAIN, Graded, Mark, Monitor, Refused, Rounds, Rule
+from duknavet import FINAL, INITIAL, NONE, PLAIN, Graded, Mark, Monitor, Reduction, Refused, Rounds, Rule
 
 W = bytes([2, 0, 0, 0, 1, 2, 0, 1, 1, 0, 0, 0, 3])
 THREE_GRADES = bytes([2, 0, 0, 0, 1, 2, 0, 1, 3, 0, 0, 0, 3, 0, 1, 2, 1, 1, 1])
@@ -57,6 +57,33 @@ class Calls(unittest.TestCase):
         self.assertEqual(duknavet.complement(W), bytes([2, 0, 0, 0, 1, 2, 0, 1, 2, 0, 0, 1, 3, 1, 1, 3]))
         self.assertEqual(duknavet.reduce(duknavet.automaton_rule(AUTOMATON)), W)
         self.refused(12, 1, 0, duknavet.reduce, Z)
+
+    def test_maps_of_reductions(self):
+        self.assertEqual(duknavet.reduce_with_map(W), Reduction(W, word(0, 1)))
+        found = duknavet.reduce_with_map(duknavet.automaton_rule(AUTOMATON))
+        self.assertEqual(found, Reduction(W, word(0, 1, 0)))
+        all_of_one_grade = remainders(64, 1, marks=[Mark(0, 0, 2)])
+        one_element = remainders(1, 0, marks=[Mark(0, 0, 2)])
+        self.assertEqual(duknavet.reduce_with_map(all_of_one_grade), Reduction(one_element, bytes(64)))
+        self.refused(12, 1, 0, duknavet.reduce_with_map, Z)
+        self.refused(1, 1, 0, duknavet.reduce_with_map, b"")
+
+    def test_confirm(self):
+        exchanged = bytes([2, 0, 1, 1, 1, 2, 1, 0, 1, 0, 1, 1, 3])
+        self.assertTrue(duknavet.confirm(W, exchanged, word(1, 0)))
+        self.assertFalse(duknavet.confirm(W, exchanged, word(0, 1)))
+        self.assertTrue(duknavet.confirm(W, bytearray(W), bytearray([0, 1])))
+        for map in (b"", word(0), word(0, 1, 0), word(0, 2), word(0, 255), word(1, 0)):
+            self.assertFalse(duknavet.confirm(W, W, map))
+        self.assertFalse(duknavet.confirm(W, THREE_GRADES, word(0, 1)))
+        self.assertFalse(duknavet.confirm(W, Z, word(0, 1)))
+        self.assertFalse(duknavet.confirm(W, remainders(1, 0), word(0, 0)))
+        rule = duknavet.automaton_rule(AUTOMATON)
+        self.assertTrue(duknavet.confirm(rule, W, word(0, 1, 0)))
+        self.assertFalse(duknavet.confirm(rule, rule, word(0, 1, 2)))
+        self.refused(12, 1, 0, duknavet.confirm, Z, W, b"")
+        self.refused(1, 2, 12, duknavet.confirm, Z, W[:12], word(0, 1))
+        self.refused(5, 1, 1, duknavet.confirm, bytes([2, 1, 0, 0, 0, 2, 0, 1, 0, 0]), W[:12], b"")
 
     def test_two_rules(self):
         others = duknavet.complement(W)
@@ -153,7 +180,7 @@ class Calls(unittest.TestCase):
         types = {"*": ctypes.c_char_p, "size_t": ctypes.c_size_t, "uint8_t": ctypes.c_uint8}
         with open(os.path.join(os.path.dirname(os.path.abspath(__file__)), "..", "..", "include", "duknavet.h")) as file:
             declared = re.findall(r"^uint64_t (duknavet_\w+)\(([^)]*)\);", file.read(), re.MULTILINE)
-        self.assertGreater(len(declared), 18)
+        self.assertGreater(len(declared), 19)
         for name, arguments in declared:
             function = getattr(duknavet._library, name)
             self.assertEqual(function.restype, ctypes.c_uint64, name)
@@ -209,6 +236,44 @@ class Pairs(unittest.TestCase):
                 self.assertEqual(duknavet.member(file, u, v).grade, combined(one, two))
                 seen.add((call, one, two))
         self.assertGreater(len(seen), 20)
+
+
+class Reductions(unittest.TestCase):
+    """Sums modulo m with every sum marked alike, and the letters that come without end beside them: of such a rule the sums are not needed."""
+
+    def test_maps(self):
+        numbers = random.Random(1313)
+        seen = set()
+        for _ in range(80):
+            m, image = numbers.randint(1, 7), numbers.randrange(7)
+            # An element is a sum and whether letter 0 came: 2 * sum + 1 if it did not.
+            products = [[2 * ((a // 2 + b // 2) % m) + (a & b & 1) for b in range(2 * m)] for a in range(2 * m)]
+            images = [2 * (1 % m), 2 * (image % m) + 1]
+            reached, waiting = set(), list(images)
+            while waiting:
+                a = waiting.pop()
+                if a not in reached:
+                    reached.add(a)
+                    waiting.extend(products[a][b] for b in images)
+            number = {a: at for at, a in enumerate(sorted(reached))}
+            grade = {kind: numbers.randint(0, 3) for kind in (0, 1)}
+            rows = [[number[products[a][b]] for b in sorted(reached)] for a in sorted(reached)]
+            linked = [(s, e) for s in number.values() for e in number.values() if rows[e][e] == e and rows[s][e] == s]
+            kind = [a & 1 for a in sorted(reached)]
+            marks = [Mark(s, e, grade[kind[e]]) for s, e in linked if grade[kind[e]] > 0]
+            file = Rule(rows, [number[a] for a in images], marks).to_bytes()
+            found = duknavet.reduce_with_map(file)
+            # Two elements where letter 0 without end has another grade than no letter 0 from some place on, else one.
+            expected = bytes(kind) if grade[0] != grade[1] else bytes(len(rows))
+            self.assertEqual(found.map, expected)
+            self.assertTrue(duknavet.confirm(file, found.rule, found.map))
+            self.assertEqual(duknavet.confirm(file, file, bytes(range(len(rows)))), len(rows) == found.rule[0])
+            for at in range(len(rows)):
+                other = bytearray(found.map)
+                other[at] = (other[at] + 1) % 3
+                self.assertFalse(duknavet.confirm(file, found.rule, other))
+            seen.add((len(rows), found.rule[0]))
+        self.assertGreater(len(seen), 10)
 
 
 class Automata(unittest.TestCase):

@@ -61,7 +61,8 @@ pub use markings::{classes, complement, included, strong};
 pub use markings::{Classes, Complemented, Inclusion, Strength};
 pub use monitors::{event, fresh, keep, mark, return_to, verdict};
 pub use monitors::{Monitor, NotMoved, Verdict};
-pub use reductions::{reduce, reduce_rounds, Partition, Reduced};
+pub use reductions::{confirm, reduce, reduce_rounds};
+pub use reductions::{Confirmation, Partition, Reduced};
 pub use rule_automaton::{ListedState, RuleAutomaton, RuleState};
 pub use rule_monitor::RuleMonitor;
 pub use states::{state_kind, successors, StateKind, Successors};
@@ -83,6 +84,9 @@ pub const V_OUT: usize = 4_224;
 
 /// The bytes that the named points of a monitor must have: three for each of the names 0 to 7.
 pub const POINTS: usize = 24;
+
+/// The bytes that a buffer for the map of a reduction must have: one for each of 64 elements.
+pub const MAP_OUT: usize = 64;
 
 /// The bytes that a buffer for the blocks of a reduction's rounds must have.
 pub const BLOCKS: usize = 64;

@@ -11,8 +11,9 @@
 
 use crate::files::Lasso;
 use crate::words::{explain, Asked, Explained};
-use crate::{Inclusion, Membership, Operation, Partition, RuleState, StateKind, Strength};
-use crate::{BLOCKS, CLASSES_OUT, RULE_OUT, SCRATCH, SUCCESSORS_OUT, U_OUT, V_OUT};
+use crate::{Confirmation, Inclusion, Membership, Operation, Partition};
+use crate::{RuleState, StateKind, Strength};
+use crate::{BLOCKS, CLASSES_OUT, MAP_OUT, RULE_OUT, SCRATCH, SUCCESSORS_OUT, U_OUT, V_OUT};
 
 /// The conjugacy classes of a rule's linked pairs.
 #[derive(Clone, Debug, PartialEq, Eq, Hash)]
@@ -37,6 +38,15 @@ impl ClassList {
         let first = pairs().filter(|(pair, least)| numbered(*pair, least));
         first.map(class).collect()
     }
+}
+
+/// The reduction of a strong rule, and where the rule's elements went.
+#[derive(Clone, Debug, PartialEq, Eq, Hash)]
+pub struct Reduction {
+    /// The file of the smallest strong rule that gives every lasso the same grade.
+    pub rule: Vec<u8>,
+    /// For each element of the given rule the element of the reduction that it went to.
+    pub map: Vec<u8>,
 }
 
 /// Where the rounds of a reduction stand, with its blocks.
@@ -144,10 +154,24 @@ pub fn complement(rule: &[u8]) -> Result<Vec<u8>, Explained> {
 
 /// The smallest strong rule that gives every lasso the grade that a strong rule gives it.
 pub fn reduce(rule: &[u8]) -> Result<Vec<u8>, Explained> {
+    reduce_with_map(rule).map(|reduction| reduction.rule)
+}
+
+/// The same with the map: where each element of the rule went.
+pub fn reduce_with_map(rule: &[u8]) -> Result<Reduction, Explained> {
+    let mut map = vec![0; MAP_OUT];
     let call = |out: &mut [u8], scratch: &mut [u8]| {
-        crate::reduce(rule, out, scratch).map(|written| written.length)
+        crate::reduce(rule, out, &mut map, scratch).map(|written| written.length)
     };
-    written(call, Asked::Rule(rule))
+    let reduced = written(call, Asked::Rule(rule))?;
+    map.truncate(rule.first().map_or(0, |count| usize::from(*count)));
+    Ok(Reduction { rule: reduced, map })
+}
+
+/// Whether the second rule is the first, a strong one, reduced by a map, which has a byte for each element of the first.
+pub fn confirm(first: &[u8], second: &[u8], map: &[u8]) -> Result<Confirmation, Explained> {
+    crate::confirm(first, second, map, &mut scratch())
+        .map_err(|refused| explain(refused, Asked::TwoRules { first, second }))
 }
 
 /// The rule made of two strong ones over as many letters: each lasso has its two grades combined. It need not be the smallest.

@@ -103,6 +103,18 @@ mod exported {
             rule_length: usize,
             out: *mut u8,
             out_length: usize,
+            map: *mut u8,
+            map_length: usize,
+            scratch: *mut u8,
+            scratch_length: usize,
+        ) -> u64;
+        pub fn duknavet_confirm(
+            first: *const u8,
+            first_length: usize,
+            second: *const u8,
+            second_length: usize,
+            map: *const u8,
+            map_length: usize,
             scratch: *mut u8,
             scratch_length: usize,
         ) -> u64;
@@ -347,14 +359,32 @@ pub fn verdict(rule: &[u8], before: usize, since: usize, scratch: &mut [u8]) -> 
     }
 }
 
-pub fn reduce(rule: &[u8], out: &mut [u8], scratch: &mut [u8]) -> u64 {
-    // SAFETY: as for `classes`.
+pub fn reduce(rule: &[u8], out: &mut [u8], map: &mut [u8], scratch: &mut [u8]) -> u64 {
+    // SAFETY: as for `classes`; `map` is borrowed mutably too.
     unsafe {
         exported::duknavet_reduce(
             rule.as_ptr(),
             rule.len(),
             out.as_mut_ptr(),
             out.len(),
+            map.as_mut_ptr(),
+            map.len(),
+            scratch.as_mut_ptr(),
+            scratch.len(),
+        )
+    }
+}
+
+pub fn confirm(first: &[u8], second: &[u8], map: &[u8], scratch: &mut [u8]) -> u64 {
+    // SAFETY: as for `classes`; `first`, `second` and `map` may overlap, since they are only read.
+    unsafe {
+        exported::duknavet_confirm(
+            first.as_ptr(),
+            first.len(),
+            second.as_ptr(),
+            second.len(),
+            map.as_ptr(),
+            map.len(),
             scratch.as_mut_ptr(),
             scratch.len(),
         )

@@ -1,6 +1,6 @@
-//! The smallest strong rule with the same grades, at once or by rounds.
+//! The smallest strong rule with the same grades, at once or by rounds, and whether one that was made elsewhere is right.
 
-use crate::answer::{foreign, unpack, unpack_length};
+use crate::answer::{foreign, unpack, unpack_bool, unpack_length};
 use crate::{raw, Refused};
 
 /// A reduction that was written.
@@ -13,10 +13,50 @@ pub struct Reduced {
 /// The smallest strong rule that gives every lasso the grade that a strong rule gives it; it marks every linked pair whose lassos it
 /// grades 1 or more, with that grade.
 ///
-/// `out` has [`RULE_OUT`](crate::RULE_OUT) bytes or more. A weak rule is refused.
-pub fn reduce(rule: &[u8], out: &mut [u8], scratch: &mut [u8]) -> Result<Reduced, Refused> {
-    let length = unpack_length(raw::reduce(rule, out, scratch), out.len())?;
+/// The first bytes of `map`, one for each element of the rule, say which element of the reduction it went to; the others are kept.
+///
+/// `out` has [`RULE_OUT`](crate::RULE_OUT) bytes or more, `map` [`MAP_OUT`](crate::MAP_OUT). A weak rule is refused.
+pub fn reduce(
+    rule: &[u8],
+    out: &mut [u8],
+    map: &mut [u8],
+    scratch: &mut [u8],
+) -> Result<Reduced, Refused> {
+    let length = unpack_length(raw::reduce(rule, out, map, scratch), out.len())?;
     Ok(Reduced { length })
+}
+
+/// Whether a reduction that was made elsewhere is right.
+#[derive(Clone, Copy, Debug, PartialEq, Eq, Hash)]
+pub enum Confirmation {
+    /// The second rule is the first one reduced by the map.
+    Yes,
+    /// It is not.
+    No,
+}
+
+/// Whether the rule `second` is the strong rule `first` reduced, where the bytes of `map` say for each element of the first which element
+/// of the second it went to.
+///
+/// Yes exactly if there is a byte for each element of the first rule, each names an element of the second, and each of these is named;
+/// products go to products and the letters' elements to the letters' elements, as many in both; every lasso has the same grade by both
+/// rules; and the second is strong and no strong rule with these grades has fewer elements. Its elements may be numbered in any way, and
+/// its marks may be any that give the grades. What [`reduce`] writes gets yes.
+///
+/// No is answered only where nothing is refused: a weak first rule is refused, and what is wrong with the second file alone has input 2.
+/// The map may have any length. The three inputs may be the same bytes.
+pub fn confirm(
+    first: &[u8],
+    second: &[u8],
+    map: &[u8],
+    scratch: &mut [u8],
+) -> Result<Confirmation, Refused> {
+    Ok(
+        match unpack_bool(raw::confirm(first, second, map, scratch))? {
+            true => Confirmation::Yes,
+            false => Confirmation::No,
+        },
+    )
 }
 
 /// Where the rounds of a reduction stand.

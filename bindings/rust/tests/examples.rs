@@ -1,13 +1,14 @@
 //! The small rules of document 01, with grade 3 on each mark, each with the answer that the document gives; further grades, and the turns
 //! of cycles.
 
-use duknavet::{automaton_rule, classes, combine, complement, event, fresh, included, keep, mark};
-use duknavet::{member, reduce, reduce_rounds, return_to, state_kind, strong, successors, verdict};
-use duknavet::{Classes, Inclusion, Membership, StateKind};
+use duknavet::{automaton_rule, classes, combine, complement, confirm, event, fresh, included};
+use duknavet::{keep, mark, member, reduce, reduce_rounds, return_to, state_kind, strong};
+use duknavet::{successors, verdict};
+use duknavet::{Classes, Confirmation, Inclusion, Membership, StateKind};
 use duknavet::{Monitor, Operation, Partition, Refusal, Refused, Strength, Verdict};
 use duknavet::{
-    BLOCKS, CLASSES_OUT, MOST_ROUNDS, NONE, POINTS, RULE_OUT, SCRATCH, SUCCESSORS_OUT, U_OUT,
-    V_OUT, WORD,
+    BLOCKS, CLASSES_OUT, MAP_OUT, MOST_ROUNDS, NONE, POINTS, RULE_OUT, SCRATCH, SUCCESSORS_OUT,
+    U_OUT, V_OUT, WORD,
 };
 
 /// Letter 0 without end, over letters 0 and 1.
@@ -20,6 +21,10 @@ const W_GRADED: [u8; 19] = [2, 0, 0, 0, 1, 2, 0, 1, 3, 0, 0, 0, 3, 0, 1, 2, 1, 1
 const Z: [u8; 13] = [2, 0, 1, 1, 0, 2, 1, 0, 1, 0, 0, 0, 3];
 /// Z with letter 0 only.
 const Z_ONE_LETTER: [u8; 12] = [2, 0, 1, 1, 0, 1, 1, 1, 0, 0, 0, 3];
+/// From some place on only one of two letters comes: elements for letter 0 alone, for letter 1 alone, for both.
+const ONE_LETTER: [u8; 27] = [
+    3, 0, 2, 2, 2, 1, 2, 2, 2, 2, 2, 0, 1, 4, 0, 2, 0, 3, 2, 1, 3, 1, 1, 3, 0, 0, 3,
+];
 /// State 0 initial, state 1 final; letter 0 leads to state 1, letter 1 to state 0.
 const M10: [u8; 18] = [2, 1, 2, 2, 4, 0, 0, 0, 1, 0, 1, 0, 1, 0, 1, 1, 1, 0];
 
@@ -61,10 +66,21 @@ fn remainders(n: u8, marks: &[u8]) -> Vec<u8> {
     rule
 }
 
+/// The reduction, and the front of the map, with one byte of the 9s that were there.
+fn reduced_by(rule: &[u8]) -> Result<(Vec<u8>, Vec<u8>), Refused> {
+    let (mut out, mut map) = (vec![0; RULE_OUT], [9; MAP_OUT + 1]);
+    let length = reduce(rule, &mut out, &mut map, &mut scratch())?.length;
+    let elements = rule[0] as usize;
+    assert_eq!(map[elements..], [9; MAP_OUT + 1][elements..]);
+    Ok((out[..length].to_vec(), map[..elements + 1].to_vec()))
+}
+
 fn reduced(rule: &[u8]) -> Result<Vec<u8>, Refused> {
-    let mut out = vec![0; RULE_OUT];
-    let length = reduce(rule, &mut out, &mut scratch())?.length;
-    Ok(out[..length].to_vec())
+    reduced_by(rule).map(|(rule, _)| rule)
+}
+
+fn confirmed(first: &[u8], second: &[u8], map: &[u8]) -> Result<Confirmation, Refused> {
+    confirm(first, second, map, &mut scratch())
 }
 
 fn complemented(rule: &[u8]) -> Result<Vec<u8>, Refused> {
@@ -365,6 +381,169 @@ fn complement_and_inclusion_of_w() {
         panic!("W does not accept letter 1 for ever");
     };
     assert_eq!(lasso(&W, &u[..i], &v[..j]), graded(0, 1));
+}
+
+#[test]
+fn maps_of_reductions() {
+    let map = |rule: &[u8]| reduced_by(rule).map(|(_, map)| map);
+    assert_eq!(map(&W), Ok(vec![0, 1, 9]));
+    assert_eq!(map(&W_ALL), Ok(vec![0, 0, 9]));
+    assert_eq!(map(&Z_ONE_LETTER), Ok(vec![0, 0, 9]));
+    // Its elements 0 and 2 have a letter 0, and element 1 has none.
+    let rule = translated(&M10).expect("few matrices");
+    assert_eq!(map(&rule), Ok(vec![0, 1, 0, 9]));
+    // The same rule in other numbers: both, letter 1, letter 0; and with the letters' elements exchanged.
+    assert_eq!(map(&ONE_LETTER), Ok(vec![0, 1, 2, 9]));
+    let backwards = [
+        3, 0, 0, 0, 0, 1, 0, 0, 0, 2, 2, 2, 1, 4, 0, 0, 1, 3, 2, 2, 3, 0, 2, 3, 1, 1, 3,
+    ];
+    assert_eq!(map(&backwards), Ok(vec![2, 1, 0, 9]));
+    assert_eq!(reduced(&backwards), reduced(&ONE_LETTER));
+    let mut exchanged = ONE_LETTER;
+    exchanged[11..13].copy_from_slice(&[1, 0]);
+    assert_eq!(map(&exchanged), Ok(vec![1, 0, 2, 9]));
+    // 64 remainders, all of one grade.
+    let (_, map) = reduced_by(&remainders(64, &[1, 0, 0, 0, 3])).expect("strong");
+    assert_eq!(map, [vec![0; 64], vec![9]].concat());
+}
+
+#[test]
+fn a_short_map_changes_nothing() {
+    let (mut out, mut map, mut scratch) = ([8; RULE_OUT], [9; MAP_OUT - 1], [7; SCRATCH]);
+    let answer = reduce(&W, &mut out, &mut map, &mut scratch);
+    assert_eq!(answer, refused(13, 1, 0));
+    assert!(out == [8; RULE_OUT] && map == [9; MAP_OUT - 1] && scratch == [7; SCRATCH]);
+    // Nor do a weak rule and a damaged one, but for the scratch.
+    let mut map = [9; MAP_OUT];
+    for (rule, expected) in [(&Z[..], refused(12, 1, 0)), (&W[..12], refused(1, 1, 12))] {
+        assert_eq!(reduce(rule, &mut out, &mut map, &mut scratch), expected);
+        assert!(out == [8; RULE_OUT] && map == [9; MAP_OUT] && scratch == [0; SCRATCH]);
+    }
+}
+
+#[test]
+fn what_reduce_writes_is_confirmed() {
+    // The sets of six letters, with grade 3 where the set that comes without end has an even number of them.
+    let mut sets = vec![64];
+    sets.extend((0..64).flat_map(|a| (0..64).map(move |b| a | b)));
+    sets.extend([16, 1, 2, 4, 8, 16, 32, 0, 1, 2, 4, 8, 16, 32, 0, 1, 2]);
+    let linked = (0..64).flat_map(|s| (0..64).map(move |e| (s, e)));
+    let even = linked.filter(|(s, e): &(u8, u8)| s | e == *s && e.count_ones() % 2 == 0);
+    let marks: Vec<u8> = even.flat_map(|(s, e)| [s, e, 3]).collect();
+    sets.extend((marks.len() as u16 / 3).to_le_bytes());
+    sets.extend(marks);
+    let remainders = remainders(64, &[1, 0, 0, 0, 3]);
+    for rule in [&W[..], &W_ALL, &W_GRADED, &Z_ONE_LETTER, &remainders, &sets] {
+        let (second, map) = reduced_by(rule).expect("strong");
+        let (elements, longer) = (rule[0] as usize, &map[..]);
+        let asked = |map: &[u8]| confirmed(rule, &second, map);
+        assert_eq!(asked(&map[..elements]), Ok(Confirmation::Yes));
+        assert_eq!(asked(longer), Ok(Confirmation::No));
+        assert_eq!(asked(&map[..elements - 1]), Ok(Confirmation::No));
+    }
+}
+
+#[test]
+fn w_reduced_elsewhere() {
+    let yes_if = |yes| match yes {
+        true => Ok(Confirmation::Yes),
+        false => Ok(Confirmation::No),
+    };
+    let exchanged = [2, 0, 1, 1, 1, 2, 1, 0, 1, 0, 1, 1, 3];
+    assert_eq!(confirmed(&W, &W, &[0, 1]), yes_if(true));
+    assert_eq!(confirmed(&W, &exchanged, &[1, 0]), yes_if(true));
+    assert_eq!(confirmed(&W, &exchanged, &[0, 1]), yes_if(false));
+    // Letters exchanged in the second, products that are not carried over, an element that none goes to.
+    let other_letters = [2, 0, 0, 0, 1, 2, 1, 0, 1, 0, 0, 0, 3];
+    assert_eq!(confirmed(&W, &other_letters, &[0, 1]), yes_if(false));
+    assert_eq!(confirmed(&W, &W, &[1, 0]), yes_if(false));
+    let one_element = [1, 0, 2, 0, 0, 1, 0, 0, 0, 3];
+    assert_eq!(confirmed(&one_element, &W, &[0]), yes_if(false));
+    // To exchange the two letters keeps products and grades, and not the letters' elements.
+    assert_eq!(
+        confirmed(&ONE_LETTER, &ONE_LETTER, &[0, 1, 2]),
+        yes_if(true)
+    );
+    assert_eq!(
+        confirmed(&ONE_LETTER, &ONE_LETTER, &[1, 0, 2]),
+        yes_if(false)
+    );
+}
+
+#[test]
+fn marks_of_reductions_made_elsewhere() {
+    // Letters 0 and 1 in turn, 0 first: elements for 0, 1, neither, 0 1 and 1 0. Of its two marks each follows from the other, since a turn
+    // later the same endless word has the other pair of values.
+    let in_turn = |marks: &[u8]| {
+        let table = [
+            2, 3, 2, 2, 0, 4, 2, 2, 1, 2, 2, 2, 2, 2, 2, 0, 2, 2, 3, 2, 2, 1, 2, 2, 4,
+        ];
+        [&[5], &table[..], &[2, 0, 1], marks].concat()
+    };
+    let both = in_turn(&[2, 0, 0, 4, 3, 3, 3, 3]);
+    let same = [0, 1, 2, 3, 4];
+    assert_eq!(
+        reduced_by(&both),
+        Ok((both.clone(), vec![0, 1, 2, 3, 4, 9]))
+    );
+    for (marks, answer) in [
+        (&[2, 0, 3, 3, 3, 0, 4, 3][..], Confirmation::Yes),
+        (&[1, 0, 3, 3, 3], Confirmation::Yes),
+        (&[1, 0, 0, 4, 3], Confirmation::Yes),
+        (&[2, 0, 0, 4, 3, 3, 3, 1], Confirmation::Yes),
+        (&[2, 0, 0, 4, 2, 3, 3, 1], Confirmation::No),
+        (&[0, 0], Confirmation::No),
+    ] {
+        assert_eq!(confirmed(&both, &in_turn(marks), &same), Ok(answer));
+        assert_eq!(confirmed(&in_turn(marks), &both, &same), Ok(answer));
+    }
+    // Here no mark follows from others: 1, then 0 for ever has only (2, 0).
+    let fewer = [&ONE_LETTER[..13], &[2, 0, 0, 0, 3, 1, 1, 3]].concat();
+    let answer = confirmed(&ONE_LETTER, &fewer, &[0, 1, 2]);
+    assert_eq!(answer, Ok(Confirmation::No));
+    assert_eq!(lasso(&fewer, &[1], &[0]), graded(0, 1));
+}
+
+#[test]
+fn sizes_and_maps_of_reductions_made_elsewhere() {
+    let one_element = [1, 0, 1, 0, 1, 0, 0, 0, 3];
+    let asked = |second: &[u8], map: &[u8]| confirmed(&Z_ONE_LETTER, second, map);
+    assert_eq!(asked(&one_element, &[0, 0]), Ok(Confirmation::Yes));
+    assert_eq!(asked(&Z_ONE_LETTER, &[0, 1]), Ok(Confirmation::No));
+    let other_grade = [1, 0, 1, 0, 1, 0, 0, 0, 2];
+    assert_eq!(asked(&other_grade, &[0, 0]), Ok(Confirmation::No));
+    for map in [&[][..], &[0], &[0, 0, 0], &[0, 1], &[0, 255], &[0; 64]] {
+        assert_eq!(asked(&one_element, map), Ok(Confirmation::No));
+    }
+    assert_eq!(confirmed(&W, &one_element, &[0, 0]), Ok(Confirmation::No));
+}
+
+#[test]
+fn no_and_refusals_of_confirm() {
+    assert_eq!(confirmed(&W, &Z, &[0, 1]), Ok(Confirmation::No));
+    // Words without letter 0 told apart make Z strong. Then Z is weak, and nothing else is wrong with it.
+    let strong = [
+        3, 0, 1, 2, 1, 1, 2, 2, 2, 1, 2, 2, 0, 4, 0, 0, 0, 3, 1, 0, 3, 1, 1, 3, 2, 1, 3,
+    ];
+    assert_eq!(strength(&strong), Ok(Strength::Strong));
+    assert_eq!(confirmed(&strong, &Z, &[0, 0, 1]), Ok(Confirmation::No));
+    assert_eq!(
+        confirmed(&strong, &strong, &[0, 1, 2]),
+        Ok(Confirmation::Yes)
+    );
+    // 12 for the first comes before every no, and what is wrong with the files before 12.
+    for (second, map) in [(&W[..], &[0][..]), (&Z, &[0, 1]), (&Z_ONE_LETTER, &[7; 64])] {
+        assert_eq!(confirmed(&Z, second, map), refused(12, 1, 0));
+    }
+    let not_associative = [2, 1, 0, 0, 0, 1, 0, 0, 0];
+    assert_eq!(confirmed(&Z, &not_associative, &[]), refused(5, 2, 1));
+    let unreached = [2, 0, 0, 0, 1, 1, 0, 0, 0];
+    assert_eq!(confirmed(&W, &unreached, &[0, 1]), refused(6, 2, 1));
+    assert_eq!(confirmed(&W[..4], &not_associative, &[]), refused(1, 1, 4));
+    assert_eq!(confirmed(&W, &W[..12], &[0, 1]), refused(1, 2, 12));
+    let mut short = [7; SCRATCH - 1];
+    let answer = confirm(&[], &[], &[], &mut short);
+    assert_eq!((answer, short), (refused(13, 1, 0), [7; SCRATCH - 1]));
 }
 
 #[test]

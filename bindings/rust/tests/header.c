@@ -6,7 +6,7 @@
 #include "duknavet.h"
 
 static uint8_t out[DUKNAVET_RULE], classes[DUKNAVET_CLASSES], u[DUKNAVET_U], v[DUKNAVET_V];
-static uint8_t points[DUKNAVET_POINTS], blocks[DUKNAVET_BLOCKS], scratch[DUKNAVET_SCRATCH];
+static uint8_t points[DUKNAVET_POINTS], blocks[DUKNAVET_BLOCKS], map[DUKNAVET_MAP], scratch[DUKNAVET_SCRATCH];
 static int failures;
 
 static void expect(const char *what, int holds)
@@ -47,8 +47,24 @@ int main(void)
     expect("two turns", is_result(duknavet_member(sums, sizeof sums, letter, 1, letter, 1, scratch, sizeof scratch), 2, 2, 0));
     expect("empty start", is_result(duknavet_member(rule, sizeof rule, letter, 0, letter, 1, scratch, sizeof scratch), 3, 1, 0));
     expect("complement", is_result(duknavet_complement(rule, sizeof rule, out, sizeof out, scratch, sizeof scratch), 16, 0, 0));
-    expect("reduce", is_result(duknavet_reduce(every_mark, sizeof every_mark, out, sizeof out, scratch, sizeof scratch), 10, 0, 0));
+    memset(map, 9, sizeof map);
+    answer = duknavet_reduce(every_mark, sizeof every_mark, out, sizeof out, map, sizeof map, scratch, sizeof scratch);
+    expect("reduce", is_result(answer, 10, 0, 0));
     expect("reduced", memcmp(out, one_element, sizeof one_element) == 0);
+    expect("map", map[0] == 0 && map[1] == 0 && map[2] == 9 && map[63] == 9);
+    answer = duknavet_reduce(rule, sizeof rule, out, sizeof out, map, sizeof map - 1, scratch, sizeof scratch);
+    expect("short map", duknavet_refusal_of(answer) == DUKNAVET_BUFFER_TOO_SHORT && map[1] == 0);
+    answer = duknavet_confirm(every_mark, sizeof every_mark, one_element, sizeof one_element, map, 2, scratch, sizeof scratch);
+    expect("confirmed", is_result(answer, 1, 0, 0));
+    answer = duknavet_confirm(every_mark, sizeof every_mark, one_element, sizeof one_element, map, 3, scratch, sizeof scratch);
+    expect("a map too long", is_result(answer, 0, 0, 0));
+    answer = duknavet_confirm(every_mark, sizeof every_mark, rule, sizeof rule, letter, 2, scratch, sizeof scratch);
+    expect("other grades", is_result(answer, 0, 0, 0));
+    expect("own map", is_result(duknavet_confirm(rule, sizeof rule, rule, sizeof rule, letter, 2, scratch, sizeof scratch), 1, 0, 0));
+    answer = duknavet_confirm(rule, sizeof rule, rule, sizeof rule - 1, letter, 2, scratch, sizeof scratch);
+    expect("second cut", duknavet_refusal_of(answer) == DUKNAVET_TRUNCATED && duknavet_input_of(answer) == 2);
+    answer = duknavet_confirm(sums, sizeof sums, rule, sizeof rule, letter, 2, scratch, sizeof scratch);
+    expect("first weak", duknavet_refusal_of(answer) == DUKNAVET_NOT_STRONG && duknavet_input_of(answer) == 1);
     answer = duknavet_reduce_rounds(just_twice, sizeof just_twice, 0, blocks, sizeof blocks, scratch, sizeof scratch);
     expect("rounds", is_result(answer, 0, 0, 0) && memcmp(blocks, first_blocks, 5) == 0);
     answer = duknavet_reduce_rounds(just_twice, sizeof just_twice, DUKNAVET_MOST_ROUNDS, blocks, sizeof blocks, scratch, sizeof scratch);

@@ -1,4 +1,4 @@
-//! Text forms of rules, automata, marks sections and lassos, both ways.
+//! Text forms of rules, automata, marks sections, maps of reductions and lassos, both ways.
 //!
 //! A text begins with a line such as `duknavet rule 1`; `#` begins a comment; everything else is words with white space between
 //! them, numbers in base ten. A text says the same as the bytes of a file, entry by entry, and reading it gives these bytes: a text
@@ -6,10 +6,12 @@
 //! of letters.
 //!
 //! No bytes of a rule, an automaton or a marks section that pass the checks begin as a text does: their first byte is a count of at
-//! most 64 elements or 6 states, or with the second one a count of at most 4,096 marks, and the letters `du` are 100 and 117.
+//! most 64 elements or 6 states, or with the second one a count of at most 4,096 marks, and the letters `du` are 100 and 117. Nor do those
+//! of a map to a rule, which are below 64.
 
 mod automaton;
 mod lasso;
+mod map;
 mod marks;
 mod names;
 mod read;
@@ -18,6 +20,7 @@ mod tokens;
 
 pub use automaton::print_automaton;
 pub use lasso::{print_lasso, print_word, read_lasso, read_letter};
+pub use map::print_map;
 pub use marks::{grade_word, print_marks};
 pub use names::Names;
 pub use read::{kind, read, Kind, Parsed};

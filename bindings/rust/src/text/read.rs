@@ -2,7 +2,7 @@
 
 use super::names::Names;
 use super::tokens::{decode, Place, TextError, Tokens};
-use super::{automaton, marks, rule};
+use super::{automaton, map, marks, rule};
 
 /// What a text is of.
 #[derive(Clone, Copy, Debug, PartialEq, Eq, Hash)]
@@ -13,12 +13,20 @@ pub enum Kind {
     Automaton,
     /// A marks section.
     Marks,
+    /// The map of a reduction.
+    Map,
     /// A lasso, which has no file of bytes.
     Lasso,
 }
 
 impl Kind {
-    const ALL: [Kind; 4] = [Kind::Rule, Kind::Automaton, Kind::Marks, Kind::Lasso];
+    const ALL: [Kind; 5] = [
+        Kind::Rule,
+        Kind::Automaton,
+        Kind::Marks,
+        Kind::Map,
+        Kind::Lasso,
+    ];
 
     /// Its word in the first line of a text.
     pub fn word(self) -> &'static str {
@@ -26,6 +34,7 @@ impl Kind {
             Kind::Rule => "rule",
             Kind::Automaton => "automaton",
             Kind::Marks => "marks",
+            Kind::Map => "map",
             Kind::Lasso => "lasso",
         }
     }
@@ -106,7 +115,7 @@ pub fn kind(bytes: &[u8]) -> Option<Result<Kind, TextError>> {
 
 fn header(tokens: &mut Tokens<'_>) -> Result<Kind, TextError> {
     tokens.expect("duknavet")?;
-    let wanted = "`rule`, `automaton`, `marks` or `lasso`";
+    let wanted = "`rule`, `automaton`, `marks`, `map` or `lasso`";
     let kind = tokens.peek().and_then(|token| Kind::of_word(token.word));
     let kind = kind.ok_or_else(|| tokens.fault(wanted))?;
     tokens.next(wanted)?;
@@ -114,7 +123,7 @@ fn header(tokens: &mut Tokens<'_>) -> Result<Kind, TextError> {
     Ok(kind)
 }
 
-/// The bytes that the text of a rule, an automaton or a marks section says.
+/// The bytes that the text of a rule, an automaton, a marks section or a map says.
 pub fn read(bytes: &[u8]) -> Result<(Kind, Parsed), TextError> {
     let mut tokens = Tokens::of(decode(bytes)?);
     let kind = header(&mut tokens)?;
@@ -122,6 +131,7 @@ pub fn read(bytes: &[u8]) -> Result<(Kind, Parsed), TextError> {
         Kind::Rule => rule::read(&mut tokens)?,
         Kind::Automaton => automaton::read(&mut tokens)?,
         Kind::Marks => marks::read(&mut tokens)?,
+        Kind::Map => map::read(&mut tokens)?,
         Kind::Lasso => {
             let place = Place { line: 1, column: 1 };
             let message = "a lasso has no bytes: its letters need a rule";
@@ -153,6 +163,7 @@ impl Kind {
             Kind::Rule => "a rule",
             Kind::Automaton => "an automaton",
             Kind::Marks => "a marks section",
+            Kind::Map => "a map",
             Kind::Lasso => "a lasso",
         }
     }

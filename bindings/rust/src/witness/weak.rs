@@ -8,6 +8,7 @@
 use super::shorten::shortened;
 use crate::files::{marks_bytes, Lasso, Mark, Rule};
 use crate::owned::{self, ClassList};
+use crate::text::{print_lasso, Names};
 use crate::words::Explained;
 use crate::{Strength, WORD};
 
@@ -22,6 +23,18 @@ pub struct Weakness {
     pub higher: (Lasso, u8),
     /// The lasso with the lower grade, and the grade.
     pub lower: (Lasso, u8),
+}
+
+impl Weakness {
+    /// The two lassos in words, with the letters by their names.
+    pub fn in_words(&self, names: &Names) -> String {
+        let shown = |(lasso, grade): &(Lasso, u8)| {
+            format!("{} has grade {grade}", print_lasso(lasso, names))
+        };
+        let (start, cycle) = (self.start, self.cycle);
+        let (higher, lower) = (shown(&self.higher), shown(&self.lower));
+        format!("{higher}, but {lower}, both with the values {start} and {cycle}")
+    }
 }
 
 /// Two lassos that show that a rule is weak. None where it is strong, and where the lassos would need more letters than `member`

@@ -9,7 +9,7 @@ mod rule;
 mod state;
 mod two_rules;
 
-use crate::text::{print_lasso, Names};
+use crate::text::Names;
 use crate::{Refusal, Refused, RuleState, MOST_ROUNDS, WORD};
 use std::fmt;
 
@@ -170,14 +170,8 @@ fn weak(refused: Refused, asked: Asked<'_>) -> Option<String> {
         _ => return None,
     };
     let weakness = crate::witness::why_weak(rule).ok()??;
-    let shown = |(lasso, grade): &(crate::files::Lasso, u8)| {
-        format!("{} has grade {grade}", print_lasso(lasso, &Names::none()))
-    };
-    let (start, cycle) = (weakness.start, weakness.cycle);
-    let (higher, lower) = (shown(&weakness.higher), shown(&weakness.lower));
-    Some(format!(
-        "{name} is weak: {higher}, but {lower}, both with the values {start} and {cycle}"
-    ))
+    let lassos = weakness.in_words(&Names::none());
+    Some(format!("{name} is weak: {lassos}"))
 }
 
 fn unknown_letter(refused: Refused, asked: Asked<'_>) -> Option<String> {

@@ -34,6 +34,9 @@ fn share(half: usize) -> Tally {
     timed("large rules", &mut |c| parts::large::run(c));
     timed("states", &mut |c| parts::states::run(c, 300));
     timed("two rules", &mut |c| parts::combinations::run(c, 400));
+    timed("confirmations", &mut |c| {
+        parts::confirmations::run(c, 300, half)
+    });
     timed("rounds", &mut |c| parts::rounds::run(c, half));
     timed("prints", &mut |c| parts::prints::run(c, 300, half));
     c.tally

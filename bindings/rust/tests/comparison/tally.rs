@@ -45,7 +45,7 @@ type Refusals = (&'static str, &'static [(u8, &'static [u8])]);
 
 /// Which refusals each call can answer, with their inputs: every number that applies to it.
 /// A rule's checks are 1 to 8; a second marks section has no table and no letters, so not 5 and 6.
-const REFUSALS: [Refusals; 16] = [
+const REFUSALS: [Refusals; 17] = [
     ("classes", &[(1, &[1, 2, 3, 4, 5, 6, 7, 8, 13])]),
     ("strong", &[(1, &[1, 2, 3, 4, 5, 6, 7, 8, 13])]),
     (
@@ -74,13 +74,20 @@ const REFUSALS: [Refusals; 16] = [
             (2, &[1, 2, 3, 4, 5, 6, 7, 8, 12]),
         ],
     ),
+    (
+        "confirm",
+        &[
+            (1, &[1, 2, 3, 4, 5, 6, 7, 8, 12, 13]),
+            (2, &[1, 2, 3, 4, 5, 6, 7, 8]),
+        ],
+    ),
     ("state_kind", &[(1, &[1, 2, 3, 4, 5, 6, 7, 8, 13, 17])]),
     ("successors", &[(1, &[1, 2, 3, 4, 5, 6, 7, 8, 10, 13, 17])]),
     ("automaton_rule", &[(1, &[1, 2, 3, 4, 8, 13, 14])]),
 ];
 
 /// Outcomes that must occur at least so often.
-const LEAST: [(&str, &str, u64); 147] = [
+const LEAST: [(&str, &str, u64); 184] = [
     ("classes", "counts", 1000),
     ("strong", "weak", 100),
     ("strong", "strong, marks closed", 1000),
@@ -180,6 +187,47 @@ const LEAST: [(&str, &str, u64); 147] = [
     ("combine", "Without", 200),
     ("combine", "64 pairs", 1),
     ("combine", "with its complement", 20),
+    ("confirm", "yes", 1000),
+    ("confirm", "yes to what was written", 5000),
+    ("confirm", "yes to 64 elements", 10),
+    ("confirm", "grades by values and by lassos", 1000),
+    ("confirm", "no by Length alone", 200),
+    ("confirm", "no by Letters alone", 100),
+    ("confirm", "no by Outside", 100),
+    ("confirm", "no by NotOnto", 100),
+    ("confirm", "no by Images alone", 50),
+    ("confirm", "no by Products alone", 50),
+    ("confirm", "no by Weak alone", 50),
+    ("confirm", "no by Grades alone", 50),
+    ("confirm", "no by Size alone", 50),
+    ("confirm", "yes: as it is written", 200),
+    ("confirm", "yes: elements renumbered", 200),
+    ("confirm", "no: elements renumbered, and the map not", 50),
+    ("confirm", "yes: marks in another order", 50),
+    ("confirm", "yes: marks left out", 30),
+    ("confirm", "yes: marks lowered", 20),
+    ("confirm", "yes: letters in turn", 100),
+    ("confirm", "yes: the rule itself", 50),
+    (
+        "confirm",
+        "no: the rule itself, which is not the smallest",
+        50,
+    ),
+    ("confirm", "yes: of a product with a cyclic group", 20),
+    ("confirm", "no: an element too many", 50),
+    ("confirm", "no: one class regraded", 200),
+    ("confirm", "no: a byte too many", 200),
+    ("confirm", "no: a byte too few", 200),
+    ("confirm", "no: no byte", 200),
+    ("confirm", "no: a whole buffer", 200),
+    ("confirm", "no: a foreign number", 500),
+    ("confirm", "no: a byte changed", 300),
+    ("confirm", "no: a letter more", 200),
+    ("confirm", "no: a letter less", 20),
+    ("confirm", "no: a weak second", 100),
+    ("confirm", "no: letters exchanged", 100),
+    ("confirm", "12 before any no", 200),
+    ("confirm", "the second file before 12 for the first", 200),
     ("state_kind", "plain", 1000),
     ("state_kind", "initial", 1000),
     ("state_kind", "final", 1000),

@@ -1,4 +1,4 @@
-//! The programs stand above the library and see only its public calls.
+//! The programs stand above the library and see only its public calls; the header and the Rust package declare the exports as they are.
 
 use super::reading::code::Code;
 use super::reading::repository::Repository;
@@ -83,4 +83,85 @@ fn only_programs_use_the_text_of_the_examples() {
         .filter(|(_, text)| names(text, "example_text"))
         .count();
     assert!(users >= 7, "only {users} programs use it");
+}
+
+/// An argument of an exported function: its name, and what is handed over.
+#[derive(Debug, PartialEq)]
+struct Argument {
+    name: String,
+    kind: &'static str,
+}
+
+/// The functions of a text whose names begin with `duknavet_`, each with the arguments that `read` finds in what stands between its
+/// parentheses. A declaration begins with `before`.
+fn declared(
+    text: &str,
+    before: &str,
+    read: impl Fn(&str) -> Vec<Argument>,
+) -> Vec<(String, Vec<Argument>)> {
+    let begin = format!("{before} duknavet_");
+    let declarations = text.split(&begin).skip(1).map(|rest| {
+        let (name, rest) = rest.split_once('(').expect("arguments");
+        let (arguments, _) = rest.split_once(')').expect("their end");
+        (name.to_string(), read(arguments))
+    });
+    let mut declarations: Vec<_> = declarations.collect();
+    declarations.sort_by(|one, other| one.0.cmp(&other.0));
+    declarations
+}
+
+/// The names and types of arguments `name: type`; a slice is handed over as a pointer and a length.
+fn typed(arguments: &str) -> Vec<Argument> {
+    let pairs = arguments.split(',').filter_map(|one| one.split_once(':'));
+    let arguments = pairs.flat_map(|(name, kind)| {
+        let name = name.trim();
+        let argument = |name: &str, kind| Argument {
+            name: name.to_string(),
+            kind,
+        };
+        let length = argument(&format!("{name}_length"), "size");
+        match kind.trim() {
+            "&[u8]" => vec![argument(name, "read"), length],
+            "&mut [u8]" => vec![argument(name, "written"), length],
+            "*const u8" => vec![argument(name, "read")],
+            "*mut u8" => vec![argument(name, "written")],
+            "usize" => vec![argument(name, "size")],
+            "u8" => vec![argument(name, "byte")],
+            other => panic!("an argument of type {other}"),
+        }
+    });
+    arguments.collect()
+}
+
+/// The same of C.
+fn of_header(arguments: &str) -> Vec<Argument> {
+    let arguments = arguments.split(',').map(str::trim);
+    let arguments = arguments.filter(|one| *one != "void").map(|one| {
+        let at = one.rfind([' ', '*']).expect("a type and a name") + 1;
+        let kind = match one[..at].trim() {
+            "const uint8_t *" => "read",
+            "uint8_t *" => "written",
+            "size_t" => "size",
+            "uint8_t" => "byte",
+            other => panic!("an argument of type {other}"),
+        };
+        Argument {
+            name: one[at..].to_string(),
+            kind,
+        }
+    });
+    arguments.collect()
+}
+
+/// Two arguments of one type that change places are no fault to a compiler.
+#[test]
+fn arguments_are_declared_as_they_are_exported() {
+    let repository = Repository::here();
+    let exports = repository.text(&format!("exports{LIBRARY}"));
+    let exports = declared(exports.expect("the exports"), "extern \"C\" fn", typed);
+    assert!(exports.len() > 19, "only {} exports", exports.len());
+    let header = include_str!("../../../../include/duknavet.h");
+    assert_eq!(declared(header, "\nuint64_t", of_header), exports);
+    let raw = include_str!("../../src/raw.rs");
+    assert_eq!(declared(raw, "pub fn", typed), exports);
 }

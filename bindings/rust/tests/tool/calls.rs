@@ -195,7 +195,7 @@ fn convert() {
     );
     run_with(&["convert", "-", "--as", "automaton"], NAMED.as_bytes()).said(2, "found a rule");
     let unknown =
-        "line 1, column 10: expected `rule`, `automaton`, `marks` or `lasso`, found `poem`";
+        "line 1, column 10: expected `rule`, `automaton`, `marks`, `map` or `lasso`, found `poem`";
     run_with(&["convert", "-"], b"duknavet poem 1\n").said(2, unknown);
     run_with(&["convert", "-"], b"duknavet rule 2\n").said(2, "line 1, column 15: expected `1`");
 }

@@ -28,7 +28,7 @@ fn every_subcommand_survives() {
     let hoa = "HOA: v1\nStart: 0\nAP: 1 \"a\"\nAcceptance: 1 Inf(0)\n--BODY--\nState: 0 {0}\n[0] 0\n[!0] 1\nState: 1\n[t] 0\n--END--\n";
     let never =
         "never { T0:\n if :: (p && !q) -> goto accept_1 :: 1 -> goto T0 fi;\naccept_1: skip }";
-    let inputs: [&[u8]; 7] = [
+    let inputs: [&[u8]; 9] = [
         W,
         Z,
         GRADED,
@@ -36,9 +36,12 @@ fn every_subcommand_survives() {
         NAMED.as_bytes(),
         hoa.as_bytes(),
         never.as_bytes(),
+        &[0, 1],
+        b"duknavet map 1\n0 1\n",
     ];
     let rule = Scrap::holding(W);
-    let calls: [&[&str]; 25] = [
+    let map = Scrap::holding(&[0, 1]);
+    let calls: [&[&str]; 28] = [
         &["check", "-"],
         &["check", "--as", "automaton", "-"],
         &["summary", "-"],
@@ -51,6 +54,9 @@ fn every_subcommand_survives() {
         &["combine", "without", "-", rule.name(), "--to", "text"],
         &["included", rule.name(), "-"],
         &["reduce", "-", "--to", "text"],
+        &["confirm", "-", rule.name(), map.name()],
+        &["confirm", rule.name(), "-", map.name()],
+        &["confirm", rule.name(), rule.name(), "-"],
         &["rounds", "-", "--limit", "1"],
         &["automaton", "-"],
         &["states", "-"],

@@ -13,6 +13,7 @@ mod random;
 mod calls;
 mod claims;
 mod combinations;
+mod confirmations;
 mod damage;
 mod exchanges;
 mod following;

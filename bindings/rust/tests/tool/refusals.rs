@@ -177,6 +177,7 @@ fn of_two_rules() {
     let expected = format!("the first rule {why} (refusal 12, input 1, place 0)");
     assert_eq!(words(owned::combine(Z, W, Operation::Either)), expected);
     assert_eq!(words(owned::combine(Z, Z, Operation::Either)), expected);
+    assert_eq!(words(owned::confirm(Z, W, &[])), expected);
 }
 
 /// The refusal without its inputs says what its place tells.
@@ -214,6 +215,9 @@ fn every_refusal_of_a_file_is_translated() {
             let number = explained.refused.refusal.number();
             assert!(told != general || number == 6, "{told} of {bytes:?}");
             let of_two = owned::combine(W, &bytes, Operation::Either).expect_err("a refusal");
+            let expected = format!("the second rule: {}", explained.words);
+            assert_eq!((of_two.words, of_two.refused.input), (expected, 2));
+            let of_two = owned::confirm(Z, &bytes, &[]).expect_err("a refusal");
             let expected = format!("the second rule: {}", explained.words);
             assert_eq!((of_two.words, of_two.refused.input), (expected, 2));
         }

@@ -229,6 +229,27 @@ fn examples_of_the_formats() {
     let translated = "3  0 2 2  0 1 2  0 2 2  2  0 1  2 0  0 0 3  2 2 3";
     written(FORMATS, automaton, "automaton", translated);
     written(FORMATS, translated, "reduce", W);
+    let (larger, exchanged) = (
+        Scrap::holding(&bytes(translated)),
+        "2  0 1 1 1  2  1 0  1 0  1 1 3",
+    );
+    let other = Scrap::holding(&bytes(exchanged));
+    example(
+        FORMATS,
+        exchanged,
+        &["summary", "-"],
+        0,
+        "strong 1 reduced 2",
+    );
+    for (map, reduced, status, said) in [
+        ("0 1 0", &first, 0, "yes\n"),
+        ("1 0 1", &other, 0, "yes\n"),
+        ("0 1 0", &other, 1, "no: "),
+        ("1 0 1", &first, 1, "no: "),
+    ] {
+        let call = ["confirm", larger.name(), reduced.name(), "-"];
+        example(FORMATS, map, &call, status, said);
+    }
     written(
         FORMATS,
         W,

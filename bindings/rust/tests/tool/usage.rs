@@ -3,7 +3,7 @@
 use crate::program::{run, tool, Scrap};
 use crate::samples::{AUTOMATON, W};
 
-const COMMANDS: [&str; 19] = [
+const COMMANDS: [&str; 20] = [
     "check",
     "summary",
     "strong",
@@ -13,6 +13,7 @@ const COMMANDS: [&str; 19] = [
     "combine",
     "included",
     "reduce",
+    "confirm",
     "rounds",
     "automaton",
     "states",
@@ -73,6 +74,7 @@ fn full_disk() {
     };
     let rule = Scrap::holding(W);
     let automaton = Scrap::holding(AUTOMATON);
+    let map = Scrap::holding(&[0, 1]);
     for name in COMMANDS {
         let words = match name {
             "member" => vec![name, rule.name(), "v: 0"],
@@ -81,6 +83,7 @@ fn full_disk() {
             "automaton" => vec![name, automaton.name()],
             "stretch" => vec![name, "v: 0", "0"],
             "compare" => vec![name, rule.name(), automaton.name()],
+            "confirm" => vec![name, rule.name(), rule.name(), map.name()],
             _ => vec![name, rule.name()],
         };
         let output = tool()

@@ -1,10 +1,10 @@
 //! Each call on an input, by the library or by one of the engines, with its answer in one form.
 
-use crate::engine::{automata, inclusion, lassos, markings, monitors, reductions};
+use crate::engine::{automata, confirmations, inclusion, lassos, markings, monitors, reductions};
 use crate::engine::{Refusal, Strategy};
 use duknavet as library;
-use duknavet::{Inclusion, Monitor, Refused, Strength};
-use duknavet::{CLASSES_OUT, RULE_OUT, SCRATCH, U_OUT, V_OUT};
+use duknavet::{Confirmation, Inclusion, Monitor, Refused, Strength};
+use duknavet::{CLASSES_OUT, MAP_OUT, RULE_OUT, SCRATCH, U_OUT, V_OUT};
 
 #[derive(Clone, Copy, Debug, PartialEq, Eq)]
 pub enum Engine {
@@ -22,6 +22,7 @@ pub const ENGINES: [(&str, Engine); 3] = [
 /// What a call is lent.
 pub struct Buffers {
     out: Vec<u8>,
+    map: Vec<u8>,
     u: Vec<u8>,
     v: Vec<u8>,
     scratch: Vec<u8>,
@@ -31,6 +32,7 @@ impl Buffers {
     pub fn new() -> Buffers {
         Buffers {
             out: vec![0; RULE_OUT.max(CLASSES_OUT)],
+            map: vec![0; MAP_OUT],
             u: vec![0; U_OUT],
             v: vec![0; V_OUT],
             scratch: vec![0; SCRATCH],
@@ -60,6 +62,8 @@ pub enum Call {
     Strong(Vec<u8>),
     Complement(Vec<u8>),
     Reduce(Vec<u8>),
+    /// A rule, its reduction and the map.
+    Confirm(Vec<u8>, Vec<u8>, Vec<u8>),
     Event(Vec<u8>),
     Mark(Vec<u8>),
     Verdict(Vec<u8>),
@@ -78,7 +82,21 @@ impl Call {
         }
     }
 
-    /// Fails if the engines do not give one answer, list different classes, or leave a scratch that is not zeros.
+    /// A confirmation of a rule's own reduction.
+    pub fn confirm_own(rule: Vec<u8>) -> Call {
+        let Buffers {
+            mut out,
+            mut map,
+            mut scratch,
+            ..
+        } = Buffers::new();
+        let reduced = library::reduce(&rule, &mut out, &mut map, &mut scratch);
+        out.truncate(reduced.expect("a strong rule").length);
+        map.truncate(rule[0] as usize);
+        Call::Confirm(rule, out, map)
+    }
+
+    /// Fails if the engines do not give one answer, list different classes, write different maps, or leave a scratch that is not zeros.
     pub fn confirm(&self) {
         let [first, others @ ..] = ENGINES.map(|(name, engine)| {
             let mut buffers = Buffers::new();
@@ -86,7 +104,7 @@ impl Call {
             let answer = self.run(engine, &mut buffers);
             let zeros = buffers.scratch.iter().all(|b| *b == 0);
             assert!(zeros, "{name} leaves a scratch that is not zeros");
-            (name, answer, buffers.out)
+            (name, answer, buffers.out, buffers.map)
         });
         for other in others {
             let names = (first.0, other.0);
@@ -94,11 +112,18 @@ impl Call {
             if let Call::Classes(_) = self {
                 assert!(first.2 == other.2, "the classes of {names:?} differ");
             }
+            assert!(first.3 == other.3, "the maps of {names:?} differ");
         }
     }
 
     fn by_library(&self, buffers: &mut Buffers) -> Result<Fixed, Refused> {
-        let Buffers { out, u, v, scratch } = buffers;
+        let Buffers {
+            out,
+            map,
+            u,
+            v,
+            scratch,
+        } = buffers;
         let monitor = Monitor {
             before: 0,
             since: 1,
@@ -111,7 +136,11 @@ impl Call {
             }
             Call::Strong(rule) => truth(library::strong(rule, scratch)? == Strength::Strong),
             Call::Complement(rule) => written(library::complement(rule, out, scratch)?.length, out),
-            Call::Reduce(rule) => written(library::reduce(rule, out, scratch)?.length, out),
+            Call::Reduce(rule) => written(library::reduce(rule, out, map, scratch)?.length, out),
+            Call::Confirm(first, second, map) => {
+                let answer = library::confirm(first, second, map, scratch)?;
+                truth(answer == Confirmation::Yes)
+            }
             Call::Event(rule) => {
                 moved(library::event(rule, monitor, 0, scratch).map_err(|n| n.refused)?)
             }
@@ -138,14 +167,23 @@ impl Call {
     }
 
     fn by_rust(&self, how: Strategy, buffers: &mut Buffers) -> Result<Fixed, Refusal> {
-        let Buffers { out, u, v, scratch } = buffers;
+        let Buffers {
+            out,
+            map,
+            u,
+            v,
+            scratch,
+        } = buffers;
         let monitor = (0, 1);
         let moved = |(before, since): monitors::Values| [before, since, 0];
         Ok(match self {
             Call::Classes(rule) => markings::classes(how, rule, out, scratch)?,
             Call::Strong(rule) => truth(markings::strong(how, rule, scratch)?),
             Call::Complement(rule) => written(markings::complement(how, rule, out, scratch)?, out),
-            Call::Reduce(rule) => written(reductions::reduce(how, rule, out, scratch)?, out),
+            Call::Reduce(rule) => written(reductions::reduce(how, rule, (out, map), scratch)?, out),
+            Call::Confirm(first, second, map) => {
+                truth(confirmations::confirm(how, first, second, map, scratch)?)
+            }
             Call::Event(rule) => moved(monitors::event(how, rule, monitor, 0, scratch)?),
             Call::Mark(rule) => moved(monitors::mark(how, rule, monitor, scratch)?),
             Call::Verdict(rule) => graded(monitors::verdict(how, rule, monitor, scratch)?),

@@ -109,6 +109,14 @@ pub fn rotating(n: usize, letters: usize) -> Rule {
     rotating_closed(n, letters).marked(|s, e| s == e)
 }
 
+/// How often the first letter comes, up to n - 2 times, and n - 1 for more often; further letters do not count. With grade 3 for just
+/// n - 2 times no two elements can stand for each other, and it takes n - 3 rounds to see that.
+pub fn smallest(n: usize, letters: usize) -> Rule {
+    let images: Vec<u8> = (0..letters).map(|a| u8::from(a == 0)).collect();
+    let counted = Rule::new(n, |s, t| (s + t).min(n - 1), &images);
+    counted.marked(|s, e| s == n - 2 && e == 0)
+}
+
 /// n = 4·m elements for three grades: the group of m elements, times {1, 0} with the product of numbers, times two elements of which the
 /// first of a product stays. Element (a·2 + b)·2 + c. Each letter has the group's generator; with it (1, 0), (1, 1), (0, 0) and
 /// (0, 1), of which the first three reach every element.
@@ -217,5 +225,6 @@ pub fn confirm() {
         assert_eq!(decided(graded(n, letters)), Ok(true));
         assert_eq!(decided(graded_weak(n, letters)), Ok(false));
         assert_eq!(decided(graded_weak(n, letters).above(1)), Ok(true));
+        assert_eq!(decided(smallest(n, letters)), Ok(true));
     }
 }

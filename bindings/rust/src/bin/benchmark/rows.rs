@@ -22,7 +22,7 @@ const GRADED_WEAK: Kind = ("weak of three grades", inputs::graded_weak);
 
 /// Each call on the kinds of rules that differ to it: classes and moves of a monitor look at no marks behind the check, and what
 /// asks for a strong rule does on a weak one what `strong` does.
-const ON_RULES: [(&str, OnRule, &[Kind]); 7] = [
+const ON_RULES: [(&str, OnRule, &[Kind]); 8] = [
     ("event", Call::Event, &[CLOSED, UNCLOSED]),
     ("mark", Call::Mark, &[CLOSED]),
     ("verdict", Call::Verdict, &[CLOSED, UNCLOSED]),
@@ -34,6 +34,11 @@ const ON_RULES: [(&str, OnRule, &[Kind]); 7] = [
     ),
     ("complement", Call::Complement, &[CLOSED, UNCLOSED]),
     ("reduce", Call::Reduce, &[CLOSED, UNCLOSED]),
+    (
+        "confirm",
+        Call::confirm_own,
+        &[CLOSED, UNCLOSED, ("smallest", inputs::smallest)],
+    ),
 ];
 
 /// The rows of one number of letters.

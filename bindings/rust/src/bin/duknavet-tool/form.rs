@@ -1,11 +1,12 @@
-//! The form that a rule, an automaton or a marks section is written in.
+//! The form that a rule, an automaton, a marks section or a map is written in.
 
 use crate::arguments::Arguments;
 use crate::command::{Answer, Choice, Failure};
 use crate::input::Source;
 use crate::output;
 use duknavet::files::{marks_of, Automaton, Rule};
-use duknavet::text::{print_automaton, print_marks, print_rule, Kind, Names};
+use duknavet::text::{print_automaton, print_map, print_marks, print_rule, Kind, Names};
+use std::ffi::OsStr;
 
 pub const TO: Choice = Choice {
     name: "to",
@@ -19,6 +20,7 @@ pub fn text_of(bytes: &[u8], kind: Kind, names: &Names) -> Option<String> {
         Kind::Rule => Some(print_rule(&Rule::take_apart(bytes)?, names)),
         Kind::Automaton => Some(print_automaton(&Automaton::take_apart(bytes)?, names)),
         Kind::Marks => Some(print_marks(&marks_of(bytes)?)),
+        Kind::Map => Some(print_map(bytes)),
         Kind::Lasso => None,
     }
 }
@@ -35,11 +37,7 @@ pub fn write_rule_named(
     names: &Names,
     bytes: &[u8],
 ) -> Result<Answer, Failure> {
-    let to_text = match arguments.one_of("to", &["bytes", "text"])? {
-        Some(form) => form == "text",
-        None => from_text,
-    };
-    let text = match to_text {
+    let text = match to_text(arguments, from_text)? {
         true => text_of(bytes, Kind::Rule, names),
         false => None,
     };
@@ -48,4 +46,24 @@ pub fn write_rule_named(
         None => output::write(bytes)?,
     }
     Ok(Answer::Done)
+}
+
+/// Whether a text is to be written.
+fn to_text(arguments: &Arguments, from_text: bool) -> Result<bool, Failure> {
+    Ok(match arguments.one_of("to", &["bytes", "text"])? {
+        Some(form) => form == "text",
+        None => from_text,
+    })
+}
+
+/// Writes a map to a file, in the form that the rule beside it is written in.
+pub fn write_map(
+    arguments: &Arguments,
+    source: &Source,
+    file: &OsStr,
+    map: &[u8],
+) -> Result<(), Failure> {
+    let text = to_text(arguments, source.is_text())?.then(|| print_map(map));
+    let bytes = text.as_deref().map_or(map, str::as_bytes);
+    output::write_file(file, bytes)
 }

@@ -17,7 +17,7 @@ use std::ffi::OsStr;
 pub const AS: Choice = Choice {
     name: "as",
     value: Some("KIND"),
-    meaning: "what bytes are: rule, automaton or marks; else what passes the checks",
+    meaning: "what bytes are: rule, automaton, marks or map; else what passes the checks",
 };
 
 /// Checks bytes as an automaton. One with too many matrices for a rule is an automaton all the same.
@@ -51,7 +51,7 @@ pub fn either(name: &OsStr, arguments: &Arguments) -> Result<(Source, Kind), Fai
 
 /// What a source is: what its text says, or `--as`, or the checks.
 pub fn of_source(source: Source, arguments: &Arguments) -> Result<(Source, Kind), Failure> {
-    let wanted = arguments.one_of("as", &["rule", "automaton", "marks"])?;
+    let wanted = arguments.one_of("as", &["rule", "automaton", "marks", "map"])?;
     let wanted = wanted.and_then(Kind::of_word);
     let found = match source.form {
         Form::Text(kind) => Some(kind),

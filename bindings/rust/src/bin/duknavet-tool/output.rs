@@ -1,6 +1,7 @@
-//! Standard output and standard error. A write that fails is noticed.
+//! Standard output, standard error and files. A write that fails is noticed.
 
 use crate::command::{Answer, Failure};
+use std::ffi::OsStr;
 use std::io::{self, ErrorKind, Write};
 
 /// Writes a result to standard output.
@@ -11,6 +12,12 @@ pub fn write(bytes: &[u8]) -> Result<(), Failure> {
         ErrorKind::BrokenPipe => Failure::Closed,
         _ => Failure::Files(format!("standard output: {error}")),
     })
+}
+
+/// Writes a result to a file.
+pub fn write_file(file: &OsStr, bytes: &[u8]) -> Result<(), Failure> {
+    let shown = file.to_string_lossy();
+    std::fs::write(file, bytes).map_err(|error| Failure::Files(format!("{shown}: {error}")))
 }
 
 /// Writes a text and is done.

@@ -2,6 +2,7 @@
 
 mod automata;
 mod combinations;
+mod confirmations;
 mod lassos;
 mod markings;
 mod monitors;
@@ -22,6 +23,7 @@ use std::fmt::Debug;
 
 pub use automata::AUTOMATON_SIZES;
 pub use combinations::COMBINE_SIZES;
+pub use confirmations::CONFIRM_SIZES;
 pub use lassos::MEMBER_SIZES;
 pub use markings::{CLASSES_SIZES, COMPLEMENT_SIZES, INCLUDED_SIZES, STRONG_SIZES};
 pub use monitors::MONITOR_SIZES;

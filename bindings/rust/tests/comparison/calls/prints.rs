@@ -7,9 +7,10 @@ impl Comparison {
     /// The print of a strong rule.
     pub fn print(&mut self, rule: &[u8]) -> Vec<u8> {
         let sizes = self.enough(REDUCE_SIZES);
-        let [mut out, mut scratch] = self.lend(sizes);
-        let answer = duknavet::reduce(rule, out.slice(), scratch.slice());
+        let [mut out, mut map, mut scratch] = self.lend(sizes);
+        let answer = duknavet::reduce(rule, out.slice(), map.slice(), scratch.slice());
         let reduced = answer.unwrap_or_else(|refused| panic!("print of {rule:?}: {refused}"));
+        map.written(rule[0] as usize);
         scratch.zeroed();
         out.written(reduced.length).to_vec()
     }

@@ -1,27 +1,30 @@
 //! Reduction: strong, the same grades, the marks that it must have, no larger than the syntactic classes, in its order, and the same when
-//! reduced again.
+//! reduced again; its map byte for byte, and a yes to both.
 
 use super::markings::outcomes;
-use super::{lengths, Comparison};
+use super::{lengths, Comparison, CONFIRM_SIZES};
 use crate::definitions::acceptance::{grade, Marking};
+use crate::definitions::confirmed::own_map;
 use crate::definitions::contexts;
 use crate::definitions::cycles::Decided;
 use crate::definitions::order;
 use crate::definitions::rule::Morphism;
 use crate::definitions::splits;
 use crate::subject::{Known, Subject};
-use duknavet::{RULE_OUT, SCRATCH};
+use duknavet::{MAP_OUT, RULE_OUT, SCRATCH};
 
-pub const REDUCE_SIZES: [usize; 2] = [RULE_OUT, SCRATCH];
+pub const REDUCE_SIZES: [usize; 3] = [RULE_OUT, MAP_OUT, SCRATCH];
 
 impl Comparison {
-    pub fn reduce(&mut self, subject: &Subject, sizes: [usize; 2]) {
-        let [mut out, mut scratch] = self.lend(sizes);
-        let answer = duknavet::reduce(&subject.bytes, out.slice(), scratch.slice());
+    pub fn reduce(&mut self, subject: &Subject, sizes: [usize; 3]) {
+        let [mut out, mut map, mut scratch] = self.lend(sizes);
+        let (file, lent) = (out.slice(), map.slice());
+        let answer = duknavet::reduce(&subject.bytes, file, lent, scratch.slice());
         let expected = lengths(sizes, REDUCE_SIZES).and_then(|()| self.asked_strong(subject));
         let expected = expected.map(|_| ());
         let inputs: [&[u8]; 1] = [&subject.bytes];
-        let found = self.agreed("reduce", &inputs, answer, expected, (&[&out], &scratch));
+        let outs = [&out, &map];
+        let found = self.agreed("reduce", &inputs, answer, expected, (&outs, &scratch));
         let Some((answer, ())) = found else { return };
         let written = Subject::new(out.written(answer.length).to_vec());
         let (known, reduced) = (subject.known(), written.known());
@@ -29,6 +32,20 @@ impl Comparison {
         if let Err(fault) = compare(known, reduced).and(ordered) {
             panic!("reduction of {inputs:?}: {fault}");
         }
+        let m = known.morphism();
+        let map = map.written(m.n);
+        assert_eq!(map, own_map(m, outcomes(known)), "map of {inputs:?}");
+        let values = known
+            .words
+            .iter()
+            .map(|word| reduced.morphism().value(word));
+        assert!(
+            values.eq(map.iter().copied()),
+            "words' values of {inputs:?}"
+        );
+        let yes = self.confirm((subject, &written), map, CONFIRM_SIZES);
+        assert_eq!(yes, Some(true), "confirmation of the reduced {inputs:?}");
+        self.tally.count("confirm", "yes to what was written");
         self.reduce_again(&written.bytes);
         self.reduce_backwards(known, &written.bytes);
         let size = reduced.morphism().n;

@@ -4,6 +4,7 @@ pub mod acceptance;
 pub mod automata;
 pub mod checks;
 pub mod combined;
+pub mod confirmed;
 pub mod conjugacy;
 pub mod contexts;
 pub mod cycles;

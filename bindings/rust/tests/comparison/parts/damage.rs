@@ -187,7 +187,7 @@ fn any_call(c: &mut Comparison, subject: &Subject, second: &[u8]) {
 }
 
 /// How many calls get a rule.
-const CALLS: usize = 15;
+const CALLS: usize = 16;
 
 /// A call by number, with further inputs that may be faulty too, and buffers that may be short.
 fn call(c: &mut Comparison, which: usize, subject: &Subject, second: &[u8]) {
@@ -279,6 +279,22 @@ fn call(c: &mut Comparison, which: usize, subject: &Subject, second: &[u8]) {
                 false => (&whole, subject),
             };
             c.combine(pair, Operation::Either, sizes);
+        }
+        14 => {
+            let sizes = sizes(c, short, CONFIRM_SIZES);
+            // A weak rule beside it too: whatever is wrong with either file comes before 12, and that before the map.
+            let weak = vec![2, 0, 1, 1, 0, 2, 1, 0, 1, 0, 0, 0, 3];
+            let whole = match c.random.once_in(2) {
+                true => Subject::new(vec![1, 0, 1, 0, 0, 0]),
+                false => Subject::new(weak),
+            };
+            let pair = match c.random.once_in(2) {
+                true => (subject, &whole),
+                false => (&whole, subject),
+            };
+            let length = *c.random.pick(&[0, 1, n, n, n + 1, 64, 65]);
+            let map = c.random.word(length, 2);
+            c.confirm(pair, &map, sizes);
         }
         12 => {
             let sizes = sizes(c, short, SUCCESSORS_SIZES);

@@ -2,6 +2,7 @@
 
 pub mod automata;
 pub mod combinations;
+pub mod confirmations;
 pub mod damage;
 pub mod large;
 pub mod logs;

@@ -3,6 +3,7 @@
 
 mod associativity;
 pub mod automata;
+pub mod confirmations;
 mod file;
 pub mod inclusion;
 pub mod lassos;

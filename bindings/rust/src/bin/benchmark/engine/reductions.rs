@@ -3,10 +3,10 @@
 use super::file::write;
 use super::markings::from_strong;
 use super::reached::reached;
-use super::{lent_or_new, Length, Rule, Strategy, PAIRS, SECOND, WORK};
+use super::{lengths, lent_or_new, Length, Rule, Strategy, PAIRS, SECOND, WORK};
 
 /// The least element of each element's block, once no round changes anything.
-fn blocks(rule: &Rule, outcomes: &[u8]) -> [u8; 64] {
+pub fn blocks(rule: &Rule, outcomes: &[u8]) -> [u8; 64] {
     let n = rule.n;
     let alike = |s: usize, t: usize| {
         outcomes[s * 64..][..n] == outcomes[t * 64..][..n]
@@ -37,19 +37,25 @@ fn blocks(rule: &Rule, outcomes: &[u8]) -> [u8; 64] {
     }
 }
 
-/// Writes the rule of the blocks, from the closure of the marks as the second table; answers its length.
-fn write_reduced(rule: &Rule, memory: &mut [u8], out: &mut [u8]) -> usize {
+/// Lays out the grades of the lassos with each two values, from the closure of the marks.
+pub fn lay_outcomes(rule: &Rule, closure: &[u8], outcomes: &mut [u8]) {
+    for z in 0..rule.n {
+        let (e, _) = rule.power(z);
+        for s in 0..rule.n {
+            outcomes[s * 64 + z] = closure[rule.product(s, e) * 64 + e];
+        }
+    }
+}
+
+/// Writes the rule of the blocks, from the closure of the marks as the second table, and the number of each element's block; answers its
+/// length.
+fn write_reduced(rule: &Rule, memory: &mut [u8], out: &mut [u8], map: &mut [u8]) -> usize {
     let n = rule.n;
     let (tables, rest) = memory.split_at_mut(WORK);
     let closure = &tables[SECOND..];
     let mut new = Vec::new();
     let (outcomes, table) = lent_or_new(rest, &mut new, 2 * PAIRS).split_at_mut(PAIRS);
-    for z in 0..n {
-        let (e, _) = rule.power(z);
-        for s in 0..n {
-            outcomes[s * 64 + z] = closure[rule.product(s, e) * 64 + e];
-        }
-    }
+    lay_outcomes(rule, closure, outcomes);
     let blocks = blocks(rule, outcomes);
     // Blocks are numbered by the first of their elements in the order of first words.
     let reached = reached(rule);
@@ -63,6 +69,9 @@ fn write_reduced(rule: &Rule, memory: &mut [u8], out: &mut [u8]) -> usize {
         }
     }
     let number = |s: usize| numbers[blocks[s] as usize];
+    for (s, to) in map[..n].iter_mut().enumerate() {
+        *to = number(s);
+    }
     for s in 0..count {
         for t in 0..count {
             let product = rule.product(elements[s] as usize, elements[t] as usize);
@@ -82,6 +91,14 @@ fn write_reduced(rule: &Rule, memory: &mut [u8], out: &mut [u8]) -> usize {
     write(out, (count, 64), table, images, grade)
 }
 
-pub fn reduce(strategy: Strategy, bytes: &[u8], out: &mut [u8], scratch: &mut [u8]) -> Length {
-    from_strong(strategy, bytes, out, scratch, write_reduced)
+pub fn reduce(
+    strategy: Strategy,
+    bytes: &[u8],
+    (out, map): (&mut [u8], &mut [u8]),
+    scratch: &mut [u8],
+) -> Length {
+    lengths(&[(map.len(), 64)])?;
+    from_strong(strategy, bytes, out, scratch, |rule, memory, out| {
+        write_reduced(rule, memory, out, map)
+    })
 }

@@ -26,7 +26,7 @@ fn run(arguments: &Arguments) -> Result<Answer, Failure> {
     let checked = match kind {
         Kind::Rule => owned::check(&source.bytes),
         Kind::Automaton => owned::automaton_rule(&source.bytes).map(|_| ()),
-        Kind::Marks | Kind::Lasso => {
+        Kind::Marks | Kind::Map | Kind::Lasso => {
             let message = format!(
                 "{}: {} passes only beside a rule",
                 source.name,

@@ -6,6 +6,7 @@ mod classes;
 mod combine;
 mod compare;
 mod complement;
+mod confirm;
 mod convert;
 mod follow;
 mod included;
@@ -32,6 +33,7 @@ pub const ALL: &[&Command] = &[
     &combine::COMMAND,
     &included::COMMAND,
     &reduce::COMMAND,
+    &confirm::COMMAND,
     &rounds::COMMAND,
     &automaton::COMMAND,
     &states::COMMAND,

@@ -1,0 +1,40 @@
+//! Whether a reduction that was made elsewhere is right, and else why not.
+
+use crate::arguments::Arguments;
+use crate::command::{Answer, Command, Failure};
+use crate::{input, output};
+use duknavet::text::Kind;
+use duknavet::witness::why_not_confirmed;
+use duknavet::{owned, Confirmation};
+
+pub const COMMAND: Command = Command {
+    name: "confirm",
+    arguments: "RULE REDUCED MAP",
+    least: 3,
+    most: 3,
+    purpose: "tell whether a rule was reduced right elsewhere, by a map of its elements",
+    options: &[],
+    details: "MAP has for each element of RULE the element of REDUCED that it went to: as bytes, or as a text. Prints yes, with status 0, where \
+MAP goes to every element of REDUCED and to no other, carries products and letters over, every lasso has the same grade by both rules, and \
+REDUCED is strong and has the fewest elements; its elements may be numbered in any way, and its marks may be any that give the grades. Else \
+prints no, with status 1, and what is wrong; a lasso that shows it has the grades that the call member answers. A weak RULE is refused \
+by 12, before any no.",
+    run,
+};
+
+fn run(arguments: &Arguments) -> Result<Answer, Failure> {
+    let rule = input::rule(arguments.plain(0))?;
+    let reduced = input::rule(arguments.plain(1))?;
+    let map = input::expected(arguments.plain(2), Kind::Map)?;
+    let (first, second) = (&rule.bytes, &reduced.bytes);
+    let refused = |explained| input::refused_by_input(&rule, &reduced, &explained);
+    if owned::confirm(first, second, &map.bytes).map_err(refused)? == Confirmation::Yes {
+        output::write(b"yes\n")?;
+        return Ok(Answer::Yes);
+    }
+    let fault = why_not_confirmed(first, second, &map.bytes).map_err(refused)?;
+    let names = input::names_of_two(&rule, &reduced);
+    let why = fault.map(|fault| format!(": {}", fault.in_words(names)));
+    output::write(format!("no{}\n", why.unwrap_or_default()).as_bytes())?;
+    Ok(Answer::No)
+}
