@@ -4,19 +4,19 @@ use mathlib.Core.Path.{_≡_, refl, sym, ap, _∙_}
 use mathlib.Core.List.{List, [], _∷_}
 use native.Mathlib.Omega.{arith}
 use Rattle.answer.specs.declared.Refusal.{Refusal}
-use Rattle.answer.specs.declared.Refusal.the-variants.{Truncated, CountOutOfRange, EntryOutOfRange, TrailingBytes, NotAssociative, Unreachable, NotLinked, Duplicate, UnknownLetter, WordLength, NotStrong, BufferTooShort, TooManyMatrices, NameOutOfRange, NameNeverKept, NoSuchState, LettersDiffer, TooManyPairs, LimitOutOfRange}
+use Rattle.answer.specs.declared.Refusal.the-variants.{Truncated, CountOutOfRange, EntryOutOfRange, TrailingBytes, NotAssociative, Unreachable, NotLinked, Duplicate, UnknownLetter, WordLength, NotStrong, BufferTooShort, TooManyMatrices, NameOutOfRange, NameNeverKept, NoSuchState, LettersDiffer, TooManyPairs, LimitOutOfRange, NameNotFree, NameNotPresent}
 use Rattle.answer.specs.Refusals.{numberOf}
 
 -- the place of a number in a list, the last refusal where the list ends
 unfoldable at : List Refusal → ℕ → Refusal
-at [] n = LimitOutOfRange
+at [] n = NameNotPresent
 at (r ∷ rs) zero = r
 at (r ∷ rs) (suc n) = at rs n
 
 -- the refusal of a number; 0, 9 and others that none has have the last
 unfoldable refusalOf : ℕ → Refusal
 unfolding at
-refusalOf n = at (LimitOutOfRange ∷ Truncated ∷ CountOutOfRange ∷ EntryOutOfRange ∷ TrailingBytes ∷ NotAssociative ∷ Unreachable ∷ NotLinked ∷ Duplicate ∷ LimitOutOfRange ∷ UnknownLetter ∷ WordLength ∷ NotStrong ∷ BufferTooShort ∷ TooManyMatrices ∷ NameOutOfRange ∷ NameNeverKept ∷ NoSuchState ∷ LettersDiffer ∷ TooManyPairs ∷ []) n
+refusalOf n = at (NameNotPresent ∷ Truncated ∷ CountOutOfRange ∷ EntryOutOfRange ∷ TrailingBytes ∷ NotAssociative ∷ Unreachable ∷ NotLinked ∷ Duplicate ∷ NameNotPresent ∷ UnknownLetter ∷ WordLength ∷ NotStrong ∷ BufferTooShort ∷ TooManyMatrices ∷ NameOutOfRange ∷ NameNeverKept ∷ NoSuchState ∷ LettersDiffer ∷ TooManyPairs ∷ LimitOutOfRange ∷ NameNotFree ∷ []) n
 
 back : (r : Refusal) → refusalOf (numberOf r) ≡ r
 unfolding refusalOf at
@@ -39,6 +39,8 @@ back NoSuchState = refl
 back LettersDiffer = refl
 back TooManyPairs = refl
 back LimitOutOfRange = refl
+back NameNotFree = refl
+back NameNotPresent = refl
 
 pub same-number : (r r′ : Refusal) → numberOf r ≡ numberOf r′ → r ≡ r′
 same-number r r′ e = sym (back r) ∙ ap refusalOf e ∙ back r′
@@ -64,3 +66,5 @@ nine-unused NoSuchState e = omega (arith, e)
 nine-unused LettersDiffer e = omega (arith, e)
 nine-unused TooManyPairs e = omega (arith, e)
 nine-unused LimitOutOfRange e = omega (arith, e)
+nine-unused NameNotFree e = omega (arith, e)
+nine-unused NameNotPresent e = omega (arith, e)

@@ -43,6 +43,10 @@ pub enum Refusal {
     TooManyPairs,
     // Document 02, Job 9: limit above 64.
     LimitOutOfRange,
+    // Document 02, Job 14: entering under a name above 7 or taken.
+    NameNotFree,
+    // Document 02, Job 14: leaving a name not there.
+    NameNotPresent,
 }
 
 // The number of a refusal in the table. 9 is no refusal's number.
@@ -69,5 +73,7 @@ pub fn number(r: Refusal) -> u8
         Refusal::LettersDiffer => 18,
         Refusal::TooManyPairs => 19,
         Refusal::LimitOutOfRange => 20,
+        Refusal::NameNotFree => 21,
+        Refusal::NameNotPresent => 22,
     }
 }

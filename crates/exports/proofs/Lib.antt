@@ -1,4 +1,1 @@
-pub mod Limits
-pub mod AutomatonLimits
-pub mod Monitors
-pub mod NothingLost
+pub mod Boards

@@ -1,6 +1,12 @@
 // The library's calls for C and Rust: one function a call, slices as pointer and length, and one number back, packed as
 // packing/specs/Packing says. A caller in another language owes what Rust's references owe: each pointer is good for its length, and a
 // buffer that is written overlaps no other.
+use answer::Refusal;
+use board_promises::Notice;
+use board_state::STATE_SIZE;
+use board_state::read_board;
+use board_state::write_board;
+use board_state::write_posted;
 use packing::pack_combined;
 use packing::pack_complemented;
 use packing::pack_confirmation;
@@ -11,8 +17,10 @@ use packing::pack_listed;
 use packing::pack_membership;
 use packing::pack_monitor_verdict;
 use packing::pack_moved;
+use packing::pack_notice;
 use packing::pack_partition;
 use packing::pack_reduced;
+use packing::pack_refusal;
 use packing::pack_strength;
 use packing::pack_successors;
 use packing::pack_translated;
@@ -23,6 +31,7 @@ ghost use Rattle.promises.specs.Monitor.{freshMonitor};
 ghost use Rattle.promises.specs.declared.Operation.the-variants.{Both, Either, Without};
 ghost use Rattle.packing.specs.Packing.{packMonitor};
 ghost use Rattle.exports.specs.Exports.{ExportedClasses, ExportedStrength, ExportedMember, ExportedComplement, ExportedInclusion, ExportedEvent, ExportedMark, ExportedKeep, ExportedReturn, ExportedReduction, ExportedConfirmation, ExportedCombination, ExportedRounds, ExportedAutomaton, ExportedVerdict, ExportedKind, ExportedSuccessors};
+ghost use Rattle.exports.specs.BoardExports.{ExportedBoardEmpty, ExportedBoardEnter, ExportedBoardLeave, ExportedBoardEvent, ExportedBoardMark};
 
 // The linked pairs, the classes and the joins; each pair's class in `out`.
 #[no_mangle]
@@ -261,4 +270,93 @@ pub extern "C" fn duknavet_successors(
     ensures { λ r. ⌜ ExportedSuccessors (now (rule .entry)) s e letter (now (out .entry)) (now (out .exit)) (now (scratch .entry)) (now (scratch .exit)) r ⌝ }
 {
     pack_successors(rules::successors(rule, s, e, letter, out, scratch))
+}
+
+// A board where nobody is present, in `state`. This and the calls below answer the board's lowest grade, 4 for none.
+#[no_mangle]
+pub extern "C" fn duknavet_board_empty(state: &mut [u8]) -> u64
+    ensures { λ r. ⌜ ExportedBoardEmpty (now (state .entry)) (now (state .exit)) r ⌝ }
+{
+    if state.len() < STATE_SIZE {
+        return pack_refusal(Refusal::BufferTooShort, 1, 0);
+    }
+    let board = board::empty();
+    write_board(board, state);
+    pack_notice(board, Notice::Done)
+}
+
+// A rule enters under a name; its file is copied to the name's place in `files`.
+#[no_mangle]
+pub extern "C" fn duknavet_board_enter(
+    state: &mut [u8],
+    name: usize,
+    file: &[u8],
+    files: &mut [u8],
+    scratch: &mut [u8],
+) -> u64
+    ensures { λ r. ⌜ ExportedBoardEnter (now (state .entry)) (now (state .exit)) name (now (file .entry)) (now (files .entry)) (now (files .exit)) (now (scratch .entry)) (now (scratch .exit)) r ⌝ }
+{
+    if state.len() < STATE_SIZE {
+        return pack_refusal(Refusal::BufferTooShort, 1, 0);
+    }
+    let answer = board::enter(read_board(state), name, file, files, scratch);
+    write_posted(answer, state);
+    let board = answer.board;
+    let notice = answer.notice;
+    pack_notice(board, notice)
+}
+
+// The rule under a name leaves.
+#[no_mangle]
+pub extern "C" fn duknavet_board_leave(
+    state: &mut [u8],
+    name: usize,
+    files: &[u8],
+    scratch: &mut [u8],
+) -> u64
+    ensures { λ r. ⌜ ExportedBoardLeave (now (state .entry)) (now (state .exit)) name (now (files .entry)) (now (scratch .entry)) (now (scratch .exit)) r ⌝ }
+{
+    if state.len() < STATE_SIZE {
+        return pack_refusal(Refusal::BufferTooShort, 1, 0);
+    }
+    let answer = board::leave(read_board(state), name, files, scratch);
+    write_posted(answer, state);
+    let board = answer.board;
+    let notice = answer.notice;
+    pack_notice(board, notice)
+}
+
+// An event for all present.
+#[no_mangle]
+pub extern "C" fn duknavet_board_event(
+    state: &mut [u8],
+    letter: u8,
+    files: &[u8],
+    scratch: &mut [u8],
+) -> u64
+    ensures { λ r. ⌜ ExportedBoardEvent (now (state .entry)) (now (state .exit)) letter (now (files .entry)) (now (scratch .entry)) (now (scratch .exit)) r ⌝ }
+{
+    if state.len() < STATE_SIZE {
+        return pack_refusal(Refusal::BufferTooShort, 1, 0);
+    }
+    let answer = board::event(read_board(state), letter, files, scratch);
+    write_posted(answer, state);
+    let board = answer.board;
+    let notice = answer.notice;
+    pack_notice(board, notice)
+}
+
+// A mark for all present.
+#[no_mangle]
+pub extern "C" fn duknavet_board_mark(state: &mut [u8], files: &[u8], scratch: &mut [u8]) -> u64
+    ensures { λ r. ⌜ ExportedBoardMark (now (state .entry)) (now (state .exit)) (now (files .entry)) (now (scratch .entry)) (now (scratch .exit)) r ⌝ }
+{
+    if state.len() < STATE_SIZE {
+        return pack_refusal(Refusal::BufferTooShort, 1, 0);
+    }
+    let answer = board::mark(read_board(state), files, scratch);
+    write_posted(answer, state);
+    let board = answer.board;
+    let notice = answer.notice;
+    pack_notice(board, notice)
 }

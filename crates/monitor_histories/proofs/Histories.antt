@@ -43,7 +43,7 @@ unfolding beforeWord
 words-of-nothing history e = ap (λ (w : List ℕ). beforeWord history ++ w) e ∙ append-nil (beforeWord history)
 
 -- the monitor that a refused call hands back is the same
-same-follows : {bytes : List ℕ} {f g : Monitor} {history : List Action} → g ≡ f → Follows bytes f history → Follows bytes g history
+pub same-follows : {bytes : List ℕ} {f g : Monitor} {history : List Action} → g ≡ f → Follows bytes f history → Follows bytes g history
 same-follows {bytes} {history = history} e p = subst (λ (x : Monitor). Follows bytes x history) (sym e) p
 
 -- an event that passed: the monitor's checks did, and the letter is one of the rule's
@@ -56,47 +56,48 @@ module _ (bytes : List ℕ) (f : Monitor) (letter : ℕ) (entry : List ℕ) (all
       let not : lettersOf bytes ≤ letter → ⊥ = λ h. passes-head (passed-last (monitorChecks bytes f entry) _ all) .nowhere 0 (record { foreign = h; is-place = refl }) in
       omega arith
 
+-- what a lawful table of at most 64 elements makes of the words
+module _ (bytes : List ℕ) (law : Lawful (morphismOf bytes)) (small : elementsOf bytes ≤ 64) {f : Monitor} {history : List Action} (p : Follows bytes f history) where
+  -- the product of two words' values, kept as a number and read again, is the value of the words in a row
+  joined : {x y : Value} {v w : List ℕ} → x ≡ value (morphismOf bytes) v → y ≡ value (morphismOf bytes) w → Over (lettersOf bytes) v → Over (lettersOf bytes) w
+      → valueOf (numberFor (join (morphismOf bytes) x y)) ≡ value (morphismOf bytes) (v ++ w)
+  joined {x} {y} {v} {w} ex ey ov ow =
+      ap (λ (z : Value). valueOf (numberFor (join (morphismOf bytes) z y))) ex
+      ∙ ap (λ (z : Value). valueOf (numberFor (join (morphismOf bytes) (value (morphismOf bytes) v) z))) ey
+      ∙ value-of-number small (join-inside law (value-inside law ov) (value-inside law ow))
+      ∙ sym (value-append law ov ow)
+
+  pub after-event : (letter : ℕ) → letter < lettersOf bytes → Follows bytes (afterEvent (morphismOf bytes) f letter) (event letter ∷ history)
+  unfolding afterEvent sinceWord beforeWord
+  after-event letter h = record {
+    before-over = p .before-over;
+    since-over = over-append (p .since-over) (over-cons h over-nil);
+    before-value = p .before-value;
+    since-value = joined (p .since-value) (sym (value-letter (morphismOf bytes) letter)) (p .since-over) (over-cons h over-nil);
+  }
+
+  pub after-mark : Follows bytes (afterMark (morphismOf bytes) f) (mark ∷ history)
+  unfolding afterMark sinceWord beforeWord value
+  after-mark = record {
+    before-over = over-append (p .before-over) (p .since-over);
+    since-over = over-nil;
+    before-value = joined (p .before-value) (p .since-value) (p .before-over) (p .since-over);
+    since-value = value-none refl;
+  }
+
 module _ (bytes : List ℕ) where
   -- what a call that moved the monitor knows of the rule
   module _ (f : Monitor) (entry : List ℕ) (all : FirstFailure (monitorChecks bytes f entry) passed) where
     checked : FirstFailure (checkedChecks 1 bytes entry) passed
     checked = passed-first (checkedChecks 1 bytes entry) _ all
 
-    law : Lawful (morphismOf bytes)
-    law = called-good 1 bytes entry checked .lawful
+    law-of : Lawful (morphismOf bytes)
+    law-of = called-good 1 bytes entry checked .lawful
 
-    small : elementsOf bytes ≤ 64
-    small = called-good 1 bytes entry checked .table .small
+    small-of : elementsOf bytes ≤ 64
+    small-of = called-good 1 bytes entry checked .table .small
 
-    -- the product of two words' values, kept as a number and read again, is the value of the words in a row
-    joined : {x y : Value} {v w : List ℕ} → x ≡ value (morphismOf bytes) v → y ≡ value (morphismOf bytes) w → Over (lettersOf bytes) v → Over (lettersOf bytes) w
-        → valueOf (numberFor (join (morphismOf bytes) x y)) ≡ value (morphismOf bytes) (v ++ w)
-    joined {x} {y} {v} {w} ex ey ov ow =
-        ap (λ (z : Value). valueOf (numberFor (join (morphismOf bytes) z y))) ex
-        ∙ ap (λ (z : Value). valueOf (numberFor (join (morphismOf bytes) (value (morphismOf bytes) v) z))) ey
-        ∙ value-of-number small (join-inside law (value-inside law ov) (value-inside law ow))
-        ∙ sym (value-append law ov ow)
-
-    after-event : {history : List Action} (letter : ℕ) → letter < lettersOf bytes → Follows bytes f history
-        → Follows bytes (afterEvent (morphismOf bytes) f letter) (event letter ∷ history)
-    unfolding afterEvent sinceWord beforeWord
-    after-event letter h p = record {
-      before-over = p .before-over;
-      since-over = over-append (p .since-over) (over-cons h over-nil);
-      before-value = p .before-value;
-      since-value = joined (p .since-value) (sym (value-letter (morphismOf bytes) letter)) (p .since-over) (over-cons h over-nil);
-    }
-
-    after-mark : {history : List Action} → Follows bytes f history → Follows bytes (afterMark (morphismOf bytes) f) (mark ∷ history)
-    unfolding afterMark sinceWord beforeWord value
-    after-mark p = record {
-      before-over = over-append (p .before-over) (p .since-over);
-      since-over = over-nil;
-      before-value = joined (p .before-value) (p .since-value) (p .before-over) (p .since-over);
-      since-value = value-none refl;
-    }
-
-  fresh-follows : Follows bytes freshMonitor []
+  pub fresh-follows : Follows bytes freshMonitor []
   unfolding sinceWord beforeWord value
   fresh-follows = record { before-over = over-nil; since-over = over-nil; before-value = value-none refl; since-value = value-none refl }
 
@@ -104,13 +105,14 @@ module _ (bytes : List ℕ) where
   event-follows : {g : Monitor} {history : List Action} (f : Monitor) (letter : ℕ) (entry : List ℕ) → FirstFailure (eventChecks bytes f letter entry) passed
       → g ≡ afterEvent (morphismOf bytes) f letter → Follows bytes f history → Follows bytes g (event letter ∷ history)
   event-follows f letter entry all e p =
-      same-follows e (after-event f entry (event-monitor bytes f letter entry all) letter (event-letter bytes f letter entry all) p)
+      let own = event-monitor bytes f letter entry all in
+      same-follows e (after-event bytes (law-of f entry own) (small-of f entry own) p letter (event-letter bytes f letter entry all))
 
   -- a monitor that calls have led to has the values of its history's words
   pub run-follows : {f : Monitor} {history : List Action} → Run bytes f history → Follows bytes f history
   run-follows (begun e) = same-follows e fresh-follows
   run-follows (moved-by-event {f} {letter = letter} {entry = entry} r p) = event-follows f letter entry (p .refusal) (p .monitor) (run-follows r)
-  run-follows (moved-by-mark {f} {entry = entry} r p) = same-follows (p .monitor) (after-mark f entry (p .refusal) (run-follows r))
+  run-follows (moved-by-mark {f} {entry = entry} r p) = same-follows (p .monitor) (after-mark bytes (law-of f entry (p .refusal)) (small-of f entry (p .refusal)) (run-follows r))
   run-follows (moved-in-place {f} {letter = letter} {entry = entry} r p) = event-follows f letter entry (p .refusal) (p .monitor) (run-follows r)
   run-follows (event-refused r p) = same-follows (p .monitor) (run-follows r)
   run-follows (mark-refused r p) = same-follows (p .monitor) (run-follows r)

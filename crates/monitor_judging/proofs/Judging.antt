@@ -35,8 +35,8 @@ module _ {m : Morphism} {entry : List ℕ} (place : DecideNeeds m 0 entry) {befo
     says = λ marks k t. (subst (StrongIf m marks) e (d .decision marks k t), refl);
   }
 
-  module _ {grade turns : ℕ} (look : grade ≡ marksFrom mid 4096 (settled-start m before since) (settled-cycle m since))
-      (settles : LeastExponent m since turns) {exit : List ℕ} (z : exit ≡ replicate (length mid) 0) (e : strong ≡ true) where
+  -- the marks are strong, and one byte was looked at
+  module _ {grade : ℕ} (look : grade ≡ marksFrom mid 4096 (settled-start m before since) (settled-cycle m since)) (e : strong ≡ true) where
     module _ (marks : Marking) (k : GradedMarks m marks) (t : MarkingAt (m .size) marks entry 0) where
       strong-marks : StrongMarking m marks
       strong-marks = subst (StrongIf m marks) e (d .decision marks k t)
@@ -48,11 +48,11 @@ module _ {m : Morphism} {entry : List ℕ} (place : DecideNeeds m 0 entry) {befo
           let l = settled-linked (place .lawful) hb hs in
           d .closure marks k t .same (settled-start m before since) (settled-cycle m since) (l .inside) (l .idempotent .inside) ∙ sym look
 
-      told : LassosGraded m marks (element before) since grade
-      told = subst (LassosGraded m marks (element before) since) look-closure (grading-lassos (place .lawful) (place .reached) k strong-marks hb hs)
+      pub look-graded : LassosGraded m marks (element before) since grade
+      look-graded = subst (LassosGraded m marks (element before) since) look-closure (grading-lassos (place .lawful) (place .reached) k strong-marks hb hs)
 
-    pub judged-decided : Judges m before since entry exit (Is-decided grade turns)
-    judged-decided = record {
+    pub judged-decided : {turns : ℕ} → LeastExponent m since turns → {exit : List ℕ} → exit ≡ replicate (length mid) 0 → Judges m before since entry exit (Is-decided grade turns)
+    judged-decided settles z = record {
       zeros = zeros-left z;
-      says = λ marks k t. (strong-marks marks k t, (told marks k t, settles));
+      says = λ marks k t. (strong-marks marks k t, (look-graded marks k t, settles));
     }

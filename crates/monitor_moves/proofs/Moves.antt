@@ -7,9 +7,10 @@ use native.Mathlib.Omega.{arith}
 use Rattle.answer.specs.declared.Refusal.{Refusal}
 use Rattle.answer.specs.declared.Refusal.the-variants.{UnknownLetter}
 use Rattle.answer.proofs.Order.{first-passes, first-fails, none-left, refused-before, passed-before}
-use Rattle.theory.specs.Rules.{Morphism, Value, element, join}
+use Rattle.theory.specs.Rules.{Morphism, Value, join}
+use Rattle.rule_table.specs.Table.{Table}
 use Rattle.formats.specs.Table.{morphismAt, imageAt}
-use Rattle.formats.specs.RuleFile.{lettersOf, morphismOf}
+use Rattle.formats.specs.RuleFile.{lettersOf}
 use Rattle.rule_layout.specs.declared.Shape.{Shape}
 use Rattle.rule_check.proofs.Calls.{shape-morphism}
 use Rattle.promises.specs.declared.Monitor.{Monitor}
@@ -20,6 +21,31 @@ use Rattle.promises.specs.Monitor.{noValue, valueOf, numberFor}
 use Rattle.monitor_state.specs.Ready.{GoodNumber, joinAt, ReadyPromise}
 use Rattle.monitor_state.proofs.Numbers.{value-element}
 use Rattle.monitor_state.proofs.Prepared.{ready-table}
+
+-- by a checked table: what an event makes of a monitor
+module _ {bytes : List ℕ} {n k : ℕ} (table : Table bytes n k) {letter : ℕ} (known : letter < k) where
+  -- an element is never 64
+  image-element : imageAt bytes n letter ≡ noValue → ⊥
+  image-element e = omega (arith, table .images letter known, table .small)
+
+  pub image-good : {h : ℕ} → h ≡ imageAt bytes n letter → GoodNumber n h
+  image-good e = inl (subst (λ (x : ℕ). x < n) (sym e) (table .images letter known))
+
+  since-is : (f : Monitor) → joinAt bytes n k (f .since) (imageAt bytes n letter) ≡ afterEvent (morphismAt bytes n k) f letter .since
+  unfolding joinAt afterEvent
+  since-is f = ap (λ (x : Value). numberFor (join (morphismAt bytes n k) (valueOf (f .since)) x)) (value-element image-element)
+
+  pub after-event-is : {h next : ℕ} (f : Monitor) → h ≡ imageAt bytes n letter → next ≡ joinAt bytes n k (f .since) h
+      → record { before = f .before; since = next } ≡ afterEvent (morphismAt bytes n k) f letter
+  unfolding afterEvent
+  after-event-is f e j =
+      ap (λ (x : ℕ). let g : Monitor = record { before = f .before; since = x } in g) (j ∙ ap (joinAt bytes n k (f .since)) e ∙ since-is f)
+
+-- and what a mark does
+pub after-mark-is : (bytes : List ℕ) (n k : ℕ) {next : ℕ} (f : Monitor) → next ≡ joinAt bytes n k (f .before) (f .since)
+    → record { before = next; since = noValue } ≡ afterMark (morphismAt bytes n k) f
+unfolding afterMark joinAt
+after-mark-is bytes n k f j = ap (λ (x : ℕ). let g : Monitor = record { before = x; since = noValue } in g) j
 
 module _ (bytes : List ℕ) (f : Monitor) (letter : ℕ) (entry exit : List ℕ) where
   -- the rule or the monitor is refused
@@ -35,28 +61,12 @@ module _ (bytes : List ℕ) (f : Monitor) (letter : ℕ) (entry exit : List ℕ)
       scratch = p .scratch;
     }
 
-    -- an element is never 64
-    pub image-element : letter < shape .letters → imageAt bytes (shape .elements) letter ≡ noValue → ⊥
-    image-element h e = omega (arith, ready-table bytes f entry exit p .images letter h, ready-table bytes f entry exit p .small)
-
-    pub image-good : letter < shape .letters → {h : ℕ} → h ≡ imageAt bytes (shape .elements) letter → GoodNumber (shape .elements) h
-    image-good l e = inl (subst (λ (x : ℕ). x < shape .elements) (sym e) (ready-table bytes f entry exit p .images letter l))
-
-    since-is : letter < shape .letters → joinAt bytes (shape .elements) (shape .letters) (f .since) (imageAt bytes (shape .elements) letter) ≡ afterEvent (morphismOf bytes) f letter .since
-    unfolding joinAt afterEvent
-    since-is h =
-        ap (λ (x : Value). numberFor (join (morphismAt bytes (shape .elements) (shape .letters)) (valueOf (f .since)) x)) (value-element (image-element h))
-        ∙ ap (λ (m : Morphism). numberFor (join m (valueOf (f .since)) (element (m .image letter)))) (shape-morphism (p .shape))
-
     -- the event moves since
     pub event-moved : {h next : ℕ} → letter < shape .letters → h ≡ imageAt bytes (shape .elements) letter → next ≡ joinAt bytes (shape .elements) (shape .letters) (f .since) h
         → EventPromise bytes f letter entry exit (To (record { before = f .before; since = next }))
-    unfolding afterEvent
-    event-moved {h} {next} l e n = record {
+    event-moved l e n = record {
       refusal = passed-before _ _ (p .refusal) (first-passes (record { nowhere = λ place t. omega (arith, t .foreign, p .shape .letters) }) none-left);
-      monitor =
-          ap (λ (x : ℕ). let g : Monitor = record { before = f .before; since = x } in g)
-          (n ∙ ap (joinAt bytes (shape .elements) (shape .letters) (f .since)) e ∙ since-is l);
+      monitor = after-event-is (ready-table bytes f entry exit p) l f e n ∙ ap (λ (m : Morphism). afterEvent m f letter) (shape-morphism (p .shape));
       scratch = p .scratch;
     }
 
@@ -67,11 +77,8 @@ module _ (bytes : List ℕ) (f : Monitor) (entry exit : List ℕ) where
   -- the mark moves before and empties since
   pub mark-moved : {shape : Shape} {next : ℕ} → ReadyPromise bytes f entry exit (Rule shape) → next ≡ joinAt bytes (shape .elements) (shape .letters) (f .before) (f .since)
       → MarkPromise bytes f entry exit (To (record { before = next; since = noValue }))
-  unfolding afterMark joinAt
-  mark-moved {shape} {next} p n = record {
+  mark-moved p n = record {
     refusal = p .refusal;
-    monitor =
-        ap (λ (x : ℕ). let g : Monitor = record { before = x; since = noValue } in g)
-        (n ∙ ap (λ (m : Morphism). numberFor (join m (valueOf (f .before)) (valueOf (f .since)))) (shape-morphism (p .shape)));
+    monitor = after-mark-is bytes _ _ f n ∙ ap (λ (m : Morphism). afterMark m f) (shape-morphism (p .shape));
     scratch = p .scratch;
   }

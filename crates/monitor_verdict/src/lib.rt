@@ -45,7 +45,7 @@ fn values_fault(n: usize, monitor: Monitor) -> Fault
 }
 
 // The element that the start is judged by: before, or since where before is none.
-fn start_element(monitor: Monitor) -> usize
+pub fn start_element(monitor: Monitor) -> usize
     ensures { λ r. ⌜ r ≡ startElement monitor ⌝ }
 {
     if monitor.before == 64 {

@@ -2,7 +2,7 @@
 --
 -- Byte 0 is 0 for a result, else document 01's number of the refusal. Of a refusal byte 1 is the input, and its place stands from
 -- bit 16 on. A result has three fields of 16 bits, from bits 16, 32 and 48 on; what they hold is said at each answer. Nothing that a
--- call answers reaches these limits, so `unpack` reads every exported number back: `exports/proofs/NothingLost`.
+-- call answers reaches these limits, so `unpack` reads every exported number back: `unpacking/proofs/NothingLost`.
 use Prim.Native.Nat.{ℕ, _+_, _*_, _/_, _%_}
 use mathlib.Core.Bool.{Bool, cond}
 use lib.Dec.{eqb}
@@ -36,6 +36,9 @@ use Rattle.promises.specs.declared.SuccessorList.{SuccessorList}
 use Rattle.promises.specs.declared.SuccessorList.the-variants.{Listed as Successors, Refused as No-successors}
 use Rattle.promises.specs.declared.MonitorVerdict.{MonitorVerdict}
 use Rattle.promises.specs.declared.MonitorVerdict.the-variants.{Decided as Judged, Refused as Not-judged}
+use Rattle.board_promises.specs.declared.Board.{Board}
+use Rattle.board_promises.specs.declared.Notice.{Notice}
+use Rattle.board_promises.specs.declared.Notice.the-variants.{Done, Refused as Not-done}
 
 -- a refusal: its number, its input, its place
 unfoldable pub packRefusal : ℕ → ℕ → ℕ → ℕ
@@ -185,3 +188,11 @@ successorsContents (No-successors refusal input place) = refusal-at (numberOf re
 
 abbrev pub packSuccessors : SuccessorList → ℕ
 packSuccessors answer = pack (successorsContents answer)
+
+-- the lowest grade of the board that is handed back, 4 for none
+abbrev pub noticeContents : Board → Notice → Contents
+noticeContents board Done = fields (board .lowest) 0 0
+noticeContents board (Not-done refusal input place) = refusal-at (numberOf refusal) input place
+
+abbrev pub packNotice : Board → Notice → ℕ
+packNotice board notice = pack (noticeContents board notice)

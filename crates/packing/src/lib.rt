@@ -1,6 +1,8 @@
 // Answers packed into one number of 64 bits, as specs/Packing says.
 use answer::Refusal;
 use answer::number;
+use board_promises::Board;
+use board_promises::Notice;
 use promises::Combined;
 use promises::Complemented;
 use promises::Confirmation;
@@ -17,7 +19,7 @@ use promises::SuccessorList;
 use promises::Translated;
 ghost use mathlib.Core.Path.{_≡_};
 ghost use Rattle.answer.specs.Refusals.{numberOf};
-ghost use Rattle.packing.specs.Packing.{packRefusal, packFields, packListed, packStrength, packMembership, packComplemented, packInclusion, packMoved, packReduced, packConfirmation, packCombined, bit, packPartition, packTranslated, packMonitorVerdict, packKind, packSuccessors};
+ghost use Rattle.packing.specs.Packing.{packRefusal, packFields, packListed, packStrength, packMembership, packComplemented, packInclusion, packMoved, packReduced, packConfirmation, packCombined, bit, packPartition, packTranslated, packMonitorVerdict, packKind, packSuccessors, packNotice};
 
 pub fn pack_refusal(refusal: Refusal, input: usize, place: usize) -> u64
     ensures { λ r. ⌜ r ≡ packRefusal (numberOf refusal) input place ⌝ }
@@ -236,6 +238,20 @@ pub fn pack_successors(answer: SuccessorList) -> u64
     match answer {
         SuccessorList::Listed(count) => pack_fields(count, 0, 0),
         SuccessorList::Refused {
+            refusal,
+            input,
+            place,
+        } => pack_refusal(refusal, input, place),
+    }
+}
+
+// The lowest grade of the board that a call of the harbour board hands back.
+pub fn pack_notice(board: Board, notice: Notice) -> u64
+    ensures { λ r. ⌜ r ≡ packNotice board notice ⌝ }
+{
+    match notice {
+        Notice::Done => pack_fields(board.lowest, 0, 0),
+        Notice::Refused {
             refusal,
             input,
             place,

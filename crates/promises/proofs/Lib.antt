@@ -4,6 +4,7 @@ pub mod CombinedGrades
 pub mod CombineOrder
 pub mod ReduceOrder
 pub mod Logs
+pub mod OneAdvance
 pub mod OneCombine
 pub mod OneComplement
 pub mod OneInclusion

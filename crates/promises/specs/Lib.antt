@@ -21,3 +21,5 @@ pub mod Rounds
 pub mod RuleAutomaton
 pub mod Combine
 pub mod Confirm
+pub mod Advance
+pub mod FilePart

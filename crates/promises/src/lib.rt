@@ -196,6 +196,28 @@ pub enum Moved {
     },
 }
 
+// What moves a monitor, or leaves it.
+pub enum Step {
+    Event(u8),
+    Mark,
+    Stay,
+}
+
+// A monitor that was moved, with the grade of the lassos that have its values, or 4 where its since is none; or a step that is foreign to a
+// rule which passed all else.
+pub enum Advanced {
+    To {
+        monitor: Monitor,
+        grade: usize,
+    },
+    Foreign,
+    Refused {
+        refusal: Refusal,
+        input: usize,
+        place: usize,
+    },
+}
+
 // What a call that is lent a monitor answers: the monitor has moved, or the refusal.
 pub enum InPlaceAnswer {
     Done,

@@ -11,10 +11,11 @@ use Rattle.theory.specs.Rules.{Morphism}
 use Rattle.rule_table.specs.Table.{Table}
 use Rattle.formats.specs.Table.{morphismAt}
 use Rattle.formats.specs.Sections.{InRange}
-use Rattle.formats.specs.RuleFile.{elementsOf, lettersAt, marksAt, marksOf, ruleEnd, morphismOf, markWidth, markStart, markCycle, markGrade, gradeAmong, marksIn, markingOf}
+use Rattle.formats.specs.RuleFile.{elementsOf, marksAt, marksOf, ruleEnd, morphismOf, markWidth, markStart, markCycle, markGrade, gradeAmong, marksIn, markingOf}
 use Rattle.formats.specs.RuleChecks.{layoutChecks, tableChecks, markChecks}
 use Rattle.rule_layout.specs.declared.Shape.{Shape}
 use Rattle.rule_layout.specs.Answers.{LayoutPassed}
+use Rattle.rule_layout.proofs.CountsRead.{shape-marks-at, shape-end}
 use Rattle.rule_marks.specs.declared.Fault.{Fault}
 use Rattle.rule_marks.specs.declared.Fault.the-variants.{Nothing, Refused}
 use Rattle.rule_marks.specs.Faults.{FaultAnswer, MarksRoom, MarksLaid, MarksAnswer}
@@ -48,15 +49,11 @@ module _ (bytes : List ℕ) (shape : Shape) (p : LayoutPassed bytes shape) where
 
   -- where the marks' section stands
   pub marks-at-is : 1 + n * n + (1 + k) ≡ marksAt bytes
-  unfolding marksAt lettersAt
-  marks-at-is =
-      ap (λ (x : ℕ). 1 + x * x + (1 + k)) (p .shape-is .elements)
-      ∙ ap (λ (x : ℕ). 1 + elementsOf bytes * elementsOf bytes + (1 + x)) (p .shape-is .letters)
+  marks-at-is = shape-marks-at (p .shape-is)
 
   -- and where it ends
   pub end-is : 1 + n * n + (1 + k) + (2 + markWidth * count) ≡ ruleEnd bytes
-  unfolding ruleEnd
-  end-is = ap (λ (x : ℕ). x + (2 + markWidth * count)) marks-at-is ∙ ap (λ (x : ℕ). marksAt bytes + (2 + markWidth * x)) (p .shape-is .marks)
+  end-is = shape-end (p .shape-is)
 
   pub end-in : 1 + n * n + (1 + k) + (2 + markWidth * count) ≤ length bytes
   end-in = omega (arith, end-inside bytes all, end-is)

@@ -31,7 +31,7 @@ returns-2 : tie.Need-returns-2
 returns-2 c =
     let b = c .before .before .before .before .before .before .before .before .before .before .before .before .before .pre .1 in
     let looked = c .before .before .before .before .before .values-grade .ensures in
-    judged-decided (b .0) (b .1 .0) (b .1 .1) (c .before .before .before .before .before .before .before .before .before .decide .ensures) (looked .0) (looked .1) (c .before .before .before .zero .ensures) (not-false _ (c .if1 .left))
+    judged-decided (b .0) (b .1 .0) (b .1 .1) (c .before .before .before .before .before .before .before .before .before .decide .ensures) (looked .0) (not-false _ (c .if1 .left)) (looked .1) (c .before .before .before .zero .ensures)
 
 pub judge-spec : {M : Type 1} → statement M
 judge-spec =

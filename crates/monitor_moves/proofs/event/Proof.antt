@@ -31,7 +31,10 @@ image-requires : tie.Need-image-requires
 image-requires c κs = image-place (ready-table _ _ _ _ (ready-said _ _ _ _ (c .before .before .before .before .before .before .prepare .result) (c .before .before .before .before .before .before .prepare .ensures) (c .before .before .shape .given .1))) (c .if1 .left)
 
 join-requires : tie.Need-join-requires
-join-requires c κs = (ready-table _ _ _ _ (ready-said _ _ _ _ (c .before .before .before .before .before .before .before .prepare .result) (c .before .before .before .before .before .before .before .prepare .ensures) (c .before .before .before .shape .given .1)), (ready-since _ _ _ _ (ready-said _ _ _ _ (c .before .before .before .before .before .before .before .prepare .result) (c .before .before .before .before .before .before .before .prepare .ensures) (c .before .before .before .shape .given .1)), image-good _ _ _ _ _ (ready-said _ _ _ _ (c .before .before .before .before .before .before .before .prepare .result) (c .before .before .before .before .before .before .before .prepare .ensures) (c .before .before .before .shape .given .1)) (c .before .if1 .left) (c .image .ensures)))
+join-requires c κs =
+    let a = c .before .before .before .before .before .before .before .prepare in
+    let p = ready-said _ _ _ _ (a .result) (a .ensures) (c .before .before .before .shape .given .1) in
+    (ready-table _ _ _ _ p, (ready-since _ _ _ _ p, image-good (ready-table _ _ _ _ p) (c .before .if1 .left) (c .image .ensures)))
 
 same-length-3 : tie.Need-same-length-3
 same-length-3 c = search needs

@@ -1,5 +1,5 @@
 -- The values of a moved monitor, and of one that is kept or returned to, are elements or 64. Assumes nothing.
-use Prim.Native.Nat.{ℕ, _≤_}
+use Prim.Native.Nat.{ℕ, _≤_, _<_}
 use mathlib.Core.Path.{refl, sym, subst}
 use mathlib.Core.Logic.{_⊎_, inl, inr, ⊎-elim}
 use mathlib.Core.List.{List, _∷_}
@@ -35,73 +35,76 @@ good-inside {m} {s} small (inr e) = subst (Inside m) (sym (value-none e)) inside
 good-small : {n s : ℕ} → n ≤ 64 → GoodNumber n s → s ≤ 64
 good-small small g = ⊎-elim (λ h. omega arith) (λ e. omega arith) g
 
-module _ (bytes : List ℕ) (f : Monitor) (entry : List ℕ) (all : FirstFailure (monitorChecks bytes f entry) passed) where
-  rule : GoodRule bytes
-  rule = called-good 1 bytes entry (passed-first (checkedChecks 1 bytes entry) _ all)
+-- both values are elements or 64
+pub record SmallValues (f : Monitor) : Type 0 where
+  pub before-small : f .before ≤ 64
+  pub since-small : f .since ≤ 64
 
-  unstray : ValueOutOfRange (elementsOf bytes) (f .before) ⊎ ValueOutOfRange (elementsOf bytes) (f .since) → ⊥
-  unstray s = passes-head (passed-last (checkedChecks 1 bytes entry) _ all) .nowhere 0 (record { stray = s; is-place = refl })
+values-fit : {f : Monitor} → SmallValues f → Fits (monitorContents f)
+values-fit p = record { first = omega (arith, p .before-small); second = omega (arith, p .since-small); third = omega arith }
 
-  before-good : GoodNumber (elementsOf bytes) (f .before)
-  before-good = not-stray _ _ (λ i. unstray (inl i))
+-- a monitor whose two values are good
+abbrev pub Unstray : ℕ → Monitor → Type 0
+Unstray n f = ValueOutOfRange n (f .before) ⊎ ValueOutOfRange n (f .since) → ⊥
 
-  since-good : GoodNumber (elementsOf bytes) (f .since)
-  since-good = not-stray _ _ (λ i. unstray (inr i))
+both-small : {n : ℕ} {f : Monitor} → n ≤ 64 → Unstray n f → SmallValues f
+both-small small h =
+    record { before-small = good-small small (not-stray _ _ (λ i. h (inl i))); since-small = good-small small (not-stray _ _ (λ i. h (inr i))) }
+
+-- and stay so
+module _ {bytes : List ℕ} {f : Monitor} (rule : GoodRule bytes) (unstray : Unstray (elementsOf bytes) f) where
+  before-inside : Inside (morphismOf bytes) (valueOf (f .before))
+  before-inside = good-inside (rule .table .small) (not-stray _ _ (λ i. unstray (inl i)))
+
+  since-inside : Inside (morphismOf bytes) (valueOf (f .since))
+  since-inside = good-inside (rule .table .small) (not-stray _ _ (λ i. unstray (inr i)))
 
   joined-small : {x y : Value} → Inside (morphismOf bytes) x → Inside (morphismOf bytes) y → numberFor (join (morphismOf bytes) x y) ≤ 64
   joined-small hx hy = number-small (rule .table .small) (join-inside (rule .lawful) hx hy)
 
-  pub mark-fits : Fits (monitorContents (afterMark (morphismOf bytes) f))
+  pub mark-small : SmallValues (afterMark (morphismOf bytes) f)
   unfolding afterMark
-  mark-fits =
-      let small = rule .table .small in
+  mark-small = record { before-small = joined-small before-inside since-inside; since-small = omega arith }
+
+  pub event-small : {letter : ℕ} → letter < lettersOf bytes → SmallValues (afterEvent (morphismOf bytes) f letter)
+  unfolding afterEvent
+  event-small {letter} known =
       record {
-        first = omega (arith, joined-small (good-inside small before-good) (good-inside small since-good));
-        second = omega arith;
-        third = omega arith;
+        before-small = both-small (rule .table .small) unstray .before-small;
+        since-small = joined-small since-inside (inside-element (rule .lawful .images letter known));
       }
 
-pub event-fits : (bytes : List ℕ) (f : Monitor) (letter : ℕ) (entry : List ℕ) → FirstFailure (eventChecks bytes f letter entry) passed
-    → Fits (monitorContents (afterEvent (morphismOf bytes) f letter))
-unfolding afterEvent
-event-fits bytes f letter entry all =
-    let ready = passed-first (monitorChecks bytes f entry) _ all in
-    let good = rule bytes f entry ready in
-    let small = good .table .small in
-    let known : lettersOf bytes ≤ letter → ⊥ = λ h. passes-head (passed-last (monitorChecks bytes f entry) _ all) .nowhere 0 (record { foreign = h; is-place = refl }) in
-    record {
-      first = omega (arith, good-small small (before-good bytes f entry ready));
-      second = omega (
-        arith,
-        joined-small bytes f entry ready (good-inside small (since-good bytes f entry ready))
-            (inside-element (good .lawful .images letter (omega arith))),
-      );
-      third = omega arith;
-    }
+module _ (bytes : List ℕ) (f : Monitor) (entry : List ℕ) where
+  module _ (all : FirstFailure (monitorChecks bytes f entry) passed) where
+    monitor-rule : GoodRule bytes
+    monitor-rule = called-good 1 bytes entry (passed-first (checkedChecks 1 bytes entry) _ all)
 
--- a monitor whose two values are good
-both-fit : {n : ℕ} {f : Monitor} → n ≤ 64 → (ValueOutOfRange n (f .before) ⊎ ValueOutOfRange n (f .since) → ⊥) → Fits (monitorContents f)
-both-fit small h =
-    record {
-      first = omega (arith, good-small small (not-stray _ _ (λ i. h (inl i))));
-      second = omega (arith, good-small small (not-stray _ _ (λ i. h (inr i))));
-      third = omega arith;
-    }
+    monitor-unstray : Unstray (elementsOf bytes) f
+    monitor-unstray s = passes-head (passed-last (checkedChecks 1 bytes entry) _ all) .nowhere 0 (record { stray = s; is-place = refl })
+
+    pub mark-fits : Fits (monitorContents (afterMark (morphismOf bytes) f))
+    mark-fits = values-fit (mark-small monitor-rule monitor-unstray)
+
+  pub event-fits : (letter : ℕ) → FirstFailure (eventChecks bytes f letter entry) passed → Fits (monitorContents (afterEvent (morphismOf bytes) f letter))
+  event-fits letter all =
+      let ready = passed-first (monitorChecks bytes f entry) _ all in
+      let known : lettersOf bytes ≤ letter → ⊥ = λ h. passes-head (passed-last (monitorChecks bytes f entry) _ all) .nowhere 0 (record { foreign = h; is-place = refl }) in
+      values-fit (event-small (monitor-rule ready) (monitor-unstray ready) (omega arith))
 
 module _ (bytes : List ℕ) (f : Monitor) (name : ℕ) (points entry : List ℕ) where
   pub keep-fits : FirstFailure (keepChecks bytes f name points entry) passed → Fits (monitorContents f)
   keep-fits all =
       let checked = passed-first (checkedChecks 1 bytes entry) _ (passes-tail all) in
       let later = passes-tail (passed-last (bufferCheck pointsSize points ∷ checkedChecks 1 bytes entry) _ all) in
-      both-fit (called-good 1 bytes entry checked .table .small) (λ s. passes-head later .nowhere 0 (record { stray = inl s; is-place = refl }))
+      values-fit (both-small (called-good 1 bytes entry checked .table .small) (λ s. passes-head later .nowhere 0 (record { stray = inl s; is-place = refl })))
 
   pub return-fits : FirstFailure (returnChecks bytes f name points entry) passed → Fits (monitorContents (pointAt points name))
   return-fits all =
       let checked = passed-first (checkedChecks 1 bytes entry) _ (passes-tail all) in
       let later = passes-tail (passes-tail (passed-last (bufferCheck pointsSize points ∷ checkedChecks 1 bytes entry) _ all)) in
-      both-fit (called-good 1 bytes entry checked .table .small)
+      values-fit (both-small (called-good 1 bytes entry checked .table .small)
       (λ s. passes-head later .nowhere 0
       (record {
         stray = inr (record { name = name; named = return-named bytes f name points entry all; kept = return-kept bytes f name points entry all; stray = s });
         is-place = refl;
-      }))
+      })))

@@ -12,7 +12,7 @@ use Rattle.formats.specs.AutomatonFile.{lettersAt, transitionsAt, transitionsOf
 use Rattle.formats.specs.AutomatonChecks.{RepeatedAt, repeatedChecks, layoutChecks, contentChecks, automatonChecks, readChecks}
 use Rattle.automaton_file.proofs.Passed.{good-sections}
 use Rattle.promises.specs.Automaton.{TooManyMatricesAt, matricesCheck}
-use Rattle.exports.proofs.Limits.{Near, near, at-zero, buffer-limited}
+use Rattle.unpacking.proofs.Limits.{Near, near, at-zero, buffer-limited}
 
 module _ (bytes : List ℕ) where
   -- 1 to 3

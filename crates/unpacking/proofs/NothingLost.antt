@@ -1,7 +1,7 @@
 -- Packing loses nothing. Of each exported call, for inputs of any length: the number is read back as what the answer holds (`-read`), so
 -- two calls that give one number gave one answer (`-told`). An answer that meets its call's promise keeps to the limits of packing
 -- (`-fits`): the refusals by Limits, the results by what their promises say. Assumes nothing.
-use Prim.Native.Nat.{ℕ, _+_, _*_, _≤_}
+use Prim.Native.Nat.{ℕ, _+_, _*_, _≤_, _<_}
 use mathlib.Core.Path.{_≡_, refl, sym, ap, _∙_, subst}
 use mathlib.Core.Logic.{⊎-elim}
 use mathlib.Core.Bool.{Bool, true, false}
@@ -71,13 +71,18 @@ use Rattle.promises.specs.declared.Strength.the-variants.{Strong, Weak, Refused
 use Rattle.promises.specs.Strong.{StrongPromise}
 use Rattle.promises.specs.declared.MonitorVerdict.{MonitorVerdict}
 use Rattle.promises.specs.declared.MonitorVerdict.the-variants.{Decided as Judged, Refused as Not-judged}
-use Rattle.packing.specs.Packing.{unpack, listedContents, strengthContents, membershipContents, complementedContents, reducedContents, confirmationContents, combinedContents, bit, partitionContents, translatedContents, inclusionContents, monitorContents, movedContents, monitorVerdictContents, kindContents, successorsContents, packMonitor}
+use Rattle.board_promises.specs.declared.Board.{Board}
+use Rattle.board_promises.specs.declared.Posted.{Posted}
+use Rattle.board_state.specs.State.{stateSize}
+use Rattle.packing.specs.Packing.{fields, refusal-at, unpack, listedContents, strengthContents, membershipContents, complementedContents, reducedContents, confirmationContents, combinedContents, bit, partitionContents, translatedContents, inclusionContents, monitorContents, movedContents, monitorVerdictContents, kindContents, successorsContents, packMonitor, noticeContents, packNotice}
 use Rattle.packing.proofs.ReadBack.{FieldsFit, Fits, read-back}
 use Rattle.packing.proofs.Contents.{listed-told, strength-told, membership-told, complemented-told, reduced-told, confirmation-told, combined-told, partition-told, translated-told, inclusion-told, judged-told, moved-told, kind-told, successors-told}
 use Rattle.exports.specs.Exports.{ExportedClasses, ExportedStrength, ExportedMember, ExportedComplement, ExportedInclusion, ExportedEvent, ExportedMark, ExportedKeep, ExportedReturn, ExportedReduction, ExportedConfirmation, ExportedCombination, ExportedRounds, ExportedVerdict, ExportedAutomaton, ExportedKind, ExportedSuccessors}
-use Rattle.exports.proofs.Limits.{Near, near, refused-fits, at-zero, buffer-limited, rule-limited, checked-limited, second-limited, lasso-limited}
-use Rattle.exports.proofs.AutomatonLimits.{translated-limited}
-use Rattle.exports.proofs.Monitors.{mark-fits, event-fits, keep-fits, return-fits}
+use Rattle.exports.specs.BoardExports.{ExportedBoardCall, ExportedBoardEmpty, ExportedBoardEnter, ExportedBoardLeave, ExportedBoardEvent, ExportedBoardMark}
+use Rattle.unpacking.proofs.Limits.{Near, near, refused-fits, at-zero, buffer-limited, rule-limited, checked-limited, second-limited, lasso-limited}
+use Rattle.unpacking.proofs.AutomatonLimits.{translated-limited}
+use Rattle.unpacking.proofs.BoardGrades.{board-enter-fits, board-leave-fits, board-event-fits, board-mark-fits}
+use Rattle.unpacking.proofs.Monitors.{mark-fits, event-fits, keep-fits, return-fits}
 
 -- a number below 2 to the power 16 alone
 one-fits : {a : ℕ} → a ≤ 65535 → FieldsFit a 0 0
@@ -209,7 +214,7 @@ moved-fits e h = subst (λ (x : Monitor). Fits (monitorContents x)) (sym e) h
 
 event-answer-fits : {bytes : List ℕ} {f : Monitor} {letter : ℕ} {entry exit : List ℕ} (answer : Moved) → EventPromise bytes f letter entry exit answer
     → Fits (movedContents answer)
-event-answer-fits {bytes} {f} {letter} {entry} (To g) p = moved-fits (p .monitor) (event-fits bytes f letter entry (p .refusal))
+event-answer-fits {bytes} {f} {letter} {entry} (To g) p = moved-fits (p .monitor) (event-fits bytes f entry letter (p .refusal))
 event-answer-fits {bytes} {f} {letter} {entry} (Not-moved g r i place) p =
     refused-fits r (limited-append (monitorChecks bytes f entry) (monitor-limited bytes f entry)
     (λ _. limited-cons (λ place (a : LoneUnknownLetterAt _ _ place). at-zero (a .is-place)) (λ _. limited-nil))) (p .refusal)
@@ -326,6 +331,41 @@ module _ {bytes entry exit : List ℕ} {r : ℕ} where
   pub included-read : {second u-entry u-exit v-entry v-exit : List ℕ} (x : ExportedInclusion bytes second u-entry u-exit v-entry v-exit entry exit r)
       → unpack r ≡ inclusionContents (x .answer)
   included-read x = ap unpack (x .packed) ∙ read-back _ (inclusion-fits (x .answer) (x .promise))
+
+-- the board's calls: what a state that is too short gives, and what the others answer
+module _ {Promise : Board → Posted → Type 0} {Kept : Type 0} {state state-exit : List ℕ} {r : ℕ} (x : ExportedBoardCall Promise Kept state state-exit r) where
+  pub board-short-read : length state < stateSize → unpack r ≡ refusal-at 13 1 0
+  board-short-read h =
+      ap unpack (x .short h .packed)
+      ∙ read-back (refusal-at 13 1 0) (record { number-some = omega arith; number-small = omega arith; input-small = omega arith; place-small = omega arith })
+
+  module _ (h : stateSize ≤ length state) where
+    abbrev pub postedBoard : Posted
+    postedBoard = x .long h .answer
+
+    board-read : Fits (noticeContents (postedBoard .board) (postedBoard .notice)) → unpack r ≡ noticeContents (postedBoard .board) (postedBoard .notice)
+    board-read f = ap unpack (x .long h .packed) ∙ read-back _ f
+
+module _ {state state-exit files entry exit : List ℕ} {r : ℕ} (h : stateSize ≤ length state) where
+  pub board-enter-read : {name : ℕ} {file files-exit : List ℕ} (x : ExportedBoardEnter state state-exit name file files files-exit entry exit r)
+      → unpack r ≡ noticeContents (postedBoard x h .board) (postedBoard x h .notice)
+  board-enter-read x = board-read x h (board-enter-fits (x .long h .promise))
+
+  pub board-leave-read : {name : ℕ} (x : ExportedBoardLeave state state-exit name files entry exit r)
+      → unpack r ≡ noticeContents (postedBoard x h .board) (postedBoard x h .notice)
+  board-leave-read x = board-read x h (board-leave-fits (x .long h .promise))
+
+  pub board-event-read : {letter : ℕ} (x : ExportedBoardEvent state state-exit letter files entry exit r)
+      → unpack r ≡ noticeContents (postedBoard x h .board) (postedBoard x h .notice)
+  board-event-read x = board-read x h (board-event-fits (x .long h .promise))
+
+  pub board-mark-read : (x : ExportedBoardMark state state-exit files entry exit r) → unpack r ≡ noticeContents (postedBoard x h .board) (postedBoard x h .notice)
+  board-mark-read x = board-read x h (board-mark-fits (x .long h .promise))
+
+pub board-empty-read : {state state-exit : List ℕ} {r : ℕ} (h : stateSize ≤ length state) → ExportedBoardEmpty state state-exit r → unpack r ≡ fields 4 0 0
+board-empty-read h x =
+    ap unpack (x .long h .packed ∙ ap (λ (answer : Posted). packNotice (answer .board) (answer .notice)) (x .long h .promise))
+    ∙ read-back (fields 4 0 0) (record { first = omega arith; second = omega arith; third = omega arith })
 
 -- so one number is one answer, whatever the inputs were
 module _ {bytes entry exit bytes′ entry′ exit′ : List ℕ} {r : ℕ} where

@@ -24,12 +24,12 @@ use Rattle.rule_check.proofs.Passed.{size-small, letters-small, marks-small}
 use Rattle.formats.specs.WordChecks.{longestWord, LengthOutAt, UnknownLetterAt, lassoChecks}
 use Rattle.packing.proofs.ReadBack.{RefusalFits}
 
--- where refusals lie: in input 1 or 2, and below 2 to the power 18, which the place of the last triple is just below
+-- where refusals lie: in an input up to 7, and below 2 to the power 18, which the place of the last triple is just below
 pub record Near (input place : ℕ) : Type 0 where
-  pub input-small : input ≤ 2
+  pub input-small : input ≤ 7
   pub place-small : place < 262144
 
-pub near : {input place : ℕ} → input ≤ 2 → place < 262144 → Near input place
+pub near : {input place : ℕ} → input ≤ 7 → place < 262144 → Near input place
 near i l = record { input-small = i; place-small = l }
 
 -- a refusal that lies there is packed whole
@@ -52,14 +52,14 @@ pub buffer-limited : {needed : ℕ} {buffer : List ℕ} {checks : List Check} �
 buffer-limited l = limited-cons (λ place (f : ShortAt _ _ place). at-zero (f .is-place)) (λ _. l)
 
 -- 5, 6
-table-limited : (input : ℕ) (m : Morphism) → input ≤ 2 → m .size ≤ 64 → Limited Near (tableChecks input m)
+table-limited : (input : ℕ) (m : Morphism) → input ≤ 7 → m .size ≤ 64 → Limited Near (tableChecks input m)
 table-limited input m known small =
     limited-cons
     (λ place (f : NotAssociativeAt m place). near known (omega (arith, f .is-place, f .a-inside, f .b-inside, f .c-inside)))
     (λ _. limited-cons (λ place (f : UnreachedAt m place). near known (omega (arith, f .inside))) (λ _. limited-nil))
 
 -- 7, 8
-marks-limited : (input : ℕ) (m : Morphism) (bytes : List ℕ) (at i count : ℕ) → input ≤ 2 → at + (2 + markWidth * (i + count)) ≤ ruleSize
+marks-limited : (input : ℕ) (m : Morphism) (bytes : List ℕ) (at i count : ℕ) → input ≤ 7 → at + (2 + markWidth * (i + count)) ≤ ruleSize
     → Limited Near (markChecks input m bytes at i count)
 unfolding markChecks
 marks-limited input m bytes at i zero known l = limited-nil
@@ -68,7 +68,7 @@ marks-limited input m bytes at i (suc count) known l =
     (λ _. limited-cons (λ place (f : RepeatedAt _ _ _ place). near known (omega (arith, f .is-place)))
     (λ _. marks-limited input m bytes at (suc i) count known (omega arith)))
 
-module _ (input : ℕ) (bytes : List ℕ) (known : input ≤ 2) where
+module _ (input : ℕ) (bytes : List ℕ) (known : input ≤ 7) where
   -- 1 to 3
   layout-limited : Limited Near (layoutChecks input bytes)
   layout-limited =
@@ -115,7 +115,7 @@ second-limited rule bytes =
     (λ _. marks-limited 2 (morphismOf rule) bytes 0 0 (twoBytes bytes 0) (omega arith) (omega arith)))
 
 -- a word whose length passed
-word-short : {input shortest : ℕ} {w : List ℕ} {place : ℕ} → ((p : ℕ) → LengthOutAt shortest w p → ⊥) → input ≤ 2 → place < length w → Near input place
+word-short : {input shortest : ℕ} {w : List ℕ} {place : ℕ} → ((p : ℕ) → LengthOutAt shortest w p → ⊥) → input ≤ 7 → place < length w → Near input place
 word-short {w = w} passes known l =
     let h : longestWord < length w → ⊥ = λ g. passes 0 (record { outside = inr g; is-place = refl }) in
     near known (omega arith)

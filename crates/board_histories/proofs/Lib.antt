@@ -1,0 +1,6 @@
+pub mod HistoryReadings
+pub mod Passed
+pub mod Standing
+pub mod Steps
+pub mod Anew
+pub mod Theorem

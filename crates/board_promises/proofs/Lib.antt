@@ -1,0 +1,9 @@
+pub mod NameRows
+pub mod SmallFiles
+pub mod Moved
+pub mod Slots
+pub mod Places
+pub mod Letters
+pub mod OneAnswer
+pub mod OwnPlace
+pub mod CheckOrder

@@ -1,0 +1,4 @@
+pub mod Boards
+pub mod Followers
+pub mod Checks
+pub mod Promises

@@ -1,0 +1,25 @@
+-- `monitor_advance::monitor_grade` meets its contract: none for a since that is none, else one look in the closure. Assumes nothing.
+use borrow.Author.Needs.{needs}
+use Rattle.monitor_verdict.proofs.Values.{values-judgeable, start-below}
+use Rattle.monitor_advance.proofs.Stepping.{grade-none, grade-some}
+use Rattle.monitor_advance.proofs.monitor_grade.Statement.{statement}
+use Rattle.monitor_advance.proofs.monitor_grade.Tie as tie
+
+returns : tie.Need-returns
+returns c = grade-none (c .if1 .taken)
+
+start-element-requires : tie.Need-start-element-requires
+start-element-requires c κs = search needs
+
+values-grade-requires : tie.Need-values-grade-requires
+values-grade-requires c κs =
+    let b = c .before .before .before .before .pre in
+    let good = b .1 .1 .0 in
+    let j = values-judgeable _ _ (good .before-good) (good .since-good) (c .before .if1 .left) in
+    (b .0, (b .1 .0, ((start-below j (c .start-element .ensures), j .since-inside), b .1 .1 .1)))
+
+returns-2 : tie.Need-returns-2
+returns-2 c = grade-some (c .before .before .if1 .left) (c .before .start-element .ensures) (c .values-grade .ensures .0)
+
+pub monitor-grade-spec : {M : Type 1} → statement M
+monitor-grade-spec = tie.close (tie.spec returns start-element-requires values-grade-requires returns-2)
