@@ -3,7 +3,8 @@
  *
  * What a caller owes
  *   - Each pointer is not null, also for a length of 0, and good for its length.
- *   - A buffer that is written (out, blocks, scratch, map of duknavet_reduce, u and v of duknavet_included, points of duknavet_keep)
+ *   - A buffer that is written (out, blocks, scratch, state, map of duknavet_reduce, u and v of duknavet_included, points of duknavet_keep,
+ *     files of duknavet_board_enter)
  *     overlaps no other argument's bytes during the call. Bytes that are only read may overlap.
  *   - Nothing else: any bytes of any length, and any numbers, have their answer. No call keeps a pointer, allocates, or
  *     uses memory shared between calls; calls on different buffers may run at the same time.
@@ -52,6 +53,8 @@ extern "C" {
 #define DUKNAVET_MAP 64        /* map of reduce: a byte for each element; the map of confirm may have any length */
 #define DUKNAVET_BLOCKS 64     /* blocks of reduce_rounds: a byte for each element */
 #define DUKNAVET_SUCCESSORS 65 /* out of successors: a byte for each element, and one for none */
+#define DUKNAVET_BOARD 25      /* state of a board: three bytes for each of the names 0 to 7, then the lowest grade */
+#define DUKNAVET_FILES 131232  /* files of a board: DUKNAVET_RULE bytes for each name */
 
 /* The most letters that u or v of a lasso may have; the fewest is 0 for u and 1 for v. */
 #define DUKNAVET_WORD 4224
@@ -90,7 +93,9 @@ enum duknavet_refusal {
     DUKNAVET_NO_SUCH_STATE = 17,       /* s is neither an element nor 64, or e no idempotent element: 0 */
     DUKNAVET_LETTERS_DIFFER = 18,      /* two rules to be made one have different numbers of letters: 0 */
     DUKNAVET_TOO_MANY_PAIRS = 19,      /* two rules to be made one have more than 64 pairs of values: 0 */
-    DUKNAVET_LIMIT_OUT_OF_RANGE = 20   /* a limit of rounds is above 64: 0 */
+    DUKNAVET_LIMIT_OUT_OF_RANGE = 20,  /* a limit of rounds is above 64: 0 */
+    DUKNAVET_NAME_NOT_FREE = 21,       /* a rule would enter under a name above 7 or taken: 0 */
+    DUKNAVET_NAME_NOT_PRESENT = 22     /* no rule is present under the name that would leave: 0 */
 };
 
 /* The refusal of an answer; DUKNAVET_RESULT where it is a result. */
@@ -263,6 +268,46 @@ uint64_t duknavet_return(const uint8_t *rule, size_t rule_length,
 uint64_t duknavet_verdict(const uint8_t *rule, size_t rule_length,
                           size_t before, size_t since,
                           uint8_t *scratch, size_t scratch_length);
+
+/* The harbour board: up to eight strong rules that enter and leave while events go on, each under a name from 0 to 7 with a monitor of
+ * its own. The state of a board (DUKNAVET_BOARD) has three bytes for each name, from byte 3 * name on: 0 where no rule is present and
+ * any other byte where one is (a call writes 1), before, since; byte 24 is the lowest grade among the rules that are present and have a
+ * since, 4 for none. The files of the rules stand in files (DUKNAVET_FILES), that of a name from byte DUKNAVET_RULE * name on.
+ * Every call checks the rules that are present, the lowest name first: the file, up to the end that its own counts give; before and since
+ * (3, place 0); whether it is strong (12, place 0). The input of such a refusal is the rule's name, 0 to 7, and its place counts from the
+ * file's first byte. Field 0 of every call: the lowest grade, or 4. A refused call changes neither the state nor a byte of the files.
+ * While the state is handed on unaltered and nobody else writes the files of those present, the lowest grade is that of the lassos of the
+ * events that each rule has heard before and since its last mark, from when it entered. */
+
+/* The state of a board where nobody is present. Refused by 13 only. */
+uint64_t duknavet_board_empty(uint8_t *state, size_t state_length);
+
+/* A rule enters under a free name, with a monitor that has seen nothing; its file is copied to its place in files, and no other byte of them
+ * changes. Refused, in this order: 13; 21; those present; the file that enters, in its own length, and then whether it is strong, both with
+ * the name as input. */
+uint64_t duknavet_board_enter(uint8_t *state, size_t state_length,
+                              size_t name,
+                              const uint8_t *file, size_t file_length,
+                              uint8_t *files, size_t files_length,
+                              uint8_t *scratch, size_t scratch_length);
+
+/* The rule under a name leaves. Refused, in this order: 13; 22; those present, the one that leaves too. */
+uint64_t duknavet_board_leave(uint8_t *state, size_t state_length,
+                              size_t name,
+                              const uint8_t *files, size_t files_length,
+                              uint8_t *scratch, size_t scratch_length);
+
+/* An event for all present. Refused, in this order: 13; those present; 10 where it is foreign to a rule, with the lowest such name as
+ * input. */
+uint64_t duknavet_board_event(uint8_t *state, size_t state_length,
+                              uint8_t letter,
+                              const uint8_t *files, size_t files_length,
+                              uint8_t *scratch, size_t scratch_length);
+
+/* A mark for all present. */
+uint64_t duknavet_board_mark(uint8_t *state, size_t state_length,
+                             const uint8_t *files, size_t files_length,
+                             uint8_t *scratch, size_t scratch_length);
 
 /* Reading a rule file. The file has passed a call's checks, as duknavet_strong makes them: then every number below is in its range,
  * and nothing outside the file is read for elements, letters and marks below their counts. */

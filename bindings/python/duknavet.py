@@ -27,6 +27,9 @@ POINTS = 24
 MAP_OUT = 64
 BLOCKS = 64
 SUCCESSORS_OUT = 65
+BOARD_NAMES = 8
+BOARD_STATE = 25
+BOARD_FILES = 131232
 #: The value of a monitor, and of a state's s, that stands for no letters.
 NONE = 64
 #: The kinds of states, as automaton files code them.
@@ -52,6 +55,8 @@ KINDS = {
     18: "LettersDiffer",
     19: "TooManyPairs",
     20: "LimitOutOfRange",
+    21: "NameNotFree",
+    22: "NameNotPresent",
 }
 
 
@@ -165,6 +170,11 @@ def _load() -> ctypes.CDLL:
         "keep": lent + [size, size, size] + written + written,
         "return": lent + [size, size, size] + lent + written,
         "verdict": lent + [size, size] + written,
+        "board_empty": written,
+        "board_enter": written + [size] + lent + written + written,
+        "board_leave": written + [size] + lent + written,
+        "board_event": written + [ctypes.c_uint8] + lent + written,
+        "board_mark": written + lent + written,
     }
     for name, arguments in signatures.items():
         function = getattr(library, f"duknavet_{name}")
@@ -185,7 +195,7 @@ def _call(name: str, *arguments) -> Tuple[int, int, int]:
         handed.append(argument)
         if not isinstance(argument, int):
             handed.append(len(argument))
-    if name != "fresh":
+    if name not in ("fresh", "board_empty"):
         handed += [ctypes.create_string_buffer(SCRATCH), SCRATCH]
     answer = getattr(_library, f"duknavet_{name}")(*handed)
     if answer & 255:
@@ -331,3 +341,39 @@ class Monitor:
         """The grade if the events since the last mark come for ever, and the turns of that cycle."""
         grade, turns, _ = _call("verdict", self.rule, self.before, self.since)
         return Graded(grade, turns)
+
+
+class Board:
+    """Up to eight strong rules that enter and leave while events go on, each with a monitor of its own; a refused call changes nothing."""
+
+    def __init__(self):
+        self._state = ctypes.create_string_buffer(BOARD_STATE)
+        self._files = ctypes.create_string_buffer(BOARD_FILES)
+        _call("board_empty", self._state)
+
+    @property
+    def lowest(self) -> Optional[int]:
+        """The lowest grade among the rules that heard an event since their last mark, None if there is no such rule."""
+        lowest = self._state.raw[BOARD_STATE - 1]
+        return None if lowest > 3 else lowest
+
+    @property
+    def names(self) -> List[int]:
+        """The names under which a rule is present."""
+        return [name for name in range(BOARD_NAMES) if self._state.raw[3 * name] != 0]
+
+    def enter(self, name: int, file: bytes) -> None:
+        """A rule enters under a free name, 0 to 7, and has heard nothing."""
+        _call("board_enter", self._state, _size(name, "a name"), file, self._files)
+
+    def leave(self, name: int) -> None:
+        """The rule under a name leaves."""
+        _call("board_leave", self._state, _size(name, "a name"), self._files)
+
+    def event(self, letter: int) -> None:
+        """A letter, 0 to 255, for all that are present."""
+        _call("board_event", self._state, _byte(letter, "a letter"), self._files)
+
+    def mark(self) -> None:
+        """A mark for all that are present."""
+        _call("board_mark", self._state, self._files)

@@ -140,7 +140,8 @@ class Calls(unittest.TestCase):
         found = {number: kind for number, kind in duknavet.KINDS.items() if number > 14}
         points = {15: "NameOutOfRange", 16: "NameNeverKept"}
         later = {17: "NoSuchState", 18: "LettersDiffer", 19: "TooManyPairs", 20: "LimitOutOfRange"}
-        self.assertEqual(found, {**points, **later})
+        names = {21: "NameNotFree", 22: "NameNotPresent"}
+        self.assertEqual(found, {**points, **later, **names})
         with self.assertRaises(Refused) as caught:
             duknavet.successors(Z, 0, 1, 0)
         self.assertEqual(str(caught.exception), "NoSuchState (refusal 17, input 1, place 0)")
@@ -210,6 +211,74 @@ class Cyclic(unittest.TestCase):
             self.assertEqual(duknavet.member(file, b"", bytes(v)).grade, expected)
             seen.add(expected)
         self.assertEqual(seen, {0, 1, 2, 3})
+
+
+class Boards(unittest.TestCase):
+    """Rules that enter and leave, against the grades of the lassos that each has heard."""
+
+    def refused(self, number, input, place, call, *arguments):
+        with self.assertRaises(Refused) as caught:
+            call(*arguments)
+        found = caught.exception
+        self.assertEqual((found.number, found.input, found.place), (number, input, place))
+
+    def test_refusals(self):
+        board = duknavet.Board()
+        self.assertEqual((board.lowest, board.names), (None, []))
+        board.event(200)
+        board.enter(3, W)
+        self.refused(21, 1, 0, board.enter, 3, W)
+        self.refused(21, 1, 0, board.enter, 8, W)
+        self.refused(22, 1, 0, board.leave, 4)
+        self.refused(12, 6, 0, board.enter, 6, Z)
+        self.refused(1, 0, 12, board.enter, 0, W[:12])
+        self.refused(10, 3, 0, board.event, 2)
+        for name in (-1, 1 << 64):
+            self.assertRaises(ValueError, board.enter, name, W)
+            self.assertRaises(ValueError, board.leave, name)
+        self.assertRaises(ValueError, board.event, 256)
+        self.assertEqual((board.lowest, board.names), (None, [3]))
+
+    def test_lent_bytes(self):
+        """A state that is too short, a longer one, and a byte of a file that a foreign hand changed."""
+        state, files = ctypes.create_string_buffer(b"\7" * 24, 24), ctypes.create_string_buffer(duknavet.BOARD_FILES)
+        self.refused(13, 1, 0, duknavet._call, "board_empty", state)
+        self.refused(13, 1, 0, duknavet._call, "board_mark", state, files)
+        self.refused(13, 1, 0, duknavet._call, "board_enter", state, 0, W, files)
+        self.assertEqual((state.raw, files.raw[:1]), (b"\7" * 24, b"\0"))
+        board = duknavet.Board()
+        board.enter(5, W)
+        board._files[5 * duknavet.RULE_OUT + len(W)] = 9
+        board.mark()
+        board._files[5 * duknavet.RULE_OUT + 12] = 4
+        self.refused(3, 5, 12, board.mark)
+
+    def test_histories(self):
+        numbers = random.Random(1414)
+        seen = set()
+        for _ in range(20):
+            board, heard = duknavet.Board(), {}
+            for _ in range(40):
+                name, deed = numbers.randrange(8), numbers.randrange(8)
+                if deed < 2 and name not in heard:
+                    file = numbers.choice((W, THREE_GRADES, TWICE))
+                    board.enter(name, file)
+                    heard[name] = (file, b"", b"")
+                elif deed == 2 and name in heard:
+                    board.leave(name)
+                    del heard[name]
+                elif deed == 3:
+                    board.mark()
+                    heard = {name: (file, u + v, b"") for name, (file, u, v) in heard.items()}
+                else:
+                    letter = numbers.randrange(2)
+                    board.event(letter)
+                    heard = {name: (file, u, v + bytes([letter])) for name, (file, u, v) in heard.items()}
+                grades = [duknavet.member(file, u, v).grade for file, u, v in heard.values() if v]
+                self.assertEqual(board.lowest, min(grades, default=None))
+                self.assertEqual(board.names, sorted(heard))
+                seen.add((board.lowest, len(heard)))
+        self.assertGreater(len(seen), 12)
 
 
 class Pairs(unittest.TestCase):

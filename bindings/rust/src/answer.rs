@@ -3,6 +3,8 @@
 //! Byte 0 of an answer is 0 for a result, else the number of the refusal. Of a refusal byte 1 is the input, and the place
 //! stands from bit 16 on. A result has three fields of 16 bits, from bits 16, 32 and 48 on.
 
+use std::ops::RangeInclusive;
+
 /// Why a call refuses; the discriminant is the refusal's number.
 #[derive(Clone, Copy, Debug, PartialEq, Eq, Hash, PartialOrd, Ord)]
 #[repr(u8)]
@@ -47,10 +49,14 @@ pub enum Refusal {
     TooManyPairs = 19,
     /// A limit of rounds is above [`MOST_ROUNDS`](crate::MOST_ROUNDS).
     LimitOutOfRange = 20,
+    /// A rule would enter a board under a name above 7 or a taken one.
+    NameNotFree = 21,
+    /// A rule would leave a board under a name where none is.
+    NameNotPresent = 22,
 }
 
 impl Refusal {
-    /// The refusal's number, 1 to 20, never 9.
+    /// The refusal's number, 1 to 22, never 9.
     pub fn number(self) -> u8 {
         self as u8
     }
@@ -79,6 +85,8 @@ impl Refusal {
             Refusal::LettersDiffer => "the rules have different numbers of letters",
             Refusal::TooManyPairs => "the rules have more than 64 pairs of values",
             Refusal::LimitOutOfRange => "the limit of rounds is above 64",
+            Refusal::NameNotFree => "the name is above 7 or taken",
+            Refusal::NameNotPresent => "no rule is present under the name",
         }
     }
 
@@ -104,6 +112,8 @@ impl Refusal {
             18 => Refusal::LettersDiffer,
             19 => Refusal::TooManyPairs,
             20 => Refusal::LimitOutOfRange,
+            21 => Refusal::NameNotFree,
+            22 => Refusal::NameNotPresent,
             _ => return None,
         })
     }
@@ -114,7 +124,8 @@ impl Refusal {
 pub struct Refused {
     /// Why.
     pub refusal: Refusal,
-    /// Which input it lies in: 2 for a second marks section, a second rule and the word v, otherwise 1.
+    /// Which input it lies in: 2 for a second marks section, a second rule and the word v, otherwise 1. Of a board it is the name, 0 to 7,
+    /// of the rule that it lies in, and 1 where it lies in none.
     pub input: u8,
     /// Where in that input; [`Refusal`] says what it counts.
     pub place: u64,
@@ -154,6 +165,15 @@ impl std::error::Error for Refused {}
 
 /// The three fields of a result, or the refusal. A number that no answer is packed into is a fault of the archive, and panics.
 pub(crate) fn unpack(packed: u64) -> Result<[usize; 3], Refused> {
+    unpack_of(packed, 1..=2)
+}
+
+/// The same of a call on a board, where the input of a refusal is a rule's name.
+pub(crate) fn unpack_of_board(packed: u64) -> Result<[usize; 3], Refused> {
+    unpack_of(packed, 0..=7)
+}
+
+fn unpack_of(packed: u64, inputs: RangeInclusive<u8>) -> Result<[usize; 3], Refused> {
     let [number, input, ..] = packed.to_le_bytes();
     if number == 0 {
         if input != 0 {
@@ -165,8 +185,8 @@ pub(crate) fn unpack(packed: u64) -> Result<[usize; 3], Refused> {
     let Some(refusal) = Refusal::from_number(number) else {
         foreign(packed, "there is no such refusal");
     };
-    if input != 1 && input != 2 {
-        foreign(packed, "the input of a refusal is neither 1 nor 2");
+    if !inputs.contains(&input) {
+        foreign(packed, "the call has no such input");
     }
     Err(Refused {
         refusal,
@@ -207,7 +227,8 @@ pub(crate) fn foreign(packed: u64, why: &str) -> ! {
 
 #[cfg(test)]
 mod tests {
-    use super::{unpack, unpack_bool, unpack_graded, unpack_length, Refusal, Refused};
+    use super::{unpack, unpack_bool, unpack_graded, unpack_length, unpack_of_board};
+    use super::{Refusal, Refused};
     use std::panic::catch_unwind;
 
     #[test]
@@ -215,7 +236,7 @@ mod tests {
         for number in 0..=255 {
             match Refusal::from_number(number) {
                 Some(refusal) => assert_eq!(refusal.number(), number),
-                None => assert!(matches!(number, 0 | 9) || number > 20),
+                None => assert!(matches!(number, 0 | 9) || number > 22),
             }
         }
     }
@@ -229,6 +250,12 @@ mod tests {
             place: 4223,
         };
         assert_eq!(unpack(0x0000_0000_107f_020a), Err(refused));
+        let refused = Refused {
+            refusal: Refusal::NotStrong,
+            input: 7,
+            place: 0,
+        };
+        assert_eq!(unpack_of_board(0x070c), Err(refused));
         assert_eq!(unpack_bool(0x1_0000), Ok(true));
         assert_eq!(unpack_graded(0x2_0001_0000), Ok((1, 2)));
         assert_eq!(unpack_graded(0x1_0003_0000), Ok((3, 1)));
@@ -238,8 +265,11 @@ mod tests {
 
     #[test]
     fn what_packs_no_answer_panics() {
-        for packed in [0x0000_0115, 0x0000_0109, 0x0100, 0x0001, 0x0301] {
+        for packed in [0x0000_0117, 0x0000_0109, 0x0100, 0x0001, 0x0301] {
             assert!(catch_unwind(|| unpack(packed)).is_err());
+        }
+        for packed in [0x0000_0117, 0x0000_0109, 0x0100, 0x0801] {
+            assert!(catch_unwind(|| unpack_of_board(packed)).is_err());
         }
         assert!(catch_unwind(|| unpack_bool(0x2_0000)).is_err());
         assert!(catch_unwind(|| unpack_bool(0x1_0001_0000)).is_err());

@@ -12,8 +12,8 @@
 //! every refusal.
 //!
 //! The calls of this page work in buffers that are lent to them. [`owned`] has the same calls with results of their own,
-//! [`RuleMonitor`] a monitor with its rule, and [`RuleAutomaton`] a rule's own automaton; [`files`] has rules and automata as values,
-//! [`text`] their texts, [`words`] refusals in words.
+//! [`RuleMonitor`] a monitor with its rule, [`RuleBoard`] a board with its rules, and [`RuleAutomaton`] a rule's own automaton; [`files`]
+//! has rules and automata as values, [`text`] their texts, [`words`] refusals in words.
 //!
 //! Every call takes any bytes, of any length: what is wrong with them is answered as a [`Refused`]. Calls that get a rule are
 //! lent a scratch of [`SCRATCH`] bytes or more, and leave it as zeros. After a refusal the result buffers keep every byte; where
@@ -35,6 +35,7 @@
 
 mod answer;
 mod automata;
+mod boards;
 mod combinations;
 pub mod exchange;
 pub mod files;
@@ -47,6 +48,7 @@ pub mod picture;
 mod raw;
 mod reductions;
 mod rule_automaton;
+mod rule_board;
 mod rule_monitor;
 mod states;
 pub mod text;
@@ -55,6 +57,8 @@ pub mod words;
 
 pub use answer::{Refusal, Refused};
 pub use automata::{automaton_rule, Translated};
+pub use boards::{board_enter, board_event, board_file, board_leave, board_mark};
+pub use boards::{Board, NotPosted};
 pub use combinations::{combine, Combined, Operation};
 pub use lassos::{member, Membership};
 pub use markings::{classes, complement, included, strong};
@@ -64,6 +68,7 @@ pub use monitors::{Monitor, NotMoved, Verdict};
 pub use reductions::{confirm, reduce, reduce_rounds};
 pub use reductions::{Confirmation, Partition, Reduced};
 pub use rule_automaton::{ListedState, RuleAutomaton, RuleState};
+pub use rule_board::RuleBoard;
 pub use rule_monitor::RuleMonitor;
 pub use states::{state_kind, successors, StateKind, Successors};
 
@@ -99,6 +104,15 @@ pub const SUCCESSORS_OUT: usize = 65;
 
 /// The most letters that u or v of a lasso may have; only u may have none.
 pub const WORD: usize = 4_224;
+
+/// How many names a board has: 0 to 7.
+pub const BOARD_NAMES: usize = 8;
+
+/// The bytes of a board's state: three for each name, then the lowest grade.
+pub const BOARD_STATE: usize = 25;
+
+/// The bytes that the files of a board must have: [`RULE_OUT`] for each name.
+pub const BOARD_FILES: usize = 131_232;
 
 /// The value of a monitor, and of a state's first half, that stands for no letters.
 pub const NONE: usize = 64;

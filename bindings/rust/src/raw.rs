@@ -185,6 +185,44 @@ mod exported {
             scratch: *mut u8,
             scratch_length: usize,
         ) -> u64;
+        pub fn duknavet_board_empty(state: *mut u8, state_length: usize) -> u64;
+        pub fn duknavet_board_enter(
+            state: *mut u8,
+            state_length: usize,
+            name: usize,
+            file: *const u8,
+            file_length: usize,
+            files: *mut u8,
+            files_length: usize,
+            scratch: *mut u8,
+            scratch_length: usize,
+        ) -> u64;
+        pub fn duknavet_board_leave(
+            state: *mut u8,
+            state_length: usize,
+            name: usize,
+            files: *const u8,
+            files_length: usize,
+            scratch: *mut u8,
+            scratch_length: usize,
+        ) -> u64;
+        pub fn duknavet_board_event(
+            state: *mut u8,
+            state_length: usize,
+            letter: u8,
+            files: *const u8,
+            files_length: usize,
+            scratch: *mut u8,
+            scratch_length: usize,
+        ) -> u64;
+        pub fn duknavet_board_mark(
+            state: *mut u8,
+            state_length: usize,
+            files: *const u8,
+            files_length: usize,
+            scratch: *mut u8,
+            scratch_length: usize,
+        ) -> u64;
     }
 }
 
@@ -484,6 +522,78 @@ pub fn automaton_rule(automaton: &[u8], out: &mut [u8], scratch: &mut [u8]) -> u
             automaton.len(),
             out.as_mut_ptr(),
             out.len(),
+            scratch.as_mut_ptr(),
+            scratch.len(),
+        )
+    }
+}
+
+pub fn board_empty(state: &mut [u8]) -> u64 {
+    // SAFETY: as for `classes`.
+    unsafe { exported::duknavet_board_empty(state.as_mut_ptr(), state.len()) }
+}
+
+pub fn board_enter(
+    state: &mut [u8],
+    name: usize,
+    file: &[u8],
+    files: &mut [u8],
+    scratch: &mut [u8],
+) -> u64 {
+    // SAFETY: as for `classes`; `state` and `files` are borrowed mutably too.
+    unsafe {
+        exported::duknavet_board_enter(
+            state.as_mut_ptr(),
+            state.len(),
+            name,
+            file.as_ptr(),
+            file.len(),
+            files.as_mut_ptr(),
+            files.len(),
+            scratch.as_mut_ptr(),
+            scratch.len(),
+        )
+    }
+}
+
+pub fn board_leave(state: &mut [u8], name: usize, files: &[u8], scratch: &mut [u8]) -> u64 {
+    // SAFETY: as for `board_enter`; `files` is only read.
+    unsafe {
+        exported::duknavet_board_leave(
+            state.as_mut_ptr(),
+            state.len(),
+            name,
+            files.as_ptr(),
+            files.len(),
+            scratch.as_mut_ptr(),
+            scratch.len(),
+        )
+    }
+}
+
+pub fn board_event(state: &mut [u8], letter: u8, files: &[u8], scratch: &mut [u8]) -> u64 {
+    // SAFETY: as for `board_leave`.
+    unsafe {
+        exported::duknavet_board_event(
+            state.as_mut_ptr(),
+            state.len(),
+            letter,
+            files.as_ptr(),
+            files.len(),
+            scratch.as_mut_ptr(),
+            scratch.len(),
+        )
+    }
+}
+
+pub fn board_mark(state: &mut [u8], files: &[u8], scratch: &mut [u8]) -> u64 {
+    // SAFETY: as for `board_leave`.
+    unsafe {
+        exported::duknavet_board_mark(
+            state.as_mut_ptr(),
+            state.len(),
+            files.as_ptr(),
+            files.len(),
             scratch.as_mut_ptr(),
             scratch.len(),
         )

@@ -7,6 +7,7 @@
 
 static uint8_t out[DUKNAVET_RULE], classes[DUKNAVET_CLASSES], u[DUKNAVET_U], v[DUKNAVET_V];
 static uint8_t points[DUKNAVET_POINTS], blocks[DUKNAVET_BLOCKS], map[DUKNAVET_MAP], scratch[DUKNAVET_SCRATCH];
+static uint8_t board[DUKNAVET_BOARD + 1], files[DUKNAVET_FILES];
 static int failures;
 
 static void expect(const char *what, int holds)
@@ -111,6 +112,36 @@ int main(void)
     answer = duknavet_member(rule, sizeof rule, letter, 2, letter, 3, scratch, sizeof scratch);
     expect("refusal", duknavet_refusal_of(answer) == DUKNAVET_UNKNOWN_LETTER && duknavet_input_of(answer) == 2 &&
                           duknavet_place_of(answer) == 2);
+    memset(board, 9, sizeof board);
+    expect("short board", duknavet_refusal_of(duknavet_board_empty(board, DUKNAVET_BOARD - 1)) == DUKNAVET_BUFFER_TOO_SHORT && board[0] == 9);
+    expect("empty board", is_result(duknavet_board_empty(board, sizeof board), 4, 0, 0));
+    expect("nobody", board[0] == 0 && board[1] == DUKNAVET_NONE && board[23] == DUKNAVET_NONE && board[24] == 4 && board[25] == 9);
+    memset(files, 7, sizeof files);
+    answer = duknavet_board_enter(board, sizeof board, 7, rule, sizeof rule, files, sizeof files, scratch, sizeof scratch);
+    expect("enter", is_result(answer, 4, 0, 0) && board[21] == 1 && board[25] == 9 && files[7 * DUKNAVET_RULE - 1] == 7);
+    expect("copied", memcmp(files + 7 * DUKNAVET_RULE, rule, sizeof rule) == 0 && files[7 * DUKNAVET_RULE + sizeof rule] == 7);
+    answer = duknavet_board_enter(board, DUKNAVET_BOARD - 1, 0, rule, sizeof rule, files, sizeof files, scratch, sizeof scratch);
+    expect("short state", duknavet_refusal_of(answer) == DUKNAVET_BUFFER_TOO_SHORT && duknavet_input_of(answer) == 1 && files[0] == 7);
+    answer = duknavet_board_enter(board, sizeof board, 7, rule, sizeof rule, files, sizeof files, scratch, sizeof scratch);
+    expect("taken", duknavet_refusal_of(answer) == DUKNAVET_NAME_NOT_FREE && duknavet_input_of(answer) == 1);
+    answer = duknavet_board_enter(board, sizeof board, 3, sums, sizeof sums, files, sizeof files, scratch, sizeof scratch);
+    expect("entering weak", duknavet_refusal_of(answer) == DUKNAVET_NOT_STRONG && duknavet_input_of(answer) == 3);
+    answer = duknavet_board_enter(board, sizeof board, 0, three_grades, sizeof three_grades, files, sizeof files, scratch, sizeof scratch);
+    expect("enter again", is_result(answer, 4, 0, 0));
+    answer = duknavet_board_event(board, sizeof board, 0, files, sizeof files, scratch, sizeof scratch);
+    expect("event for all", is_result(answer, 3, 0, 0) && board[2] == 0 && board[23] == 0 && board[24] == 3);
+    answer = duknavet_board_event(board, sizeof board, 2, files, sizeof files, scratch, sizeof scratch);
+    expect("foreign", duknavet_refusal_of(answer) == DUKNAVET_UNKNOWN_LETTER && duknavet_input_of(answer) == 0);
+    answer = duknavet_board_mark(board, sizeof board, files, sizeof files, scratch, sizeof scratch);
+    expect("mark for all", is_result(answer, 4, 0, 0) && board[1] == 0 && board[2] == DUKNAVET_NONE && board[22] == 0);
+    answer = duknavet_board_event(board, sizeof board, 1, files, sizeof files, scratch, sizeof scratch);
+    expect("lowest", is_result(answer, 0, 0, 0) && board[24] == 0);
+    answer = duknavet_board_leave(board, sizeof board, 7, files, sizeof files, scratch, sizeof scratch);
+    expect("leave", is_result(answer, 2, 0, 0) && board[21] == 0 && files[7 * DUKNAVET_RULE] == rule[0]);
+    answer = duknavet_board_leave(board, sizeof board, 7, files, sizeof files, scratch, sizeof scratch);
+    expect("not present", duknavet_refusal_of(answer) == DUKNAVET_NAME_NOT_PRESENT && duknavet_input_of(answer) == 1);
+    answer = duknavet_board_mark(board, DUKNAVET_BOARD - 1, files, sizeof files, scratch, sizeof scratch);
+    expect("short state of a mark", duknavet_refusal_of(answer) == DUKNAVET_BUFFER_TOO_SHORT && board[2] == 1);
     expect("elements and letters", duknavet_rule_elements(rule) == 2 && duknavet_rule_letters(rule) == 2);
     expect("products", duknavet_rule_product(rule, 1, 1) == 1 && duknavet_rule_product(rule, 1, 0) == 0);
     expect("images", duknavet_rule_image(rule, 0) == 0 && duknavet_rule_image(rule, 1) == 1 && duknavet_rule_image(sums, 0) == 1);

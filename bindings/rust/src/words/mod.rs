@@ -4,6 +4,7 @@
 //! from 0: bytes, positions, elements, letters, marks and transitions.
 
 mod automaton;
+mod board;
 mod marks;
 mod rule;
 mod state;
@@ -12,6 +13,8 @@ mod two_rules;
 use crate::text::Names;
 use crate::{Refusal, Refused, RuleState, MOST_ROUNDS, WORD};
 use std::fmt;
+
+pub use board::Deed;
 
 /// A refusal with its words.
 #[derive(Clone, Debug, PartialEq, Eq, Hash)]
@@ -99,6 +102,13 @@ pub enum Asked<'a> {
         /// The letter.
         letter: u8,
     },
+    /// A board.
+    Board {
+        /// The bytes that its files stand in.
+        files: &'a [u8],
+        /// What was asked of it.
+        deed: Deed<'a>,
+    },
 }
 
 /// The refusal with its words.
@@ -108,6 +118,10 @@ pub fn explain(refused: Refused, asked: Asked<'_>) -> Explained {
 }
 
 fn in_words(refused: Refused, asked: Asked<'_>) -> Option<String> {
+    // A board's refusals are each of one of its rules, so that all of them are told there.
+    if let Asked::Board { files, deed } = asked {
+        return board::words(refused, files, deed);
+    }
     let place = usize::try_from(refused.place).ok()?;
     match refused.refusal {
         Refusal::UnknownLetter => return unknown_letter(refused, asked),
@@ -159,6 +173,7 @@ fn in_words(refused: Refused, asked: Asked<'_>) -> Option<String> {
         | Asked::Rounds { rule, .. }
         | Asked::Kind { rule, .. }
         | Asked::Successors { rule, .. } => rule::words(refused.refusal, place, rule),
+        Asked::Board { .. } => None,
     }
 }
 
@@ -169,6 +184,10 @@ fn weak(refused: Refused, asked: Asked<'_>) -> Option<String> {
         Asked::TwoRules { first, second } => two_rules::refused_one(refused, first, second),
         _ => return None,
     };
+    weak_rule(name, rule)
+}
+
+fn weak_rule(name: &str, rule: &[u8]) -> Option<String> {
     let weakness = crate::witness::why_weak(rule).ok()??;
     let lassos = weakness.in_words(&Names::none());
     Some(format!("{name} is weak: {lassos}"))

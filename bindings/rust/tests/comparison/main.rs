@@ -37,6 +37,7 @@ fn share(half: usize) -> Tally {
     timed("confirmations", &mut |c| {
         parts::confirmations::run(c, 300, half)
     });
+    timed("boards", &mut |c| parts::boards::run(c, 150, half));
     timed("rounds", &mut |c| parts::rounds::run(c, half));
     timed("prints", &mut |c| parts::prints::run(c, 300, half));
     c.tally

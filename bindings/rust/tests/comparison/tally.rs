@@ -45,7 +45,7 @@ type Refusals = (&'static str, &'static [(u8, &'static [u8])]);
 
 /// Which refusals each call can answer, with their inputs: every number that applies to it.
 /// A rule's checks are 1 to 8; a second marks section has no table and no letters, so not 5 and 6.
-const REFUSALS: [Refusals; 17] = [
+const REFUSALS: [Refusals; 21] = [
     ("classes", &[(1, &[1, 2, 3, 4, 5, 6, 7, 8, 13])]),
     ("strong", &[(1, &[1, 2, 3, 4, 5, 6, 7, 8, 13])]),
     (
@@ -84,10 +84,44 @@ const REFUSALS: [Refusals; 17] = [
     ("state_kind", &[(1, &[1, 2, 3, 4, 5, 6, 7, 8, 13, 17])]),
     ("successors", &[(1, &[1, 2, 3, 4, 5, 6, 7, 8, 10, 13, 17])]),
     ("automaton_rule", &[(1, &[1, 2, 3, 4, 8, 13, 14])]),
+    (
+        "board_enter",
+        &board(
+            &[1, 2, 3, 4, 5, 6, 7, 8, 12],
+            &[1, 2, 3, 4, 5, 6, 7, 8, 12, 13, 21],
+        ),
+    ),
+    (
+        "board_leave",
+        &board(&[2, 3, 5, 6, 7, 8, 12], &[2, 3, 5, 6, 7, 8, 12, 13, 22]),
+    ),
+    (
+        "board_event",
+        &board(&[2, 3, 5, 6, 7, 8, 10, 12], &[2, 3, 5, 6, 7, 8, 10, 12, 13]),
+    ),
+    (
+        "board_mark",
+        &board(&[2, 3, 5, 6, 7, 8, 12], &[2, 3, 5, 6, 7, 8, 12, 13]),
+    ),
 ];
 
+/// The inputs of a call on a board: a name's own refusals, and those of input 1, where what lies in no rule is told too. A file on a board ends
+/// where its counts say, so that it is never refused by 1 or 4.
+const fn board(name: &'static [u8], first: &'static [u8]) -> [(u8, &'static [u8]); 8] {
+    [
+        (0, name),
+        (1, first),
+        (2, name),
+        (3, name),
+        (4, name),
+        (5, name),
+        (6, name),
+        (7, name),
+    ]
+}
+
 /// Outcomes that must occur at least so often.
-const LEAST: [(&str, &str, u64); 184] = [
+const LEAST: [(&str, &str, u64); 213] = [
     ("classes", "counts", 1000),
     ("strong", "weak", 100),
     ("strong", "strong, marks closed", 1000),
@@ -276,6 +310,35 @@ const LEAST: [(&str, &str, u64); 184] = [
     ("automaton_rule", "marks exchanged, and found", 500),
     ("automaton_rule", "elements exchanged, and found", 1000),
     ("automaton_rule", "the same from another numbering", 1000),
+    ("board_enter", "done", 1000),
+    ("board_enter", "a name taken", 100),
+    ("board_enter", "a name above 7", 100),
+    ("board_enter", "the entering file refused", 100),
+    ("board_enter", "refused before the entering file", 100),
+    ("board_leave", "done", 200),
+    ("board_leave", "a name free", 100),
+    ("board_leave", "a name above 7", 100),
+    ("board_leave", "refused for the one that leaves", 50),
+    ("board_event", "done", 1000),
+    ("board_event", "foreign to several rules", 100),
+    ("board_mark", "done", 500),
+    ("board", "lowest 0", 500),
+    ("board", "lowest 1", 200),
+    ("board", "lowest 2", 200),
+    ("board", "lowest 3", 100),
+    ("board", "lowest 4", 500),
+    ("board", "worked out anew: 0", 500),
+    ("board", "worked out anew: 1", 200),
+    ("board", "worked out anew: 2", 200),
+    ("board", "worked out anew: 3", 100),
+    ("board", "worked out anew: 4", 500),
+    ("board", "all names present", 200),
+    ("board", "a byte behind a file changed", 500),
+    ("board", "a byte of nobody's changed", 500),
+    ("board", "a byte of a file spoilt", 100),
+    ("board", "a refusal at its name", 1000),
+    ("board", "made up, done", 500),
+    ("board", "made up, refused", 500),
 ];
 
 /// What occurred too seldom, or though it cannot.
@@ -288,8 +351,8 @@ pub fn faults(tally: &Tally) -> Vec<String> {
         }
     }
     for (call, inputs) in REFUSALS {
-        for input in 1..=2 {
-            for number in 1..=20 {
+        for input in 0..=7 {
+            for number in 1..=22 {
                 let here = |(i, numbers): &(u8, &[u8])| *i == input && numbers.contains(&number);
                 let applies = inputs.iter().any(here);
                 let occurred = tally.get(call, &refusal(number, input)) > 0;

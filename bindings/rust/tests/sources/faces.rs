@@ -29,19 +29,75 @@ fn names(source: &str, name: &str) -> bool {
 #[test]
 fn programs_name_only_the_public_library() {
     let repository = Repository::here();
-    let allowed = ["rules", "example_text"];
+    // The board is a product above the library, and has a program of its own.
+    let allowed = |program: &str, name: &str| match name {
+        "rules" | "example_text" => true,
+        "board" => program.starts_with("run_boards/"),
+        _ => false,
+    };
     let mut programs = 0;
     for (program, text) in repository.ending(PROGRAM) {
         programs += 1;
         assert!(names(text, "rules"), "{program} does not use the library");
         for name in crates(&repository) {
             assert!(
-                allowed.contains(&name) || !names(text, name),
+                allowed(program, name) || !names(text, name),
                 "{program} names {name}"
             );
         }
     }
     assert!(programs >= 9, "only {programs} programs were found");
+}
+
+/// The crates of the board that have code, each with what its code may name.
+const BOARD: [(&str, &[&str]); 2] = [
+    ("board_pass", &["rules", "board_promises"]),
+    ("board", &["rules", "board_promises", "board_pass"]),
+];
+
+/// The crates that their proofs may rest on, themselves aside: what the library and the board promise, and the definitions that they promise
+/// by; and for the calls of the board its pass.
+const PROMISED: [&str; 7] = [
+    "answer",
+    "finite",
+    "theory",
+    "formats",
+    "promises",
+    "board_promises",
+    "board_pass",
+];
+
+#[test]
+fn the_board_sees_only_the_promises_of_the_library() {
+    let repository = Repository::here();
+    for (own, allowed) in BOARD {
+        let text = repository
+            .text(&format!("{own}{LIBRARY}"))
+            .expect("the code of the board");
+        assert!(names(text, "rules"), "{own} does not use the library");
+        for name in crates(&repository) {
+            assert!(
+                allowed.contains(&name) || !names(text, name),
+                "{own} names {name}"
+            );
+        }
+        let mut uses = 0;
+        let files = repository.ending(".antt");
+        for (path, text) in files.filter(|(path, _)| path.starts_with(&format!("{own}/"))) {
+            for line in text.lines() {
+                let Some(rest) = line.strip_prefix("use Rattle·") else {
+                    continue;
+                };
+                let home = rest.split(['.', '·']).next().unwrap_or("");
+                uses += 1;
+                assert!(
+                    home == own || PROMISED.contains(&home),
+                    "{path} rests on {home}"
+                );
+            }
+        }
+        assert!(uses >= 30, "only {uses} uses were found in {own}");
+    }
 }
 
 #[test]

@@ -7,9 +7,29 @@ use super::walk::{Sources, Walk};
 /// The crates in whose `specs/` a definition may stand that a public promise rests on.
 const FLOORS: [&str; 6] = ["theory", "buchi", "formats", "promises", "finite", "answer"];
 
-/// The two more for the calls for C and Rust, whose promises say how an answer is packed.
-const FLOORS_OF_EXPORTS: [&str; 8] = [
-    "theory", "buchi", "formats", "promises", "finite", "answer", "packing", "exports",
+/// The one more for the board, which stands above the library with promises of its own.
+const FLOORS_OF_BOARD: [&str; 7] = [
+    "theory",
+    "buchi",
+    "formats",
+    "promises",
+    "finite",
+    "answer",
+    "board_promises",
+];
+
+/// The four more for the calls for C and Rust, whose promises say how an answer is packed, and how a board stands in bytes.
+const FLOORS_OF_EXPORTS: [&str; 10] = [
+    "theory",
+    "buchi",
+    "formats",
+    "promises",
+    "finite",
+    "answer",
+    "board_promises",
+    "board_state",
+    "packing",
+    "exports",
 ];
 
 /// As many definitions and types were followed when this was written. Raise it as promises grow: fewer would mean that the walk has a gap.
@@ -19,12 +39,13 @@ const FOLLOWED: usize = 310;
 fn promises_rest_on_their_floors() {
     let sources = Sources::of(&Repository::here());
     let calls = Walk::over(&sources, &FLOORS).follow_face();
+    let board = Walk::over(&sources, &FLOORS_OF_BOARD).follow_crate("board");
     let exports = Walk::over(&sources, &FLOORS_OF_EXPORTS).follow_crate("exports");
-    let faults: Vec<&str> = calls
-        .faults
-        .union(&exports.faults)
-        .map(String::as_str)
+    let faults: std::collections::BTreeSet<&String> = [&calls, &board, &exports]
+        .into_iter()
+        .flat_map(|walk| &walk.faults)
         .collect();
+    let faults: Vec<&str> = faults.into_iter().map(String::as_str).collect();
     assert!(
         faults.is_empty(),
         "{} faults:\n{}",

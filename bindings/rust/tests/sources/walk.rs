@@ -9,8 +9,8 @@ use super::reading::names::{Names, Used};
 use super::reading::repository::Repository;
 use super::reading::words::{part_written, parts};
 
-/// The crates that may declare the types of answers.
-const HOMES_OF_TYPES: [&str; 2] = ["promises", "answer"];
+/// The crates that may declare the types of answers: those of promises, the board's among them, which stand above the library.
+const HOMES_OF_TYPES: [&str; 3] = ["promises", "answer", "board_promises"];
 
 /// Libraries of the toolchain: a name of theirs is followed no further.
 const TOOLCHAIN: [&str; 7] = [

@@ -7,15 +7,15 @@ use duknavet::{Monitor, RuleMonitor, NONE};
 use std::io::{BufRead, BufReader, Write};
 use std::process::{Child, ChildStdin, ChildStdout, Stdio};
 
-/// A tool that follows, with a line to it and a line from it.
-struct Line {
+/// A tool that answers line by line, with a line to it and a line from it.
+pub struct Line {
     child: Child,
     to: ChildStdin,
     from: BufReader<ChildStdout>,
 }
 
 impl Line {
-    fn open(words: &[&str]) -> Line {
+    pub fn open(words: &[&str]) -> Line {
         let mut child = tool()
             .args(words)
             .stdin(Stdio::piped())
@@ -31,14 +31,14 @@ impl Line {
     }
 
     /// Sends a line, and waits for its answer before anything else is sent.
-    fn ask(&mut self, line: &str) -> String {
+    pub fn ask(&mut self, line: &str) -> String {
         writeln!(self.to, "{line}").expect("the tool reads");
         let mut answer = String::new();
         self.from.read_line(&mut answer).expect("the tool answers");
         answer.trim_end().to_string()
     }
 
-    fn close(self) -> i32 {
+    pub fn close(self) -> i32 {
         let Line {
             mut child,
             to,
@@ -245,7 +245,7 @@ fn lines_of_any_kind() {
 }
 
 /// The memory that a tool has in use, in kilobytes, where the system tells it.
-fn memory(line: &Line) -> Option<usize> {
+pub fn memory(line: &Line) -> Option<usize> {
     let status = std::fs::read_to_string(format!("/proc/{}/status", line.child.id())).ok()?;
     let resident = status.lines().find(|own| own.starts_with("VmRSS:"))?;
     resident.split_whitespace().nth(1)?.parse().ok()

@@ -10,6 +10,7 @@ mod inputs;
 #[path = "../comparison/random.rs"]
 mod random;
 
+mod boards;
 mod calls;
 mod claims;
 mod combinations;

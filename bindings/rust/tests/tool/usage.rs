@@ -3,7 +3,7 @@
 use crate::program::{run, tool, Scrap};
 use crate::samples::{AUTOMATON, W};
 
-const COMMANDS: [&str; 20] = [
+const COMMANDS: [&str; 21] = [
     "check",
     "summary",
     "strong",
@@ -18,6 +18,7 @@ const COMMANDS: [&str; 20] = [
     "automaton",
     "states",
     "follow",
+    "board",
     "stretch",
     "convert",
     "show",
@@ -55,7 +56,11 @@ fn wrong_use() {
     run(&["frobnicate"]).said(3, "there is no subcommand `frobnicate`");
     run(&["help", "frobnicate"]).said(3, "there is no subcommand `frobnicate`");
     for name in COMMANDS {
-        run(&[name]).said(3, "but was given 0");
+        // A board takes nothing, so that it is refused what the others need.
+        match name {
+            "board" => run(&[name, "-"]).said(3, "but was given 1"),
+            _ => run(&[name]).said(3, "but was given 0"),
+        }
         run(&[name, "--frobnicate", "-"]).said(3, "there is no option `--frobnicate`");
     }
     run(&["reduce", "-", "--to"]).said(3, "`--to` needs FORM");
@@ -79,7 +84,7 @@ fn full_disk() {
         let words = match name {
             "member" => vec![name, rule.name(), "v: 0"],
             "combine" => vec![name, "both", rule.name(), rule.name()],
-            "included" | "follow" => continue,
+            "included" | "follow" | "board" => continue,
             "automaton" => vec![name, automaton.name()],
             "stretch" => vec![name, "v: 0", "0"],
             "compare" => vec![name, rule.name(), automaton.name()],

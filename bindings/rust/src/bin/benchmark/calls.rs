@@ -3,7 +3,8 @@
 use crate::engine::{automata, confirmations, inclusion, lassos, markings, monitors, reductions};
 use crate::engine::{Refusal, Strategy};
 use duknavet as library;
-use duknavet::{Confirmation, Inclusion, Monitor, Refused, Strength};
+use duknavet::{Board, Confirmation, Inclusion, Monitor, Refused, Strength};
+use duknavet::{BOARD_FILES, BOARD_NAMES};
 use duknavet::{CLASSES_OUT, MAP_OUT, RULE_OUT, SCRATCH, U_OUT, V_OUT};
 
 #[derive(Clone, Copy, Debug, PartialEq, Eq)]
@@ -70,6 +71,8 @@ pub enum Call {
     Member(Vec<u8>, (Vec<u8>, Vec<u8>)),
     Included(Vec<u8>, Vec<u8>),
     AutomatonRule(Vec<u8>),
+    /// An event on a board with the same rule under every name: the board and its files.
+    Board(Board, Vec<u8>),
 }
 
 impl Call {
@@ -94,6 +97,17 @@ impl Call {
         out.truncate(reduced.expect("a strong rule").length);
         map.truncate(rule[0] as usize);
         Call::Confirm(rule, out, map)
+    }
+
+    /// An event on a board where the rule is present under all names, each with the monitor of the other calls.
+    pub fn full_board(rule: Vec<u8>) -> Call {
+        let mut state = Board::empty().state();
+        let mut files = vec![0; BOARD_FILES];
+        for name in 0..BOARD_NAMES {
+            state[3 * name..3 * name + 3].copy_from_slice(&[1, 0, 1]);
+            files[RULE_OUT * name..][..rule.len()].copy_from_slice(&rule);
+        }
+        Call::Board(Board::from_state(state), files)
     }
 
     /// Fails if the engines do not give one answer, list different classes, write different maps, or leave a scratch that is not zeros.
@@ -163,6 +177,13 @@ impl Call {
                 library::automaton_rule(automaton, out, scratch)?.length,
                 out,
             ),
+            Call::Board(board, files) => {
+                let posted = library::board_event(*board, 0, files, scratch);
+                let posted = posted.map_err(|not_posted| not_posted.refused)?;
+                let since = posted.names().filter_map(|name| posted.monitor(name));
+                let grade = posted.lowest().map_or(4, usize::from);
+                [grade, since.map(|monitor| monitor.since).sum(), 0]
+            }
         })
     }
 
@@ -193,6 +214,16 @@ impl Call {
             }
             Call::AutomatonRule(automaton) => {
                 written(automata::automaton_rule(how, automaton, out, scratch)?, out)
+            }
+            Call::Board(board, files) => {
+                let (mut lowest, mut sum) = (4, 0);
+                for name in board.names() {
+                    let file = library::board_file(files, name);
+                    let (values, grade) = monitors::advance(how, file, monitor, 0, scratch)?;
+                    lowest = lowest.min(usize::from(grade));
+                    sum += values.1;
+                }
+                [lowest, sum, 0]
             }
         })
     }

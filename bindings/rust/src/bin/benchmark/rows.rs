@@ -22,7 +22,7 @@ const GRADED_WEAK: Kind = ("weak of three grades", inputs::graded_weak);
 
 /// Each call on the kinds of rules that differ to it: classes and moves of a monitor look at no marks behind the check, and what
 /// asks for a strong rule does on a weak one what `strong` does.
-const ON_RULES: [(&str, OnRule, &[Kind]); 8] = [
+const ON_RULES: [(&str, OnRule, &[Kind]); 9] = [
     ("event", Call::Event, &[CLOSED, UNCLOSED]),
     ("mark", Call::Mark, &[CLOSED]),
     ("verdict", Call::Verdict, &[CLOSED, UNCLOSED]),
@@ -38,6 +38,11 @@ const ON_RULES: [(&str, OnRule, &[Kind]); 8] = [
         "confirm",
         Call::confirm_own,
         &[CLOSED, UNCLOSED, ("smallest", inputs::smallest)],
+    ),
+    (
+        "event on a board of eight",
+        Call::full_board,
+        &[CLOSED, UNCLOSED],
     ),
 ];
 

@@ -3,6 +3,7 @@
 //! It parses, prints and asks; every verdict is a call's. A subcommand is a file of `commands/` and a line of its list.
 
 mod arguments;
+mod board_state;
 mod command;
 mod commands;
 mod form;
@@ -11,6 +12,7 @@ mod input;
 mod kinds;
 mod lines;
 mod output;
+mod requests;
 mod state;
 
 use arguments::Arguments;

@@ -40,12 +40,16 @@ fn text(rule: &[u8], state: &State) -> String {
     text
 }
 
-/// Writes the state beside the file and then puts it in its place, so that the file is never half written.
 pub fn write(file: &Path, rule: &[u8], state: &State) -> Result<(), Failure> {
+    write_text(file, &text(rule, state))
+}
+
+/// Writes a state's lines beside the file and then puts them in its place, so that the file is never half written.
+pub fn write_text(file: &Path, text: &str) -> Result<(), Failure> {
     let mut beside = file.as_os_str().to_owned();
     beside.push(".new");
     let written = File::create(&beside).and_then(|mut new| {
-        new.write_all(text(rule, state).as_bytes())?;
+        new.write_all(text.as_bytes())?;
         new.sync_all()?;
         fs::rename(&beside, file)
     });
@@ -55,15 +59,22 @@ pub fn write(file: &Path, rule: &[u8], state: &State) -> Result<(), Failure> {
     })
 }
 
+/// The lines of a state file, as many bytes of it as are asked for; none where there is no such file.
+pub fn read_text(file: &Path, longest: u64) -> Result<Option<String>, Failure> {
+    let mut text = String::new();
+    let read = File::open(file).and_then(|file| file.take(longest).read_to_string(&mut text));
+    match read {
+        Ok(_) => Ok(Some(text)),
+        Err(error) if error.kind() == ErrorKind::NotFound => Ok(None),
+        Err(error) => Err(Failure::Files(format!("{}: {error}", file.display()))),
+    }
+}
+
 /// The state in a file; none where there is no such file.
 pub fn read(file: &Path, rule: &[u8]) -> Result<Option<State>, Failure> {
-    let mut text = String::new();
-    let read = File::open(file).and_then(|file| file.take(LONGEST).read_to_string(&mut text));
-    match read {
-        Ok(_) => {}
-        Err(error) if error.kind() == ErrorKind::NotFound => return Ok(None),
-        Err(error) => return Err(Failure::Files(format!("{}: {error}", file.display()))),
-    }
+    let Some(text) = read_text(file, LONGEST)? else {
+        return Ok(None);
+    };
     let refused = |message: &str| Failure::Refused(format!("{}: {message}", file.display()));
     let mut lines = text.lines();
     if lines.next() != Some(HEADER) {

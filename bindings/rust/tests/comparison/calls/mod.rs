@@ -1,6 +1,7 @@
 //! Each call made on lent buffers, and held against the definitions: the answer and every byte.
 
 mod automata;
+mod boards;
 mod combinations;
 mod confirmations;
 mod lassos;
@@ -22,6 +23,7 @@ use duknavet::Refused;
 use std::fmt::Debug;
 
 pub use automata::AUTOMATON_SIZES;
+pub use boards::{Deed, Held, Subjects, BOARD_SIZES};
 pub use combinations::COMBINE_SIZES;
 pub use confirmations::CONFIRM_SIZES;
 pub use lassos::MEMBER_SIZES;

@@ -2,6 +2,7 @@
 
 pub mod acceptance;
 pub mod automata;
+pub mod boards;
 pub mod checks;
 pub mod combined;
 pub mod confirmed;

@@ -1,6 +1,7 @@
 //! The inputs that are compared, a part for each kind.
 
 pub mod automata;
+pub mod boards;
 pub mod combinations;
 pub mod confirmations;
 pub mod damage;

@@ -73,9 +73,33 @@ pub fn verdict(
         if !decide(rule, memory) {
             return Err((12, 1, 0));
         }
-        let start = if before == 64 { since } else { before };
-        let (e, turns) = rule.power(since);
-        let closure = &memory[SECOND..WORK];
-        Ok((closure[rule.product(start, e) * 64 + e], turns))
+        Ok(judged(rule, (before, since), memory))
+    })
+}
+
+/// The grade of a strong rule's lassos with two values, from its closure, and the turns of their cycles.
+fn judged(rule: &Rule, (before, since): Values, memory: &[u8]) -> (u8, usize) {
+    let start = if before == 64 { since } else { before };
+    let (e, turns) = rule.power(since);
+    let closure = &memory[SECOND..WORK];
+    (closure[rule.product(start, e) * 64 + e], turns)
+}
+
+/// An event and the grade that a strong rule's monitor then stands for, from one check of its file.
+pub fn advance(
+    strategy: Strategy,
+    bytes: &[u8],
+    values: Values,
+    letter: u8,
+    scratch: &mut [u8],
+) -> Result<(Values, u8), Refusal> {
+    let how = (strategy, Needs::TwoMarkings);
+    with_monitor(how, bytes, values, scratch, |rule, memory| {
+        if !decide(rule, memory) {
+            return Err((12, 1, 0));
+        }
+        let image = *rule.images.get(letter as usize).ok_or((10, 1, 0))? as usize;
+        let moved = (values.0, join(rule, values.1, image));
+        Ok((moved, judged(rule, moved, memory).0))
     })
 }

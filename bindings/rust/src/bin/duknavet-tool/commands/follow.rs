@@ -2,11 +2,10 @@
 
 use crate::arguments::Arguments;
 use crate::command::{Answer, Choice, Command, Failure};
-use crate::lines::{Line, Lines};
+use crate::input;
+use crate::requests::{self, refused};
 use crate::state::{self, State};
-use crate::{input, output};
 use duknavet::text::{read_letter, Names};
-use duknavet::words::Explained;
 use duknavet::{Monitor, RuleMonitor, NONE};
 use std::path::{Path, PathBuf};
 
@@ -49,7 +48,7 @@ fn run(arguments: &Arguments) -> Result<Answer, Failure> {
         rule: rule.bytes,
         file,
     };
-    let followed = following.follow();
+    let followed = requests::answer_lines(|words| following.answer(words));
     // Also where nobody reads the answers any more: what was followed so far is not lost.
     following.save()?;
     followed.map(|()| Answer::Done)
@@ -63,43 +62,18 @@ struct Following {
 }
 
 impl Following {
-    fn follow(&mut self) -> Result<(), Failure> {
-        let mut lines = Lines::of_standard_input();
-        let mut number: u64 = 0;
-        while let Some(line) = lines.next()? {
-            number = number.saturating_add(1);
-            let answer = match line {
-                Line::Words(words) if words.is_empty() => continue,
-                Line::Words(words) => self.answer(&words),
-                Line::TooLong => Err("the line is too long".to_string()),
-            };
-            match answer {
-                Ok(answer) => output::write(answer.as_bytes())?,
-                Err(message) => {
-                    output::complain(&format!("line {number}: {message}"));
-                    output::write(b"not understood\n")?;
-                }
-            }
-        }
-        Ok(())
-    }
-
     /// The answer to a line, or what is wrong with it.
-    fn answer(&mut self, words: &[String]) -> Result<String, String> {
-        let words: Vec<&str> = words.iter().map(String::as_str).collect();
-        let moved = match words.as_slice() {
+    fn answer(&mut self, words: &[&str]) -> Result<String, String> {
+        let moved = match words {
             ["mark"] => self.watched.mark(),
             ["verdict"] => {
                 let verdict = self.watched.verdict();
                 let shown = verdict.map(|own| format!("grade {} turns {}\n", own.grade, own.turns));
                 return Ok(shown.unwrap_or_else(refused));
             }
-            ["save"] if self.file.is_none() => {
-                return Err("there is no --state to save to".to_string())
-            }
-            ["save"] => return Ok(self.saved()),
-            ["keep", name] => self.watched.keep(point(name)?),
-            ["return", name] => self.watched.return_to(point(name)?),
+            ["save"] => return requests::saved(self.file.as_deref(), |_| self.save()),
+            ["keep", name] => self.watched.keep(requests::name(name)?),
+            ["return", name] => self.watched.return_to(requests::name(name)?),
             [letter] => {
                 let letter = read_letter(letter, &self.names).map_err(|error| error.message)?;
                 self.watched.event(letter)
@@ -107,18 +81,6 @@ impl Following {
             _ => return Err("a line has one event or one request".to_string()),
         };
         Ok(moved.map(shown).unwrap_or_else(refused))
-    }
-
-    /// The answer to a save. One that fails is told and is not the end: the next may succeed.
-    fn saved(&self) -> String {
-        match self.save() {
-            Ok(()) => "saved\n".to_string(),
-            Err(Failure::Files(message)) => {
-                output::complain(&message);
-                "not saved\n".to_string()
-            }
-            Err(_) => "not saved\n".to_string(),
-        }
     }
 
     fn save(&self) -> Result<(), Failure> {
@@ -137,12 +99,6 @@ impl Following {
     }
 }
 
-/// The name of a point; whether it is one of 0 to 7 the call says.
-fn point(name: &str) -> Result<usize, String> {
-    let number = name.parse();
-    number.map_err(|_| format!("`{name}` is no name from 0 to 7"))
-}
-
 fn shown(monitor: Monitor) -> String {
     let value = |value: usize| match value {
         NONE => "none".to_string(),
@@ -152,17 +108,5 @@ fn shown(monitor: Monitor) -> String {
         "before {} since {}\n",
         value(monitor.before),
         value(monitor.since)
-    )
-}
-
-/// The numbers of a refusal for the answer; its words go to standard error.
-fn refused(explained: Explained) -> String {
-    output::complain(&explained.to_string());
-    let refused = explained.refused;
-    format!(
-        "refused {} input {} place {}\n",
-        refused.refusal.number(),
-        refused.input,
-        refused.place
     )
 }

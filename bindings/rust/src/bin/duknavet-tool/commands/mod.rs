@@ -1,6 +1,7 @@
 //! The subcommands, in the order of the help.
 
 mod automaton;
+mod board;
 mod check;
 mod classes;
 mod combine;
@@ -38,6 +39,7 @@ pub const ALL: &[&Command] = &[
     &automaton::COMMAND,
     &states::COMMAND,
     &follow::COMMAND,
+    &board::COMMAND,
     &stretch::COMMAND,
     &convert::COMMAND,
     &show::COMMAND,

@@ -1,0 +1,286 @@
+//! Boards: rules that enter and leave, line by line.
+
+use crate::definitions::rule::{Mark, Rule};
+use crate::following::{memory, Line};
+use crate::program::{run, run_with, Scrap};
+use crate::random::Random;
+use crate::samples::{rule, GRADED, NAMED, NOT_ASSOCIATIVE, TWICE, W, Z};
+use duknavet::words::Explained;
+use duknavet::{Board, RuleBoard};
+
+#[test]
+fn answers_come_line_by_line() {
+    let [named, graded, weak, damaged] =
+        [NAMED.as_bytes(), GRADED, Z, NOT_ASSOCIATIVE].map(Scrap::holding);
+    let enter = |name: &str, file: &Scrap| format!("enter {name} {}", file.name());
+    let mut line = Line::open(&["board"]);
+    for (asked, answer) in [
+        ("event 200".to_string(), "lowest none"),
+        (enter("3", &named), "lowest none"),
+        ("event shut".to_string(), "lowest 0"),
+        (enter("7", &graded), "lowest 0"),
+        ("event open # again".to_string(), "lowest 3"),
+        ("mark".to_string(), "lowest none"),
+        ("# a comment\n\nevent 1".to_string(), "lowest 0"),
+        ("leave 3".to_string(), "lowest 2"),
+        ("event open".to_string(), "not understood"),
+        ("event 2".to_string(), "refused 10 input 7 place 0"),
+        (enter("7", &named), "refused 21 input 1 place 0"),
+        (enter("8", &named), "refused 21 input 1 place 0"),
+        (enter("x", &named), "not understood"),
+        (enter("0", &weak), "refused 12 input 0 place 0"),
+        (enter("5", &damaged), "refused 5 input 5 place 1"),
+        (
+            "enter 5 /there/is/no/such/file".to_string(),
+            "not understood",
+        ),
+        ("enter 5 -".to_string(), "not understood"),
+        ("leave 3".to_string(), "refused 22 input 1 place 0"),
+        ("leave 8".to_string(), "refused 22 input 1 place 0"),
+        ("leave".to_string(), "not understood"),
+        ("verdict".to_string(), "not understood"),
+        ("save".to_string(), "not understood"),
+        (enter("3", &named), "lowest 2"),
+        ("event 0".to_string(), "lowest 3"),
+        ("leave 7".to_string(), "lowest 3"),
+        ("leave 3".to_string(), "lowest none"),
+    ] {
+        assert_eq!(line.ask(&asked), answer, "{asked}");
+    }
+    assert_eq!(line.close(), 0);
+}
+
+/// The words that go with each refusal.
+#[test]
+fn refusals_in_words() {
+    let said = |refused: Result<Board, Explained>| refused.expect_err("refused").to_string();
+    let mut board = RuleBoard::new();
+    board.enter(2, W).expect("a strong rule");
+    board.enter(6, W).expect("a strong rule");
+    let before = (board.board(), board.files().to_vec());
+    let weak = "is weak: u: 0  v: 0 0 has grade 3, but u: 0  v: 1 has grade 0, both with the values 1 and 0";
+    for (refused, words) in [
+        (board.enter(2, W), "the name 2 is taken (refusal 21, input 1, place 0)"),
+        (board.enter(9, W), "the name 9 is above 7 (refusal 21, input 1, place 0)"),
+        (
+            board.leave(4),
+            "the name 4 is that of no rule on the board (refusal 22, input 1, place 0)",
+        ),
+        (board.leave(8), "the name 8 is above 7 (refusal 22, input 1, place 0)"),
+        (board.event(7), "letter 7: rule 2 has 2 letters (refusal 10, input 2, place 0)"),
+        (
+            board.enter(0, Z),
+            &format!("entering as rule 0: the rule {weak} (refusal 12, input 0, place 0)"),
+        ),
+        (
+            board.enter(0, &W[..12]),
+            "entering as rule 0: the file ends at byte 12, within the marks: 2 of 3 bytes are there (refusal 1, input 0, place 12)",
+        ),
+        (
+            board.enter(7, NOT_ASSOCIATIVE),
+            "entering as rule 7: (0·0)·1 = 0 but 0·(0·1) = 1 (refusal 5, input 7, place 1)",
+        ),
+    ] {
+        assert_eq!(said(refused), words);
+    }
+    assert_eq!((board.board(), board.files().to_vec()), before);
+    let spoilt = |at: usize, byte: u8, file: &[u8]| {
+        let (mut state, mut files) = (before.0.state(), before.1.clone());
+        files[6 * duknavet::RULE_OUT..][..file.len()].copy_from_slice(file);
+        state[at] = byte;
+        let mut board = RuleBoard::resumed(Board::from_state(state), files);
+        said(board.mark())
+    };
+    let value =
+        "rule 6: a value of the monitor is neither an element nor 64 (refusal 3, input 6, place 0)";
+    assert_eq!(spoilt(19, 2, W), value);
+    assert_eq!(
+        spoilt(18, 9, Z),
+        format!("rule 6 {weak} (refusal 12, input 6, place 0)")
+    );
+    let not_associative = "rule 6: (0·0)·1 = 0 but 0·(0·1) = 1 (refusal 5, input 6, place 1)";
+    assert_eq!(spoilt(18, 9, NOT_ASSOCIATIVE), not_associative);
+    let mut short = RuleBoard::resumed(before.0, before.1[..131_231].to_vec());
+    let words = "a lent buffer is too short (refusal 13, input 1, place 0)";
+    assert_eq!(said(short.mark()), words);
+    assert_eq!(board.file(2), Some(W));
+    assert_eq!((board.file(3), board.file(8)), (None, None));
+    assert_eq!(board.board().names().collect::<Vec<usize>>(), [2, 6]);
+}
+
+/// A marked pair for each grade, so that the rule is strong.
+fn closed(rule: &Rule, grade: u8) -> Rule {
+    let pairs = rule.morphism.linked_pairs().into_iter();
+    let marks = pairs.map(|pair| Mark { pair, grade }).collect();
+    rule.morphism.with(marks)
+}
+
+/// Long random requests, against the calls themselves.
+#[test]
+fn histories() {
+    let mut random = Random::new(1414);
+    for _ in 0..4 {
+        let mut rules = vec![W.to_vec(), GRADED.to_vec(), TWICE.to_vec(), Z.to_vec()];
+        for grade in 1..=3 {
+            let drawn = rule(&mut random, 8);
+            rules.push(closed(&drawn, grade).bytes());
+            rules.push(drawn.bytes());
+        }
+        let files: Vec<Scrap> = rules.iter().map(|bytes| Scrap::holding(bytes)).collect();
+        let mut board = RuleBoard::new();
+        let (mut input, mut expected) = (String::new(), String::new());
+        for _ in 0..200 {
+            let name = random.below(10);
+            let (line, posted) = match random.below(10) {
+                0..=2 => {
+                    let at = random.below(rules.len());
+                    let line = format!("enter {name} {}", files[at].name());
+                    (line, board.enter(name, &rules[at]))
+                }
+                3 => (format!("leave {name}"), board.leave(name)),
+                4 => ("mark".to_string(), board.mark()),
+                _ => {
+                    let letter = random.below(3) as u8;
+                    (format!("event {letter}"), board.event(letter))
+                }
+            };
+            input += &(line + "\n");
+            expected += &match posted.map(|board| board.lowest()) {
+                Ok(None) => "lowest none\n".to_string(),
+                Ok(Some(grade)) => format!("lowest {grade}\n"),
+                Err(Explained { refused, .. }) => format!(
+                    "refused {} input {} place {}\n",
+                    refused.refusal.number(),
+                    refused.input,
+                    refused.place
+                ),
+            };
+        }
+        let ran = run_with(&["board"], input.as_bytes());
+        assert_eq!((ran.status, ran.text()), (0, expected.as_str()));
+    }
+}
+
+#[test]
+fn states_are_taken_up_again() {
+    let (named, graded, state) = (
+        Scrap::holding(NAMED.as_bytes()),
+        Scrap::holding(GRADED),
+        Scrap::free(),
+    );
+    let words = ["board", "--state", state.name()];
+    let mut line = Line::open(&words);
+    for (name, file) in [(1, &named), (6, &graded)] {
+        line.ask(&format!("enter {name} {}", file.name()));
+        line.ask("event 1");
+    }
+    assert_eq!(line.ask("save"), "saved");
+    let saved = std::fs::read_to_string(state.name()).expect("the state was written");
+    let begins = "duknavet board 1\nlowest 0\nrule 1 64 1\n  duknavet rule 1\n  elements 2\n";
+    assert!(saved.starts_with(begins), "{saved}");
+    assert!(saved.contains("\nrule 6 64 1\n"), "{saved}");
+    assert_eq!(line.ask("mark"), "lowest none");
+    // The end of the input writes it too.
+    assert_eq!(line.close(), 0);
+    let mut again = Line::open(&words);
+    assert_eq!(again.ask("event shut"), "lowest 0");
+    assert_eq!(again.ask("leave 1"), "lowest 1");
+    assert_eq!(
+        again.ask(&format!("enter 6 {}", named.name())),
+        "refused 21 input 1 place 0"
+    );
+    assert_eq!(again.close(), 0);
+    for damage in [
+        "",
+        "duknavet board 1",
+        "duknavet board 1\n",
+        "duknavet state 1\nlowest 4\n",
+        &saved.replace("lowest 0", "lowest x"),
+        &saved.replace("rule 6 64", "rule 8 64"),
+        &saved.replace("rule 6 64", "rule 1 64"),
+        &saved.replace("rule 6 64 1", "rule 6 64"),
+        &saved.replace("rule 6 64 1", "rule 6 256 1"),
+        &saved.replace("  elements 2", "  elements"),
+        &saved.replace("  duknavet rule 1", "  duknavet marks 1"),
+    ] {
+        std::fs::write(state.name(), damage).expect("a file of the test is written");
+        let ran = run_with(&words, b"mark\n");
+        assert_eq!((ran.status, ran.text()), (2, ""), "{damage}");
+        let left = std::fs::read_to_string(state.name()).expect("the file");
+        assert_eq!(left, damage);
+    }
+    // What a state says of the rules is held by the call, not by the reader.
+    for (damage, answer) in [
+        (
+            saved.replace("rule 6 64 1", "rule 6 9 1"),
+            "refused 3 input 6 place 0\n",
+        ),
+        (
+            saved.replace("  elements 2\n    0 0\n", "  elements 2\n    1 1\n"),
+            "refused 5 input 1 place 0\n",
+        ),
+        (saved.replace("lowest 0", "lowest 3"), "lowest none\n"),
+    ] {
+        std::fs::write(state.name(), damage).expect("a file of the test is written");
+        let ran = run_with(&words, b"mark\n");
+        assert_eq!((ran.status, ran.text()), (0, answer));
+    }
+}
+
+#[test]
+fn states_that_cannot_be_written() {
+    let nowhere = "/there/is/no/such/place/state";
+    let ran = run_with(&["board", "--state", nowhere], b"mark\nsave\nmark\n");
+    let answers = "lowest none\nnot saved\nlowest none\n";
+    assert_eq!((ran.status, ran.text()), (3, answers));
+    assert!(ran.err.contains(nowhere), "{ran:?}");
+}
+
+/// Rules that give one name to two letters.
+#[test]
+fn names_that_differ() {
+    let files = [
+        NAMED.to_string(),
+        NAMED.replace("open 0\n  shut", "shut 0\n  open"),
+    ];
+    let [one, two] = files.map(|text| Scrap::holding(text.as_bytes()));
+    let input = format!(
+        "enter 0 {}\nenter 1 {}\nevent open\nevent 0\nleave 0\nevent shut\n",
+        one.name(),
+        two.name()
+    );
+    let ran = run_with(&["board"], input.as_bytes());
+    let answers = "lowest none\nlowest none\nnot understood\nlowest 3\nlowest 3\nlowest 3\n";
+    assert_eq!((ran.status, ran.text()), (0, answers));
+    let words = "line 3: `open` is letter 0 of rule 0, but letter 1 of rule 1";
+    assert!(ran.err.contains(words), "{ran:?}");
+}
+
+#[test]
+fn wrong_use() {
+    run(&["board", "x"]).said(3, "it takes nothing, but was given 1");
+}
+
+#[test]
+fn memory_stays() {
+    let rule = Scrap::holding(W);
+    let mut line = Line::open(&["board"]);
+    let requests = |line: &mut Line, count: usize| {
+        for number in 0..count {
+            match number % 8 {
+                0 => line.ask(&format!("enter 4 {}", rule.name())),
+                7 => line.ask("leave 4"),
+                other => line.ask(["event 0", "event 1", "mark"][other % 3]),
+            };
+        }
+    };
+    requests(&mut line, 800);
+    let Some(before) = memory(&line) else {
+        println!("the system does not tell how much memory a program has");
+        return;
+    };
+    requests(&mut line, 8_000);
+    let after = memory(&line).expect("it told before");
+    assert!(after <= before + 200, "{before} kB, then {after} kB");
+    assert_eq!(line.close(), 0);
+}
