@@ -7,10 +7,10 @@ use Rattle.run_boards.proofs.run_all.Statement.{statement}
 use Rattle.run_boards.proofs.run_all.Tie as tie
 
 abbrev Inv-loop : tie.InvT-loop
-Inv-loop text files₀ scratch₀ board₀ i₀ i-end files scratch board i = (i ≤ i-end) × ((length files ≡ length files₀) × (length scratch ≡ length scratch₀))
+Inv-loop text first files₀ scratch₀ board₀ i₀ i-end files scratch board i = (i ≤ i-end) × ((length files ≡ length files₀) × (length scratch ≡ length scratch₀))
 
 abbrev μ-loop : tie.MeasureT-loop
-μ-loop text files₀ scratch₀ board₀ i₀ i-end files scratch board i = i-end - i
+μ-loop text first files₀ scratch₀ board₀ i₀ i-end files scratch board i = i-end - i
 
 empty-requires : tie.Need-empty-requires Inv-loop μ-loop
 empty-requires c κs = search needs
