@@ -18,7 +18,7 @@ use Rattle.board_promises.specs.declared.Posted.{Posted}
 use Rattle.board_promises.specs.Boards.{namesCount, presentAt, withMonitor, withPresent, withLowest, withEntered, withLeft, movedBelow}
 use Rattle.board_promises.specs.Followers.{movedAt}
 use Rattle.board_promises.specs.Checks.{allChecks, eventChecks, markChecks}
-use Rattle.board_promises.specs.Promises.{noticeVerdict, HandsBack, EnterPromise, LeavePromise, EventPromise, MarkPromise}
+use Rattle.board_promises.specs.Promises.{HandsBack, EnterPromise, LeavePromise, EventPromise, MarkPromise}
 use Rattle.board_promises.proofs.Moved.{moved-none, moved-by}
 use Rattle.board_histories.proofs.Passed.{done-passed, event-letter}
 use Rattle.board_state.specs.State.{stateSize, boardOf, stateAfter, ByteBoard}

@@ -1,31 +1,28 @@
 -- The lowest grade that a call of the harbour board hands back is at most 4: each that counts is of a file whose checks passed. Assumes nothing.
 use Prim.Native.Nat.{ℕ, zero, suc, _+_, _*_, _≤_, _<_}
 use mathlib.Core.Path.{_≡_, refl, sym, ap, _∙_, subst}
-use mathlib.Core.Bool.{Bool, true, false, cond}
+use mathlib.Core.Bool.{Bool, true, false}
 use mathlib.Core.Logic.{by-cases, ⊎-elim}
-use mathlib.Core.List.{List, [], _∷_, _++_}
+use mathlib.Core.List.{List, [], _∷_}
 use native.Mathlib.Omega.{arith}
-use native.Mathlib.Nat.{eq-or-lt-of-le}
 use native.Mathlib.Decide.{ℕ-discrete}
 use lib.ListN.{length, getD, set}
 use lib.Seq.{paste, getD-set-other}
 use Rattle.answer.specs.Checks.{Check, passed, FirstFailure}
-use Rattle.answer.proofs.Order.{passed-first, passed-last, passes-head, passes-tail}
+use Rattle.answer.proofs.Order.{passed-first, passes-tail}
 use Rattle.answer.proofs.Limits.{Limited}
-use Rattle.finite.proofs.Numbers.{le-or-lt}
 use Rattle.theory.specs.Rules.{Value}
 use Rattle.theory.specs.Grades.{LassosGraded}
 use Rattle.formats.specs.RuleFile.{morphismOf, markingOf}
 use Rattle.formats.specs.RuleChecks.{ruleSize, ruleChecks}
 use Rattle.promises.specs.declared.Step.{Step}
 use Rattle.promises.specs.declared.Step.the-variants.{Event, Mark}
-use Rattle.promises.specs.Advance.{standingChecks}
 use Rattle.board_promises.specs.declared.Board.{Board}
 use Rattle.board_promises.specs.declared.Notice.{Notice}
 use Rattle.board_promises.specs.declared.Notice.the-variants.{Done, Refused}
 use Rattle.board_promises.specs.declared.Posted.{Posted}
-use Rattle.board_promises.specs.Boards.{namesCount, filesSize, fileAt, presentAt, monitorAt, withLeft, withEntered, movedBelow, Counting, LowestGrade}
-use Rattle.board_promises.specs.Checks.{nameChecks, namesChecks, allChecks, enterChecks}
+use Rattle.board_promises.specs.Boards.{namesCount, filesSize, fileAt, presentAt, withLeft, withEntered, movedBelow, Counting, LowestGrade}
+use Rattle.board_promises.specs.Checks.{allChecks, enterChecks}
 use Rattle.board_promises.specs.Promises.{noticeVerdict, HandsBack, filesAfterEnter, EnterPromise, LeavePromise, EventPromise, MarkPromise}
 use Rattle.board_promises.proofs.SmallFiles.{short-file, grade-small}
 use Rattle.board_promises.proofs.Moved.{moved-flags}
