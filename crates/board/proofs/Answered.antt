@@ -32,11 +32,13 @@ use Rattle.board_promises.specs.Followers.{Whole}
 use Rattle.board_promises.proofs.SmallFiles.{short-file}
 use Rattle.board_promises.proofs.Letters.{letters-pass, letters-refuse}
 use Rattle.board_promises.proofs.Places.{pasted-file, others-kept}
-use Rattle.board_pass.specs.declared.Pass.{Pass}
-use Rattle.board_pass.specs.Passes.{Cleared, LowestBelow, PresentAnswer, FirstForeign, AllKnown, PassAt}
-use Rattle.board_pass.proofs.Flags.{not-done}
+use Rattle.board_values.specs.Presence.{PresentAnswer, FreeAnswer}
+use Rattle.board_answers.specs.declared.Pass.{Pass}
+use Rattle.board_answers.specs.Answers.{PassAnswer, pass-refuses, pass-done, StepAnswer, step-refuses, step-foreign, step-done, EntryTold}
+use Rattle.board_answers.proofs.Notices.{not-done}
+use Rattle.board_pass.specs.Passes.{Cleared, LowestBelow, FirstForeign, AllKnown, PassAt}
 use Rattle.board_pass.proofs.ClearedScratch.{after-long, call-leaves}
-use Rattle.board.specs.Answers.{FreeAnswer, PassAnswer, pass-refuses, pass-done, StepAnswer, step-refuses, step-foreign, step-done, stepChecks, CallPromise, EntryTold, Admitted}
+use Rattle.board.specs.Calls.{stepChecks, CallPromise, Admitted}
 use Rattle.board.proofs.Rooms.{rooms-short, left-short, rooms-long, left-long}
 use Rattle.board.proofs.Graded.{lowest-moved, lowest-left, lowest-entered}
 

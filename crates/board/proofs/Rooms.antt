@@ -1,15 +1,13 @@
 -- The lent buffers: their two checks, and the scratch that the calls leave. Assumes nothing.
-use Prim.Native.Nat.{ℕ, _+_, _≤_, _<_}
+use Prim.Native.Nat.{ℕ, _≤_, _<_}
 use mathlib.Core.Path.{_≡_, sym, ap, _∙_, subst}
 use mathlib.Core.Bool.{Bool, true, false}
 use mathlib.Core.Logic.{_⊎_, ⊎-elim, by-cases}
-use mathlib.Core.List.{List, _∷_, _++_, append-nil}
+use mathlib.Core.List.{List, _∷_}
 use native.Mathlib.Omega.{arith}
 use native.Mathlib.Decide.{decLt}
 use borrow.Author.Tests.{lt-ltb, le-ltb}
-use borrow.Author.Fill.{fill-more}
-use lib.ListN.{length, drop, set, replicate, length-append, length-drop, length-replicate}
-use lib.Seq.{drop-length}
+use lib.ListN.{length, replicate, length-replicate}
 use Rattle.answer.specs.declared.Refusal.the-variants.{BufferTooShort}
 use Rattle.answer.specs.Checks.{Check, Verdict, refused, FirstFailure}
 use Rattle.formats.specs.RuleChecks.{bufferCheck, scratchSize}
@@ -17,22 +15,9 @@ use Rattle.formats.specs.Calls.{afterCall, scratchLeft}
 use Rattle.formats.proofs.Buffers.{buffer-short, buffer-long}
 use Rattle.board_promises.specs.Boards.{filesSize}
 use Rattle.board_pass.specs.Passes.{Cleared}
-use Rattle.board.specs.Answers.{ShortAnswer}
+use Rattle.board_buffers.specs.Lengths.{ShortAnswer}
 
--- a list that is filled with zeros from the front, one more, and whole
-module _ (d s : List ℕ) where
-  pub filled-length : {i : ℕ} → s ≡ replicate i 0 ++ drop i d → i ≤ length d → length s ≡ length d
-  filled-length e h = ap length e ∙ simp (length-append, length-replicate, length-drop) (omega arith)
-
-  pub filled-more : {i : ℕ} → s ≡ replicate i 0 ++ drop i d → i < length d → set s i 0 ≡ replicate (i + 1) 0 ++ drop (i + 1) d
-  filled-more {i} e h = ap (λ (l : List ℕ). set l i 0) e ∙ fill-more i 0 d h
-
-  pub filled-all : {i end : ℕ} → s ≡ replicate i 0 ++ drop i d → end ≡ length d → end ≤ i → i ≤ length d → s ≡ replicate (length d) 0
-  filled-all {i} e last past within =
-      e ∙ ap (λ (n : ℕ). replicate n 0 ++ drop n d) (let z : i ≡ length d = omega arith in z)
-      ∙ ap (λ (l : List ℕ). replicate (length d) 0 ++ l) (drop-length d) ∙ append-nil (replicate (length d) 0)
-
--- what filling it leaves
+-- what filling it with zeros leaves
 pub filled-cleared : (scratch filled : List ℕ) → scratchSize ≤ length scratch → filled ≡ replicate (length scratch) 0 → Cleared filled
 filled-cleared scratch filled h e =
     let l : length filled ≡ length scratch = ap length e ∙ length-replicate (length scratch) 0 in

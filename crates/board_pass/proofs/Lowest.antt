@@ -15,7 +15,8 @@ use Rattle.promises.specs.Advance.{noGrade, MonitorGrade}
 use Rattle.board_promises.specs.declared.Board.{Board}
 use Rattle.board_promises.specs.Boards.{fileAt, presentAt}
 use Rattle.board_promises.specs.Followers.{movedAt}
-use Rattle.board_pass.specs.Passes.{Lesser, LowestWith, Counts, SomeCounts, LowestBelow}
+use Rattle.board_answers.specs.Answers.{Lesser, LowestWith}
+use Rattle.board_pass.specs.Passes.{Counts, SomeCounts, LowestBelow}
 
 -- what is said of each of the first names and of the next is said of one more
 each-of-more : (count : ℕ) (P : ℕ → Type 0) → P count → ((i : ℕ) → i < count → P i) → (i : ℕ) → i < count + 1 → P i

@@ -26,9 +26,10 @@ use Rattle.board_promises.specs.Followers.{movedAt}
 use Rattle.board_promises.proofs.NameRows.{one-more, present-decides, absent-checks}
 use Rattle.board_promises.proofs.SmallFiles.{grade-small}
 use Rattle.board_promises.proofs.Moved.{moved-none, moved-absent, moved-present}
-use Rattle.board_pass.specs.declared.Pass.{Pass}
-use Rattle.board_pass.specs.Passes.{Cleared, Counted, FoundForeign, Told, NoneForeign, FirstForeign, AllKnown, PassAt}
-use Rattle.board_pass.proofs.Flags.{not-done}
+use Rattle.board_answers.specs.declared.Pass.{Pass}
+use Rattle.board_answers.specs.Answers.{Counted, FoundForeign, Told}
+use Rattle.board_answers.proofs.Notices.{not-done}
+use Rattle.board_pass.specs.Passes.{Cleared, NoneForeign, FirstForeign, AllKnown, PassAt}
 use Rattle.board_pass.proofs.ClearedScratch.{after-long, call-leaves}
 use Rattle.board_pass.proofs.Lowest.{lowest-of-none, lowest-past, lowest-with}
 

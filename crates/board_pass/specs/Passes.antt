@@ -1,8 +1,7 @@
--- What the steps of a pass over the names answer, and how far it has come: the names before a count, each asked by one library call.
--- Assumes nothing.
+-- How far a pass over the names has come: the names before a count, each asked by one library call. Assumes nothing.
 use Prim.Native.Nat.{ℕ, _≤_, _<_}
 use mathlib.Core.Path.{_≡_}
-use mathlib.Core.Bool.{Bool, true, false}
+use mathlib.Core.Bool.{true}
 use mathlib.Core.Logic.{_⊎_}
 use mathlib.Core.List.{List}
 use lib.ListN.{length, replicate}
@@ -10,62 +9,21 @@ use Rattle.answer.specs.Checks.{FirstFailure}
 use Rattle.theory.specs.Grades.{LassosGraded}
 use Rattle.formats.specs.RuleFile.{lettersOf, morphismOf, markingOf}
 use Rattle.formats.specs.RuleChecks.{scratchSize}
-use Rattle.promises.specs.declared.Monitor.{Monitor}
 use Rattle.promises.specs.declared.Step.{Step}
-use Rattle.promises.specs.declared.Advanced.{Advanced}
-use Rattle.promises.specs.declared.Advanced.the-variants.{To, Foreign, Refused}
 use Rattle.promises.specs.Monitor.{noValue, valueOf}
 use Rattle.promises.specs.Advance.{ForeignStep, noGrade}
 use Rattle.board_promises.specs.declared.Board.{Board}
-use Rattle.board_promises.specs.declared.Notice.{Notice}
-use Rattle.board_promises.specs.declared.Notice.the-variants.{Done, Refused as RefusedNotice}
-use Rattle.board_promises.specs.Boards.{namesCount, fileAt, presentAt, withMonitor, movedBelow}
+use Rattle.board_promises.specs.declared.Notice.the-variants.{Done}
+use Rattle.board_promises.specs.Boards.{namesCount, fileAt, presentAt, movedBelow}
 use Rattle.board_promises.specs.Followers.{movedAt}
 use Rattle.board_promises.specs.Checks.{namesChecks}
 use Rattle.board_promises.specs.Promises.{noticeVerdict}
-use Rattle.board_pass.specs.declared.Pass.{Pass}
+use Rattle.board_answers.specs.declared.Pass.{Pass}
 
 -- a scratch that is long enough, and zeros
 pub record Cleared (scratch : List ℕ) : Type 0 where
   pub room : scratchSize ≤ length scratch
   pub zeros : scratch ≡ replicate (length scratch) 0
-
--- one of the names is present
-abbrev pub PresentAnswer : Board → ℕ → Bool → Type 0
-PresentAnswer b name true = (name < namesCount) × (presentAt b name ≡ true)
-PresentAnswer b name false = (namesCount ≤ name) ⊎ (presentAt b name ≡ false)
-
--- a notice is of a refusal, or not
-abbrev pub RefusesAnswer : Notice → Bool → Type 0
-RefusesAnswer notice true = notice ≡ Done → ⊥
-RefusesAnswer notice false = notice ≡ Done
-
--- the lesser of two numbers
-pub record Lesser (a b r : ℕ) : Type 0 where
-  pub first : r ≤ a
-  pub second : r ≤ b
-  pub either : (r ≡ a) ⊎ (r ≡ b)
-
--- the lowest grade with one more, which does not count if it is the leaver's
-pub record LowestWith (leaver i lowest grade r : ℕ) : Type 0 where
-  pub leaving : i ≡ leaver → r ≡ lowest
-  pub staying : (i ≡ leaver → ⊥) → Lesser lowest grade r
-
--- what a library call's answer for a name makes of a pass
-pub record Counted (leaver i : ℕ) (p : Pass) (g : Monitor) (grade : ℕ) (r : Pass) : Type 0 where
-  pub done : r .notice ≡ Done
-  pub moved : r .next ≡ withMonitor (p .next) i g
-  pub lowest : LowestWith leaver i (p .lowest) grade (r .lowest)
-  pub foreign : r .foreign ≡ p .foreign
-
-pub record FoundForeign (i : ℕ) (p r : Pass) : Type 0 where
-  pub done : r .notice ≡ Done
-  pub foreign : Lesser (p .foreign) i (r .foreign)
-
-abbrev pub Told : ℕ → ℕ → Pass → Advanced → Pass → Type 0
-Told leaver i p (To g grade) r = Counted leaver i p g grade r
-Told leaver i p Foreign r = FoundForeign i p r
-Told leaver i p (Refused refusal input place) r = r .notice ≡ RefusedNotice refusal input place
 
 -- a name counts with a grade once the step is taken and the leaver gone
 pub record Counts (b : Board) (files : List ℕ) (step : Step) (leaver i grade : ℕ) : Type 0 where

@@ -1,9 +1,12 @@
-// A pass of the harbour board over its names: one library call for each that is present, and what comes of the answers. It stands above the
-// library and sees only its public calls and the board's promises.
+// A pass of the harbour board over its names: one library call for each that is present. It stands above the library and sees only its public
+// calls and the board's promises.
+use board_answers::Pass;
+use board_answers::refuses;
+use board_answers::told;
 use board_promises::Board;
 use board_promises::Notice;
-use rules::Advanced;
-use rules::Monitor;
+use board_values::monitor_of;
+use board_values::there;
 use rules::RULE_SIZE;
 use rules::Step;
 use rules::advance;
@@ -11,55 +14,8 @@ use rules::file_part;
 ghost use mathlib.Core.Path.{_≡_};
 ghost use Prim.Native.Nat.{_+_, _≤_, _<_};
 ghost use lib.ListN.{length};
-ghost use Rattle.board_promises.specs.Boards.{namesCount, filesSize, fileAt, monitorAt};
-ghost use Rattle.board_pass.specs.Passes.{Cleared, PresentAnswer, RefusesAnswer, Lesser, LowestWith, Told, PassAt};
-
-// How far a pass over the names has come: the followers moved so far, the lowest grade so far, the lowest name that the step is foreign to, 8
-// where there is none, and the first refusal.
-pub struct Pass {
-    pub next: Board,
-    pub lowest: usize,
-    pub foreign: usize,
-    pub notice: Notice,
-}
-
-// Whether a name is present, and no higher than 7.
-pub fn there(board: Board, name: usize) -> bool
-    ensures { λ r. ⌜ PresentAnswer board name r ⌝ }
-{
-    let present = board.present;
-    if name < 8 {
-        return present[name];
-    }
-    false
-}
-
-// Whether a notice is of a refusal.
-pub fn refuses(notice: Notice) -> bool
-    ensures { λ r. ⌜ RefusesAnswer notice r ⌝ }
-{
-    match notice {
-        Notice::Done => false,
-        Notice::Refused {
-            refusal: _,
-            input: _,
-            place: _,
-        } => true,
-    }
-}
-
-// The follower of a name.
-fn monitor_of(board: Board, i: usize) -> Monitor
-    requires { ⌜ i < namesCount ⌝ }
-    ensures { λ r. ⌜ r ≡ monitorAt board i ⌝ }
-{
-    let before = board.before;
-    let since = board.since;
-    Monitor {
-        before: before[i],
-        since: since[i],
-    }
-}
+ghost use Rattle.board_promises.specs.Boards.{namesCount, filesSize, fileAt};
+ghost use Rattle.board_pass.specs.Passes.{Cleared, PassAt};
 
 // The file of a name.
 fn file_of(files: &[u8], i: usize) -> &[u8]
@@ -70,65 +26,6 @@ fn file_of(files: &[u8], i: usize) -> &[u8]
     let from = RULE_SIZE * i;
     let to = from + RULE_SIZE;
     file_part(&files[from..to])
-}
-
-fn lesser(a: usize, b: usize) -> usize
-    ensures { λ r. ⌜ Lesser a b r ⌝ }
-{
-    if b < a {
-        return b;
-    }
-    a
-}
-
-// The lowest grade with that of one name more; the leaver's is not counted.
-fn lowest_with(leaver: usize, i: usize, lowest: usize, grade: usize) -> usize
-    ensures { λ r. ⌜ LowestWith leaver i lowest grade r ⌝ }
-{
-    if i == leaver {
-        return lowest;
-    }
-    lesser(lowest, grade)
-}
-
-// What the library's answer for a name makes of a pass.
-fn told(leaver: usize, i: usize, pass: Pass, answer: Advanced) -> Pass
-    requires { ⌜ i < namesCount ⌝ }
-    ensures { λ r. ⌜ Told leaver i pass answer r ⌝ }
-{
-    let mut next = pass.next;
-    match answer {
-        Advanced::To { monitor, grade } => {
-            next.before[i] = monitor.before;
-            next.since[i] = monitor.since;
-            Pass {
-                next,
-                lowest: lowest_with(leaver, i, pass.lowest, grade),
-                foreign: pass.foreign,
-                notice: Notice::Done,
-            }
-        }
-        Advanced::Foreign => Pass {
-            next,
-            lowest: pass.lowest,
-            foreign: lesser(pass.foreign, i),
-            notice: Notice::Done,
-        },
-        Advanced::Refused {
-            refusal,
-            input,
-            place,
-        } => Pass {
-            next,
-            lowest: pass.lowest,
-            foreign: pass.foreign,
-            notice: Notice::Refused {
-                refusal,
-                input,
-                place,
-            },
-        },
-    }
 }
 
 // Goes to one name. One that is not present is passed over, and every one after a refusal.

@@ -49,22 +49,31 @@ fn programs_name_only_the_public_library() {
     assert!(programs >= 9, "only {programs} programs were found");
 }
 
-/// The crates of the board that have code, each with what its code may name.
-const BOARD: [(&str, &[&str]); 2] = [
-    ("board_pass", &["rules", "board_promises"]),
-    ("board", &["rules", "board_promises", "board_pass"]),
+/// The crates of the board that have code, each with what its code may name beside the library's face and the board's own types.
+const BOARD: [(&str, &[&str]); 5] = [
+    ("board_values", &[]),
+    ("board_answers", &[]),
+    ("board_buffers", &[]),
+    ("board_pass", &["board_values", "board_answers"]),
+    (
+        "board",
+        &[
+            "board_values",
+            "board_answers",
+            "board_buffers",
+            "board_pass",
+        ],
+    ),
 ];
 
-/// The crates that their proofs may rest on, themselves aside: what the library and the board promise, and the definitions that they promise
-/// by; and for the calls of the board its pass.
-const PROMISED: [&str; 7] = [
+/// The crates that their proofs may rest on beside each other: what the library and the board promise, and the definitions that they promise by.
+const PROMISED: [&str; 6] = [
     "answer",
     "finite",
     "theory",
     "formats",
     "promises",
     "board_promises",
-    "board_pass",
 ];
 
 #[test]
@@ -76,10 +85,8 @@ fn the_board_sees_only_the_promises_of_the_library() {
             .expect("the code of the board");
         assert!(names(text, "rules"), "{own} does not use the library");
         for name in crates(&repository) {
-            assert!(
-                allowed.contains(&name) || !names(text, name),
-                "{own} names {name}"
-            );
+            let allowed = ["rules", "board_promises"].contains(&name) || allowed.contains(&name);
+            assert!(allowed || !names(text, name), "{own} names {name}");
         }
         let mut uses = 0;
         let files = repository.ending(".antt");
@@ -91,12 +98,12 @@ fn the_board_sees_only_the_promises_of_the_library() {
                 let home = rest.split(['.', '·']).next().unwrap_or("");
                 uses += 1;
                 assert!(
-                    home == own || PROMISED.contains(&home),
+                    home == own || PROMISED.contains(&home) || allowed.contains(&home),
                     "{path} rests on {home}"
                 );
             }
         }
-        assert!(uses >= 30, "only {uses} uses were found in {own}");
+        assert!(uses >= 8, "only {uses} uses were found in {own}");
     }
 }
 
@@ -108,13 +115,21 @@ fn no_public_call_asks_anything_of_its_caller() {
         Code::read(text.expect("the code of a crate"))
     };
     let mut calls = 0;
-    for passed in code("rules").imports {
-        if let Some(call) = code(&passed.home).function_named(&passed.item) {
+    for face in ["rules", "board"].map(code) {
+        let passed = face.imports.iter().filter(|import| import.passed_on);
+        let homes: Vec<(Code, &str)> = passed
+            .map(|import| (code(&import.home), import.item.as_str()))
+            .collect();
+        let passed = homes
+            .iter()
+            .filter_map(|(home, item)| home.function_named(item));
+        let own = face.functions.iter().filter(|function| function.public);
+        for call in passed.chain(own) {
             calls += 1;
             assert!(call.requires.is_empty(), "{} has a requires", call.name);
         }
     }
-    assert!(calls >= 18, "only {calls} calls were found");
+    assert!(calls >= 30, "only {calls} calls were found");
 }
 
 #[test]

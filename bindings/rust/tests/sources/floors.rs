@@ -38,8 +38,10 @@ const FOLLOWED: usize = 310;
 #[test]
 fn promises_rest_on_their_floors() {
     let sources = Sources::of(&Repository::here());
-    let calls = Walk::over(&sources, &FLOORS).follow_face();
-    let board = Walk::over(&sources, &FLOORS_OF_BOARD).follow_crate("board");
+    let calls = Walk::over(&sources, &FLOORS).follow_face("rules");
+    let board = Walk::over(&sources, &FLOORS_OF_BOARD)
+        .follow_face("board")
+        .follow_crate("board");
     let exports = Walk::over(&sources, &FLOORS_OF_EXPORTS).follow_crate("exports");
     let faults: std::collections::BTreeSet<&String> = [&calls, &board, &exports]
         .into_iter()
@@ -120,7 +122,7 @@ a before b = Word a
 fn walked(changes: &[(&str, &str)]) -> (Vec<String>, usize) {
     let repository = Repository::made_up(&[&SOUND[..], changes].concat());
     let sources = Sources::of(&repository);
-    let walk = Walk::over(&sources, &FLOORS).follow_face();
+    let walk = Walk::over(&sources, &FLOORS).follow_face("rules");
     (walk.faults.into_iter().collect(), walk.followed.len())
 }
 

@@ -156,16 +156,16 @@ impl<'a> Walk<'a> {
         }
     }
 
-    /// Follows every call that the library's face passes on, and every type; a constant needs a floor to stand on.
-    pub fn follow_face(mut self) -> Walk<'a> {
+    /// Follows every call that a face passes on, and every type; a constant needs a floor to stand on.
+    pub fn follow_face(mut self, crate_name: &str) -> Walk<'a> {
         let face = self
             .sources
             .library
-            .code("rules")
-            .expect("the library's face");
+            .code(crate_name)
+            .expect("the code of a face");
         for (line, form) in &face.unread {
             self.fault(format!(
-                "crates/rules/src/lib.rt:{line}: {form} is not read here"
+                "crates/{crate_name}/src/lib.rt:{line}: {form} is not read here"
             ));
         }
         for passed in face.imports.iter().filter(|import| import.passed_on) {
@@ -176,12 +176,16 @@ impl<'a> Walk<'a> {
                 None if code.is_some_and(|code| code.has_constant(&passed.item)) => {
                     if !self.floors.contains(&home) {
                         self.fault(format!(
-                            "rules::{}: declared on no floor of promises, in {home}",
+                            "{crate_name}::{}: declared on no floor of promises, in {home}",
                             passed.item
                         ));
                     }
                 }
-                None => self.name_type(home, &passed.item, &format!("rules::{}", passed.item)),
+                None => self.name_type(
+                    home,
+                    &passed.item,
+                    &format!("{crate_name}::{}", passed.item),
+                ),
             }
         }
         self.follow();

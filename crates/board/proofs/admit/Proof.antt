@@ -1,6 +1,6 @@
 -- `board::admit` meets its contract: everybody, then the file that enters. Assumes nothing.
 use borrow.Author.Needs.{needs}
-use Rattle.board_pass.proofs.Flags.{said-refuses, said-done}
+use Rattle.board_answers.proofs.Notices.{said-refuses, said-done}
 use Rattle.board.proofs.Answered.{admit-refused, admit-asked}
 use Rattle.board.proofs.admit.Statement.{statement}
 use Rattle.board.proofs.admit.Tie as tie

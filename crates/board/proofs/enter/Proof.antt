@@ -12,9 +12,9 @@ use Rattle.board_promises.specs.declared.Notice.the-variants.{Done}
 use Rattle.board_promises.specs.declared.Posted.{Posted}
 use Rattle.board_promises.specs.Boards.{filesSize}
 use Rattle.board_promises.specs.Followers.{Whole}
-use Rattle.board_pass.proofs.Flags.{said-refuses, said-done}
-use Rattle.board.specs.Answers.{FreeAnswer}
-use Rattle.board.proofs.FreeNames.{said-free, said-taken}
+use Rattle.board_answers.proofs.Notices.{said-refuses, said-done}
+use Rattle.board_values.specs.Presence.{FreeAnswer}
+use Rattle.board_values.proofs.FreeNames.{said-free, said-taken}
 use Rattle.board.proofs.Rooms.{filled-cleared, said-short, said-long}
 use Rattle.board.proofs.Answered.{file-fits, enter-short, enter-taken, enter-refused, enter-done}
 use Rattle.board.proofs.enter.Statement.{statement}

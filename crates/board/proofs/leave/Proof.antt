@@ -9,8 +9,8 @@ use lib.ListN.{length}
 use Rattle.formats.specs.RuleChecks.{scratchSize}
 use Rattle.board_promises.specs.Boards.{filesSize}
 use Rattle.board_promises.specs.Followers.{Whole}
-use Rattle.board_pass.specs.Passes.{PresentAnswer}
-use Rattle.board_pass.proofs.Flags.{said-present, said-absent}
+use Rattle.board_values.specs.Presence.{PresentAnswer}
+use Rattle.board_values.proofs.Flags.{said-present, said-absent}
 use Rattle.board.proofs.Rooms.{filled-cleared, said-short, said-long}
 use Rattle.board.proofs.Answered.{absent-refused, leave-decided, leave-present, call-short, call-decided, refused-decided, leave-call}
 use Rattle.board.proofs.leave.Statement.{statement}

@@ -3,7 +3,8 @@
 use mathlib.Core.Path.{refl}
 use borrow.Author.Needs.{needs}
 use borrow.Author.Tests.{not-true, not-false}
-use Rattle.board_pass.proofs.Flags.{said-present, said-absent, absent-of, said-refuses, said-done}
+use Rattle.board_values.proofs.Flags.{said-present, said-absent, absent-of}
+use Rattle.board_answers.proofs.Notices.{said-refuses, said-done}
 use Rattle.board_pass.proofs.Visited.{pass-refused, pass-absent, pass-asked}
 use Rattle.board_pass.proofs.visit.Statement.{statement}
 use Rattle.board_pass.proofs.visit.Tie as tie

@@ -1,0 +1,64 @@
+-- What the library's answers make of a pass over the names, and what comes of a finished one. Assumes nothing.
+use Prim.Native.Nat.{ℕ, _≤_, _<_}
+use mathlib.Core.Path.{_≡_}
+use mathlib.Core.Bool.{Bool, true, false}
+use mathlib.Core.Logic.{_⊎_}
+use Rattle.answer.specs.declared.Refusal.the-variants.{UnknownLetter}
+use Rattle.promises.specs.declared.Monitor.{Monitor}
+use Rattle.promises.specs.declared.Advanced.{Advanced}
+use Rattle.promises.specs.declared.Advanced.the-variants.{To, Foreign, Refused as Refused-answer}
+use Rattle.board_promises.specs.declared.Board.{Board}
+use Rattle.board_promises.specs.declared.Notice.{Notice}
+use Rattle.board_promises.specs.declared.Notice.the-variants.{Done, Refused}
+use Rattle.board_promises.specs.declared.Posted.{Posted}
+use Rattle.board_promises.specs.Boards.{namesCount, withMonitor, withLowest}
+use Rattle.board_answers.specs.declared.Pass.{Pass}
+
+-- a notice is of a refusal, or not
+abbrev pub RefusesAnswer : Notice → Bool → Type 0
+RefusesAnswer notice true = notice ≡ Done → ⊥
+RefusesAnswer notice false = notice ≡ Done
+
+-- the lesser of two numbers
+pub record Lesser (a b r : ℕ) : Type 0 where
+  pub first : r ≤ a
+  pub second : r ≤ b
+  pub either : (r ≡ a) ⊎ (r ≡ b)
+
+-- the lowest grade with one more, which does not count if it is the leaver's
+pub record LowestWith (leaver i lowest grade r : ℕ) : Type 0 where
+  pub leaving : i ≡ leaver → r ≡ lowest
+  pub staying : (i ≡ leaver → ⊥) → Lesser lowest grade r
+
+-- what a library call's answer for a name makes of a pass
+pub record Counted (leaver i : ℕ) (p : Pass) (g : Monitor) (grade : ℕ) (r : Pass) : Type 0 where
+  pub done : r .notice ≡ Done
+  pub moved : r .next ≡ withMonitor (p .next) i g
+  pub lowest : LowestWith leaver i (p .lowest) grade (r .lowest)
+  pub foreign : r .foreign ≡ p .foreign
+
+pub record FoundForeign (i : ℕ) (p r : Pass) : Type 0 where
+  pub done : r .notice ≡ Done
+  pub foreign : Lesser (p .foreign) i (r .foreign)
+
+abbrev pub Told : ℕ → ℕ → Pass → Advanced → Pass → Type 0
+Told leaver i p (To g grade) r = Counted leaver i p g grade r
+Told leaver i p Foreign r = FoundForeign i p r
+Told leaver i p (Refused-answer refusal input place) r = r .notice ≡ Refused refusal input place
+
+-- what the library's answer for the file that enters makes of a pass
+abbrev pub EntryTold : Pass → Advanced → Pass → Type 0
+EntryTold p (To g grade) r = r ≡ p
+EntryTold p Foreign r = r ≡ p
+EntryTold p (Refused-answer refusal input place) r = r .notice ≡ Refused refusal input place
+
+-- a refused pass hands the board back, another one the board that the call makes
+pub data PassAnswer (b next : Board) (p : Pass) (r : Posted) : Type 0 where
+  pass-refuses : (p .notice ≡ Done → ⊥) → r ≡ record { board = b; notice = p .notice } → PassAnswer b next p r
+  pass-done : p .notice ≡ Done → r ≡ record { board = next; notice = Done } → PassAnswer b next p r
+
+-- and one that found the step foreign is refused after everybody's checks
+pub data StepAnswer (b : Board) (p : Pass) (r : Posted) : Type 0 where
+  step-refuses : (p .notice ≡ Done → ⊥) → r ≡ record { board = b; notice = p .notice } → StepAnswer b p r
+  step-foreign : p .notice ≡ Done → p .foreign < namesCount → r ≡ record { board = b; notice = Refused UnknownLetter (p .foreign) 0 } → StepAnswer b p r
+  step-done : p .notice ≡ Done → namesCount ≤ p .foreign → r ≡ record { board = withLowest (p .next) (p .lowest); notice = Done } → StepAnswer b p r
