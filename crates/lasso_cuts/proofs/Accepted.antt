@@ -13,7 +13,7 @@ use Rattle.formats.specs.Table.{morphismAt}
 use Rattle.scratch.specs.Map.{marksFrom, MarkingAt}
 use Rattle.scratch.proofs.Markings.{level-at}
 use Rattle.lasso_cuts.specs.WordValues.{CallWord}
-use Rattle.lasso_turns.specs.Raising.{Raised}
+use Rattle.lasso_powers.specs.Raising.{Raised}
 use Rattle.lasso_turns.proofs.Raises.{raised-exactly}
 use Rattle.lasso_turns.proofs.Agreement.{accepts-test-agrees}
 

@@ -34,7 +34,7 @@ use Rattle.lasso_words.specs.Answers.{GoodWord, GoodLasso, LassoAnswer}
 use Rattle.lasso_cuts.specs.WordValues.{CallWord}
 use Rattle.scratch.specs.Map.{marksFrom, MarkingAt}
 use Rattle.scratch.proofs.Markings.{front-mark}
-use Rattle.lasso_turns.specs.Raising.{Raised}
+use Rattle.lasso_powers.specs.Raising.{Raised}
 use Rattle.lasso_cuts.proofs.Accepted.{graded-told}
 use Rattle.promises.specs.declared.Membership.the-variants.{Decided, Refused}
 use Rattle.promises.specs.Member.{MemberPromise}

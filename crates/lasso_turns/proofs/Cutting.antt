@@ -16,9 +16,9 @@ use Rattle.theory.proofs.Values.{value-append, join-elements, inside-of}
 use Rattle.theory.proofs.Membership.{cut-look, cut-test-is, accepts-test}
 use Rattle.formats.proofs.Sections.{AllInRange}
 use Rattle.scratch.specs.Map.{marksFrom}
-use Rattle.lasso_turns.specs.Raising.{Raised, MarksUpTo}
-use Rattle.lasso_turns.proofs.Raises.{raised-same}
-use Rattle.lasso_turns.specs.Cuts.{Beginnings, Ends, KeptAround, CutValues, turnValue, cutAt, someCut}
+use Rattle.lasso_powers.specs.Raising.{Raised}
+use Rattle.lasso_powers.proofs.Raises.{raised-same}
+use Rattle.lasso_turns.specs.Cuts.{Beginnings, Ends, KeptAround, CutValues, turnValue, cutAt, someCut, MarksUpTo}
 use Rattle.lasso_turns.proofs.Looks.{any-same}
 use Rattle.lasso_turns.proofs.Agreement.{accepts-test-agrees}
 

@@ -1,6 +1,5 @@
 pub mod Looks
 pub mod Raises
-pub mod Turning
 pub mod Agreement
 pub mod Cutting
 pub mod Searching

@@ -19,9 +19,10 @@ use Rattle.scratch.specs.Map.{marksFrom}
 use Rattle.rule_table.specs.Table.{Table}
 use Rattle.formats.specs.Table.{productAt, morphismAt}
 use Rattle.rule_table.proofs.Facts.{product-below}
-use Rattle.lasso_turns.specs.Cuts.{CutValues, turnValue, cutAt, someCut, CutHere, UnmarkedBefore}
-use Rattle.lasso_turns.specs.Raising.{Raised, MarksUpTo}
-use Rattle.lasso_turns.proofs.Raises.{raised-none, none-raised, raised-next}
+use Rattle.lasso_powers.specs.Raising.{Raised}
+use Rattle.lasso_powers.proofs.Raises.{raised-next}
+use Rattle.lasso_turns.specs.Cuts.{CutValues, turnValue, cutAt, someCut, CutHere, UnmarkedBefore, MarksUpTo}
+use Rattle.lasso_turns.proofs.Raises.{raised-none, none-raised}
 use Rattle.lasso_turns.proofs.Cutting.{turn-value-inner, turn-value-last}
 
 -- the look at the cut after j + 1 letters, for a grade

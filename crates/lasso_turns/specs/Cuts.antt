@@ -1,5 +1,5 @@
--- What stands in lent bytes while a lasso is tested: the values of the beginnings and of the ends of a word; and the search of a
--- cycle's cuts over them. Assumes nothing.
+-- What stands in lent bytes while a lasso is tested: the values of the beginnings and of the ends of a word; the search of a cycle's cuts
+-- over them; and a bound on the marks. Assumes nothing.
 use Prim.Native.Nat.{ℕ, suc, _+_, _≤_, _<_}
 use mathlib.Core.Path.{_≡_}
 use mathlib.Core.Bool.{Bool, cond}
@@ -56,3 +56,7 @@ pub record CutHere (m : Morphism) (s : ℕ) (bytes : List ℕ) (len j p r : ℕ)
 pub record UnmarkedBefore (m : Morphism) (marks : Marking) (s : ℕ) (bytes : List ℕ) (len j : ℕ) : Type 0 where
   pub within : j ≤ len
   pub unmarked : (g i : ℕ) → 1 ≤ g → i < j → ¬ T (cutAt m (level g marks) s bytes len i)
+
+-- no pair of n elements is marked above a number
+pub record MarksUpTo (n : ℕ) (marks : Marking) (top : ℕ) : Type 0 where
+  pub small : (s e : ℕ) → s < n → e < n → marks s e ≤ top

@@ -6,9 +6,9 @@ use Rattle.theory.proofs.IdempotentPowers.{least-power-idempotent}
 use Rattle.rule_table.proofs.Facts.{table-place}
 use Rattle.scratch.specs.Map.{marksFrom}
 use Rattle.scratch.proofs.Markings.{front-mark}
-use Rattle.lasso_turns.proofs.Turning.{Looking, turn-start, turn-next, turn-ends}
-use Rattle.lasso_turns.proofs.powers_highest.Statement.{statement}
-use Rattle.lasso_turns.proofs.powers_highest.Tie as tie
+use Rattle.lasso_powers.proofs.Turning.{Looking, turn-start, turn-next, turn-ends}
+use Rattle.lasso_powers.proofs.powers_highest.Statement.{statement}
+use Rattle.lasso_powers.proofs.powers_highest.Tie as tie
 
 abbrev Inv-loop : tie.InvT-loop
 Inv-loop rule n k marks p r e exponent before s₀ high₀ j₀ s high j = Looking rule n k (marksFrom marks 0) p r e exponent before s high j

@@ -1,7 +1,7 @@
 -- The second where it is higher, else the first. Assumes nothing.
-use Rattle.lasso_turns.proofs.Raises.{raised-higher, raised-stays}
-use Rattle.lasso_turns.proofs.higher.Statement.{statement}
-use Rattle.lasso_turns.proofs.higher.Tie as tie
+use Rattle.lasso_powers.proofs.Raises.{raised-higher, raised-stays}
+use Rattle.lasso_powers.proofs.higher.Statement.{statement}
+use Rattle.lasso_powers.proofs.higher.Tie as tie
 
 returns : tie.Need-returns
 returns c = raised-higher (c .if1 .taken)

@@ -18,8 +18,8 @@ use Rattle.theory.proofs.Membership.{turn-look, turn-test, past-mod}
 use Rattle.rule_table.specs.Table.{Table}
 use Rattle.formats.specs.Table.{productAt, morphismAt}
 use Rattle.rule_table.proofs.Facts.{product-below}
-use Rattle.lasso_turns.specs.Raising.{Raised}
-use Rattle.lasso_turns.proofs.Raises.{raised-start, raised-next, raised-same}
+use Rattle.lasso_powers.specs.Raising.{Raised}
+use Rattle.lasso_powers.proofs.Raises.{raised-start, raised-next, raised-same}
 
 -- the look at the pair (p·e·r^j, e), for a grade
 unfoldable pub looksFor : List ℕ → ℕ → ℕ → Marking → ℕ → ℕ → ℕ → ℕ → ℕ → Bool

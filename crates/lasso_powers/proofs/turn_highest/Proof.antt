@@ -1,7 +1,7 @@
 -- The idempotent power is found, and the pairs are looked at with it. Assumes nothing.
 use borrow.Author.Needs.{needs}
-use Rattle.lasso_turns.proofs.turn_highest.Statement.{statement}
-use Rattle.lasso_turns.proofs.turn_highest.Tie as tie
+use Rattle.lasso_powers.proofs.turn_highest.Statement.{statement}
+use Rattle.lasso_powers.proofs.turn_highest.Tie as tie
 
 idempotent-power-requires : tie.Need-idempotent-power-requires
 idempotent-power-requires c κs = search needs
