@@ -9,7 +9,8 @@ use Rattle.answer.specs.Refusals.{numberOf}
 use Rattle.board_promises.specs.declared.Board.{Board}
 use Rattle.board_promises.specs.declared.Posted.{Posted}
 use Rattle.board_state.specs.State.{stateSize, boardOf, stateAfter}
-use Rattle.packing.specs.Packing.{packRefusal, packNotice}
+use Rattle.packing.specs.Packing.{packRefusal}
+use Rattle.packing_monitors.specs.Monitors.{packNotice}
 use Rattle.exports.specs.BoardExports.{ExportedBoardCall}
 
 module _ {Promise : Board → Posted → Type 0} {Kept : Type 0} {state state-exit : List ℕ} {r : ℕ} where

@@ -12,7 +12,8 @@ use Rattle.board_promises.specs.declared.Posted.{Posted}
 use Rattle.board_promises.specs.Boards.{emptyBoard}
 use Rattle.board_promises.specs.Promises.{EnterPromise, LeavePromise, EventPromise, MarkPromise}
 use Rattle.board_state.specs.State.{stateSize, boardOf, stateAfter}
-use Rattle.packing.specs.Packing.{packRefusal, packNotice}
+use Rattle.packing.specs.Packing.{packRefusal}
+use Rattle.packing_monitors.specs.Monitors.{packNotice}
 
 -- too few bytes for a board: what is kept is every lent byte
 pub record StateTooShort (Kept : Type 0) (r : ℕ) : Type 0 where

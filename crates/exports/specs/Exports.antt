@@ -32,7 +32,9 @@ use Rattle.promises.specs.declared.Strength.{Strength}
 use Rattle.promises.specs.Strong.{StrongPromise}
 use Rattle.promises.specs.declared.MonitorVerdict.{MonitorVerdict}
 use Rattle.promises.specs.Verdict.{VerdictPromise}
-use Rattle.packing.specs.Packing.{packListed, packStrength, packMembership, packComplemented, packReduced, packConfirmation, packCombined, packPartition, packTranslated, packInclusion, packMoved, packMonitorVerdict, packKind, packSuccessors}
+use Rattle.packing_counts.specs.Counts.{packListed, packComplemented, packReduced, packCombined, packPartition, packTranslated, packSuccessors}
+use Rattle.packing_decisions.specs.Decisions.{packStrength, packMembership, packConfirmation, packInclusion, packKind}
+use Rattle.packing_monitors.specs.Monitors.{packMoved, packMonitorVerdict}
 
 pub record ExportedClasses (bytes out-entry out-exit entry exit : List ℕ) (r : ℕ) : Type 0 where
   pub answer : Listed

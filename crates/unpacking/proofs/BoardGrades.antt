@@ -29,7 +29,7 @@ use Rattle.board_promises.proofs.Moved.{moved-flags}
 use Rattle.board_promises.proofs.Places.{pasted-file, others-kept}
 use Rattle.board_promises.proofs.OwnPlace.{own-file}
 use Rattle.board_histories.proofs.Passed.{done-passed, done-board, enter-room, enter-named, enter-checked}
-use Rattle.packing.specs.Packing.{noticeContents}
+use Rattle.packing_monitors.specs.Monitors.{noticeContents}
 use Rattle.packing.proofs.ReadBack.{Fits}
 use Rattle.unpacking.proofs.Limits.{Near, refused-fits}
 use Rattle.unpacking.proofs.BoardPresent.{present-checks}

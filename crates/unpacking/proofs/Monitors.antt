@@ -20,7 +20,7 @@ use Rattle.monitor_state.proofs.Numbers.{value-none, value-element, not-stray}
 use Rattle.promises.specs.Moves.{afterEvent, afterMark, eventChecks}
 use Rattle.promises.specs.Points.{pointsSize, pointAt, keepChecks, returnChecks}
 use Rattle.promises.proofs.Points.{return-named, return-kept}
-use Rattle.packing.specs.Packing.{monitorContents}
+use Rattle.packing_monitors.specs.Monitors.{monitorContents}
 use Rattle.packing.proofs.ReadBack.{Fits}
 
 number-small : {m : Morphism} {x : Value} → m .size ≤ 64 → Inside m x → numberFor x ≤ 64

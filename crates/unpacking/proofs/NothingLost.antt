@@ -74,9 +74,14 @@ use Rattle.promises.specs.declared.MonitorVerdict.the-variants.{Decided as Judg
 use Rattle.board_promises.specs.declared.Board.{Board}
 use Rattle.board_promises.specs.declared.Posted.{Posted}
 use Rattle.board_state.specs.State.{stateSize}
-use Rattle.packing.specs.Packing.{fields, refusal-at, unpack, listedContents, strengthContents, membershipContents, complementedContents, reducedContents, confirmationContents, combinedContents, bit, partitionContents, translatedContents, inclusionContents, monitorContents, movedContents, monitorVerdictContents, kindContents, successorsContents, packMonitor, noticeContents, packNotice}
+use Rattle.packing.specs.Packing.{fields, refusal-at, unpack}
+use Rattle.packing_counts.specs.Counts.{listedContents, complementedContents, reducedContents, combinedContents, bit, partitionContents, translatedContents, successorsContents}
+use Rattle.packing_decisions.specs.Decisions.{strengthContents, membershipContents, confirmationContents, inclusionContents, kindContents}
+use Rattle.packing_monitors.specs.Monitors.{monitorContents, movedContents, monitorVerdictContents, packMonitor, noticeContents, packNotice}
 use Rattle.packing.proofs.ReadBack.{FieldsFit, Fits, read-back}
-use Rattle.packing.proofs.Contents.{listed-told, strength-told, membership-told, complemented-told, reduced-told, confirmation-told, combined-told, partition-told, translated-told, inclusion-told, judged-told, moved-told, kind-told, successors-told}
+use Rattle.packing_counts.proofs.Contents.{listed-told, complemented-told, reduced-told, combined-told, partition-told, translated-told, successors-told}
+use Rattle.packing_decisions.proofs.Contents.{strength-told, membership-told, confirmation-told, inclusion-told, kind-told}
+use Rattle.packing_monitors.proofs.Contents.{judged-told, moved-told}
 use Rattle.exports.specs.Exports.{ExportedClasses, ExportedStrength, ExportedMember, ExportedComplement, ExportedInclusion, ExportedEvent, ExportedMark, ExportedKeep, ExportedReturn, ExportedReduction, ExportedConfirmation, ExportedCombination, ExportedRounds, ExportedVerdict, ExportedAutomaton, ExportedKind, ExportedSuccessors}
 use Rattle.exports.specs.BoardExports.{ExportedBoardCall, ExportedBoardEmpty, ExportedBoardEnter, ExportedBoardLeave, ExportedBoardEvent, ExportedBoardMark}
 use Rattle.unpacking.proofs.Limits.{Near, near, refused-fits, at-zero, buffer-limited, rule-limited, checked-limited, second-limited, lasso-limited}

@@ -18,8 +18,8 @@ const FLOORS_OF_BOARD: [&str; 7] = [
     "board_promises",
 ];
 
-/// The four more for the calls for C and Rust, whose promises say how an answer is packed, and how a board stands in bytes.
-const FLOORS_OF_EXPORTS: [&str; 10] = [
+/// The seven more for the calls for C and Rust, whose promises say how an answer is packed, and how a board stands in bytes.
+const FLOORS_OF_EXPORTS: [&str; 13] = [
     "theory",
     "buchi",
     "formats",
@@ -29,6 +29,9 @@ const FLOORS_OF_EXPORTS: [&str; 10] = [
     "board_promises",
     "board_state",
     "packing",
+    "packing_counts",
+    "packing_decisions",
+    "packing_monitors",
     "exports",
 ];
 

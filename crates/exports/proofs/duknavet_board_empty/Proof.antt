@@ -5,7 +5,7 @@ use Rattle.board_promises.specs.declared.Board.{Board}
 use Rattle.board_promises.specs.declared.Notice.the-variants.{Done}
 use Rattle.board_promises.specs.Boards.{emptyBoard}
 use Rattle.board_state.specs.State.{stateWith}
-use Rattle.packing.specs.Packing.{packNotice}
+use Rattle.packing_monitors.specs.Monitors.{packNotice}
 use Rattle.exports.proofs.Boards.{state-short, state-posted}
 use Rattle.exports.proofs.duknavet_board_empty.Statement.{statement}
 use Rattle.exports.proofs.duknavet_board_empty.Tie as tie

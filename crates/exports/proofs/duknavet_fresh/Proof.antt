@@ -1,7 +1,7 @@
 -- The two values of a fresh monitor. Assumes nothing.
 use mathlib.Core.Path.{ap, _∙_}
 use borrow.Author.Needs.{needs}
-use Rattle.packing.specs.Packing.{packMonitor}
+use Rattle.packing_monitors.specs.Monitors.{packMonitor}
 use Rattle.exports.proofs.duknavet_fresh.Statement.{statement}
 use Rattle.exports.proofs.duknavet_fresh.Tie as tie
 

@@ -1,0 +1,72 @@
+-- What a number holds tells the answer: two answers that hold the same are one. Assumes nothing.
+use mathlib.Core.Path.{_≡_, refl}
+use Rattle.answer.proofs.Verdicts.{same-refusal}
+use Rattle.promises.specs.declared.Confirmation.{Confirmation}
+use Rattle.promises.specs.declared.Confirmation.the-variants.{Yes, No, Refused as Not-confirmed}
+use Rattle.promises.specs.declared.Inclusion.{Inclusion}
+use Rattle.promises.specs.declared.Inclusion.the-variants.{Included, NotIncluded, Refused as Not-compared}
+use Rattle.promises.specs.declared.Membership.{Membership}
+use Rattle.promises.specs.declared.Membership.the-variants.{Decided, Refused as Not-a-member}
+use Rattle.promises.specs.declared.StateKind.{StateKind}
+use Rattle.promises.specs.declared.StateKind.the-variants.{Plain, Initial, Final, Refused as No-kind}
+use Rattle.promises.specs.declared.Strength.{Strength}
+use Rattle.promises.specs.declared.Strength.the-variants.{Strong, Weak, Refused as Not-decided}
+use Rattle.packing.proofs.Contents.{verdict-of}
+use Rattle.packing_decisions.specs.Decisions.{strengthContents, membershipContents, confirmationContents, inclusionContents, kindContents}
+
+pub strength-told : (x y : Strength) → strengthContents x ≡ strengthContents y → x ≡ y
+strength-told Strong Strong e = refl
+strength-told Strong Weak e = cc
+strength-told Strong (Not-decided r′ i′ p′) e = cc
+strength-told Weak Strong e = cc
+strength-told Weak Weak e = refl
+strength-told Weak (Not-decided r′ i′ p′) e = cc
+strength-told (Not-decided r i p) Strong e = cc
+strength-told (Not-decided r i p) Weak e = cc
+strength-told (Not-decided r i p) (Not-decided r′ i′ p′) e = same-refusal Not-decided r r′ i i′ p p′ (verdict-of e)
+
+pub membership-told : (x y : Membership) → membershipContents x ≡ membershipContents y → x ≡ y
+membership-told (Decided g t) (Decided g′ t′) e = cc
+membership-told (Decided g t) (Not-a-member r′ i′ p′) e = cc
+membership-told (Not-a-member r i p) (Decided g′ t′) e = cc
+membership-told (Not-a-member r i p) (Not-a-member r′ i′ p′) e = same-refusal Not-a-member r r′ i i′ p p′ (verdict-of e)
+
+pub confirmation-told : (x y : Confirmation) → confirmationContents x ≡ confirmationContents y → x ≡ y
+confirmation-told Yes Yes e = refl
+confirmation-told Yes No e = cc
+confirmation-told Yes (Not-confirmed r′ i′ p′) e = cc
+confirmation-told No Yes e = cc
+confirmation-told No No e = refl
+confirmation-told No (Not-confirmed r′ i′ p′) e = cc
+confirmation-told (Not-confirmed r i p) Yes e = cc
+confirmation-told (Not-confirmed r i p) No e = cc
+confirmation-told (Not-confirmed r i p) (Not-confirmed r′ i′ p′) e = same-refusal Not-confirmed r r′ i i′ p p′ (verdict-of e)
+
+pub inclusion-told : (x y : Inclusion) → inclusionContents x ≡ inclusionContents y → x ≡ y
+inclusion-told Included Included e = refl
+inclusion-told Included (NotIncluded a′ b′) e = cc
+inclusion-told Included (Not-compared r′ i′ p′) e = cc
+inclusion-told (NotIncluded a b) Included e = cc
+inclusion-told (NotIncluded a b) (NotIncluded a′ b′) e = cc
+inclusion-told (NotIncluded a b) (Not-compared r′ i′ p′) e = cc
+inclusion-told (Not-compared r i p) Included e = cc
+inclusion-told (Not-compared r i p) (NotIncluded a′ b′) e = cc
+inclusion-told (Not-compared r i p) (Not-compared r′ i′ p′) e = same-refusal Not-compared r r′ i i′ p p′ (verdict-of e)
+
+pub kind-told : (x y : StateKind) → kindContents x ≡ kindContents y → x ≡ y
+kind-told Plain Plain e = refl
+kind-told Plain Initial e = cc
+kind-told Plain Final e = cc
+kind-told Plain (No-kind r′ i′ p′) e = cc
+kind-told Initial Plain e = cc
+kind-told Initial Initial e = refl
+kind-told Initial Final e = cc
+kind-told Initial (No-kind r′ i′ p′) e = cc
+kind-told Final Plain e = cc
+kind-told Final Initial e = cc
+kind-told Final Final e = refl
+kind-told Final (No-kind r′ i′ p′) e = cc
+kind-told (No-kind r i p) Plain e = cc
+kind-told (No-kind r i p) Initial e = cc
+kind-told (No-kind r i p) Final e = cc
+kind-told (No-kind r i p) (No-kind r′ i′ p′) e = same-refusal No-kind r r′ i i′ p p′ (verdict-of e)

@@ -1,0 +1,59 @@
+-- What the number holds for an answer that decides. Assumes nothing.
+use Prim.Native.Nat.{ℕ}
+use Rattle.answer.specs.Refusals.{numberOf}
+use Rattle.promises.specs.declared.Confirmation.{Confirmation}
+use Rattle.promises.specs.declared.Confirmation.the-variants.{Yes, No, Refused as Not-confirmed}
+use Rattle.promises.specs.declared.Inclusion.{Inclusion}
+use Rattle.promises.specs.declared.Inclusion.the-variants.{Included, NotIncluded, Refused as Not-compared}
+use Rattle.promises.specs.declared.Membership.{Membership}
+use Rattle.promises.specs.declared.Membership.the-variants.{Decided, Refused as Not-a-member}
+use Rattle.promises.specs.declared.StateKind.{StateKind}
+use Rattle.promises.specs.declared.StateKind.the-variants.{Plain, Initial, Final, Refused as No-kind}
+use Rattle.promises.specs.declared.Strength.{Strength}
+use Rattle.promises.specs.declared.Strength.the-variants.{Strong, Weak, Refused as Not-decided}
+use Rattle.packing.specs.Packing.{Contents, fields, refusal-at, pack}
+
+-- 1 where the rule is strong
+abbrev pub strengthContents : Strength → Contents
+strengthContents Strong = fields 1 0 0
+strengthContents Weak = fields 0 0 0
+strengthContents (Not-decided refusal input place) = refusal-at (numberOf refusal) input place
+
+abbrev pub packStrength : Strength → ℕ
+packStrength answer = pack (strengthContents answer)
+
+-- the lasso's grade, and the turns that settle its cycle
+abbrev pub membershipContents : Membership → Contents
+membershipContents (Decided grade turns) = fields grade turns 0
+membershipContents (Not-a-member refusal input place) = refusal-at (numberOf refusal) input place
+
+abbrev pub packMembership : Membership → ℕ
+packMembership answer = pack (membershipContents answer)
+
+-- 1 for yes
+abbrev pub confirmationContents : Confirmation → Contents
+confirmationContents Yes = fields 1 0 0
+confirmationContents No = fields 0 0 0
+confirmationContents (Not-confirmed refusal input place) = refusal-at (numberOf refusal) input place
+
+abbrev pub packConfirmation : Confirmation → ℕ
+packConfirmation answer = pack (confirmationContents answer)
+
+-- 1 where the first marking is included; else 0, and how many letters u and v have
+abbrev pub inclusionContents : Inclusion → Contents
+inclusionContents Included = fields 1 0 0
+inclusionContents (NotIncluded u v) = fields 0 u v
+inclusionContents (Not-compared refusal input place) = refusal-at (numberOf refusal) input place
+
+abbrev pub packInclusion : Inclusion → ℕ
+packInclusion answer = pack (inclusionContents answer)
+
+-- the kind of a state, coded as in automaton files
+abbrev pub kindContents : StateKind → Contents
+kindContents Plain = fields 0 0 0
+kindContents Initial = fields 1 0 0
+kindContents Final = fields 2 0 0
+kindContents (No-kind refusal input place) = refusal-at (numberOf refusal) input place
+
+abbrev pub packKind : StateKind → ℕ
+packKind answer = pack (kindContents answer)

@@ -1,0 +1,31 @@
+-- What a number holds tells the answer: two answers that hold the same are one. Assumes nothing.
+use mathlib.Core.Path.{_≡_, sym, ap, _∙_}
+use Rattle.answer.proofs.Verdicts.{same-refusal}
+use Rattle.promises.specs.declared.MonitorVerdict.{MonitorVerdict}
+use Rattle.promises.specs.declared.MonitorVerdict.the-variants.{Decided as Judged, Refused as Not-judged}
+use Rattle.promises.specs.declared.Monitor.{Monitor}
+use Rattle.promises.specs.declared.Moved.{Moved}
+use Rattle.promises.specs.declared.Moved.the-variants.{To, Refused as Not-moved}
+use Rattle.promises.specs.Moves.{HandsBack}
+use Rattle.packing.proofs.Contents.{verdict-of}
+use Rattle.packing_monitors.specs.Monitors.{monitorContents, movedContents, monitorVerdictContents}
+
+pub judged-told : (x y : MonitorVerdict) → monitorVerdictContents x ≡ monitorVerdictContents y → x ≡ y
+judged-told (Judged g t) (Judged g′ t′) e = cc
+judged-told (Judged g t) (Not-judged r′ i′ p′) e = cc
+judged-told (Not-judged r i p) (Judged g′ t′) e = cc
+judged-told (Not-judged r i p) (Not-judged r′ i′ p′) e = same-refusal Not-judged r r′ i i′ p p′ (verdict-of e)
+
+monitor-told : (f g : Monitor) → monitorContents f ≡ monitorContents g → f ≡ g
+monitor-told f g e =
+    let before : f .before ≡ g .before = cc in
+    let since : f .since ≡ g .since = cc in
+    λ i. record { before = before i; since = since i }
+
+-- of one monitor, which a refusal hands back
+pub moved-told : (f next next′ : Monitor) (x y : Moved) → HandsBack f next x → HandsBack f next′ y → movedContents x ≡ movedContents y → x ≡ y
+moved-told f next next′ (To g) (To g′) p q e = ap To (monitor-told g g′ e)
+moved-told f next next′ (To g) (Not-moved g′ r i place) p q e = cc
+moved-told f next next′ (Not-moved g r i place) (To g′) p q e = cc
+moved-told f next next′ (Not-moved g r i place) (Not-moved g′ r′ i′ place′) p q e =
+    ap (λ (h : Monitor). Not-moved h r i place) (p ∙ sym q) ∙ same-refusal (Not-moved g′) r r′ i i′ place place′ (verdict-of e)
