@@ -9,7 +9,8 @@ use lib.ListN.{length, take, drop}
 use Rattle.rule_table.specs.Table.{Table}
 use Rattle.formats.specs.Table.{productAt, imageAt, morphismAt}
 use Rattle.formats.specs.WrittenFile.{fileOf}
-use Rattle.rule_writer.specs.Writing.{tableMorphism, tableMarks, RuleNeeds, tableFile}
+use Rattle.rule_bytes.specs.Writing.{tableMarks}
+use Rattle.rule_writer.specs.Writing.{tableMorphism, RuleNeeds, tableFile}
 use Rattle.formats.proofs.Agree.{Agree}
 use Rattle.formats.proofs.Same.{SameMarks, file-same}
 use Rattle.formats.specs.Front.{AtFront}

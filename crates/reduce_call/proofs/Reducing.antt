@@ -41,8 +41,8 @@ use Rattle.formats.specs.Front.{AtFront}
 use Rattle.formats.proofs.SectionList.{rest-of}
 use Rattle.reduce_rule.specs.Steps.{QuotientNeeds, QuotientWritten}
 use Rattle.reduce_call.specs.Steps.{ReduceNeeds, ReducedWritten}
-use Rattle.rule_writer.specs.Writing.{Written, CopyNeeds}
-use Rattle.rule_writer.proofs.CopiedParts.{part-entry, copied-part}
+use Rattle.rule_bytes.specs.Writing.{Written, CopyNeeds}
+use Rattle.rule_bytes.proofs.CopiedParts.{part-entry, copied-part}
 use Rattle.promises.specs.Rounds.{mostRounds}
 use Rattle.reduce_call.proofs.Order.{quotient-by-first-words}
 use Rattle.formats.proofs.Front.{front-same}

@@ -40,8 +40,8 @@ use Rattle.reduce_first_round.proofs.OutcomeBytes.{outcome-grading}
 use Rattle.reduce_first_round.proofs.BlockBytes.{blocks-carry}
 use Rattle.reduce_rounds.specs.declared.Refined.{Refined}
 use Rattle.reduce_rounds.specs.Rounds.{RoundsRefined}
-use Rattle.rule_writer.specs.Writing.{Written}
-use Rattle.rule_writer.proofs.CopiedParts.{part-entry, part-length, copied-part}
+use Rattle.rule_bytes.specs.Writing.{Written}
+use Rattle.rule_bytes.proofs.CopiedParts.{part-entry, part-length, copied-part}
 use Rattle.reduce_rounds_call.specs.Steps.{BlocksGiven}
 
 -- the bytes of blocks as a list

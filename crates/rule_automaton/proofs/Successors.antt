@@ -24,8 +24,8 @@ use Rattle.promises.specs.Monitor.{noValue, valueOf, numberFor}
 use Rattle.promises.specs.RuleAutomaton.{successorsSize, stateOf, successorsOf}
 use Rattle.monitor_state.specs.Ready.{GoodNumber, joinAt}
 use Rattle.monitor_state.proofs.Numbers.{value-element, not-stray}
-use Rattle.rule_writer.specs.Writing.{Written}
-use Rattle.rule_writer.proofs.Placed.{written-none, written-store, written-more, written-length, written-at-front}
+use Rattle.rule_bytes.specs.Writing.{Written}
+use Rattle.rule_bytes.proofs.Placed.{written-none, written-store, written-more, written-length, written-at-front}
 use Rattle.rule_automaton.specs.Steps.{leadsAt, successorIfAny, LeadsNeeds, SuccessorNeeds, ListNeeds}
 use Rattle.rule_automaton.proofs.Values.{good-inside, stray-outside, value-of-number, number-test, found-state}
 

@@ -10,7 +10,8 @@ use Rattle.theory.specs.Rules.{Morphism, Marking}
 use Rattle.theory.specs.Pairs.{Linked}
 use Rattle.formats.proofs.SectionList.{rest-of}
 use Rattle.scratch.specs.Map.{laidProductsBase, laidMarksBase}
-use Rattle.rule_writer.specs.Writing.{tableMorphism, tableMarks, RuleNeeds, tableFile}
+use Rattle.rule_bytes.specs.Writing.{tableMarks}
+use Rattle.rule_writer.specs.Writing.{tableMorphism, RuleNeeds, tableFile}
 use Rattle.formats.proofs.Agree.{Agree}
 use Rattle.formats.proofs.Same.{SameMarks, file-same}
 use Rattle.formats.specs.Front.{AtFront}

@@ -1,41 +1,24 @@
--- From the parts of a file to the whole: a count before its entries, the marks' count before the marks, and the three sections
--- of a rule one after the other. Assumes nothing.
+-- From the parts of a file to the whole: the marks' count before the marks, and the three sections of a rule one after the other.
+-- Assumes nothing.
 use Prim.Native.Nat.{ℕ, _+_, _*_, _-_, _/_, _%_, _≤_}
 use mathlib.Core.Path.{_≡_, refl, ap, _∙_}
 use mathlib.Core.List.{List, _∷_, _++_}
 use native.Mathlib.Omega.{arith}
 use native.Mathlib.Nat.{mul-le-mul, div-add-mod'}
-use lib.ListN.{length, getD, take, set, length-set, length-append}
-use lib.Seq.{length-take-le}
+use lib.ListN.{length, getD, take, set, length-append}
 use Rattle.theory.specs.Rules.{Morphism}
 use Rattle.formats.specs.RuleFile.{markWidth}
 use Rattle.formats.specs.RuleChecks.{ruleSize}
 use Rattle.formats.specs.WrittenFile.{elementsBytes, lettersBytes, marksBytes, fileOf}
 use Rattle.formats.specs.Front.{AtFront}
-use Rattle.rule_writer.specs.Writing.{Written, tableMorphism, tableMarks, CopyNeeds, CountedNeeds, AllNeeds, MarksNeeds, MarksWritten, RuleNeeds, tableFile}
+use Rattle.rule_bytes.specs.Writing.{Written, tableMarks, CountedNeeds}
+use Rattle.rule_writer.specs.Writing.{tableMorphism, AllNeeds, MarksNeeds, MarksWritten, RuleNeeds, tableFile}
 use Rattle.formats.proofs.Rows.{marksFrom, section-is}
 use Rattle.formats.proofs.Tabulated.{tabulate-take}
-use Rattle.rule_writer.proofs.Placed.{written-store, written-length, written-more, written-at-front, written-front}
+use Rattle.rule_bytes.proofs.Placed.{written-length, written-more, written-at-front, written-front}
+use Rattle.rule_bytes.proofs.Counted.{counted-length, counted-end}
 use Rattle.formats.proofs.GoodSections.{file-short}
 use Rattle.rule_writer.proofs.Rows.{stretch-short}
-
-module _ {entries : List ℕ} {count size : ℕ} {before : List ℕ} {at : ℕ} (p : CountedNeeds entries count size before at) where
-  -- where the entries go after their count
-  pub counted-place : CopyNeeds entries size (set before at count) (at + 1)
-  counted-place = record { enough = p .enough; room = simp length-set (omega (arith, p .room)) }
-
-  module _ {after : List ℕ} {end : ℕ} where
-    -- the count and the entries in one row
-    pub counted-written : Written (set before at count) (at + 1) (take size entries) after end → Written before at (count ∷ take size entries) after end
-    counted-written w =
-        written-more (written-store before at count (omega (arith, p .room))) w
-        (omega (arith, p .room, length-take-le size entries (p .enough)))
-
-    pub counted-length : Written before at (count ∷ take size entries) after end → length after ≡ length before
-    counted-length w = written-length w (omega (arith, p .room, length-take-le size entries (p .enough)))
-
-    pub counted-end : Written before at (count ∷ take size entries) after end → end ≡ at + (1 + size)
-    counted-end w = omega (arith, w .ends, length-take-le size entries (p .enough))
 
 module _ {marks : List ℕ} {n : ℕ} {before : List ℕ} {at : ℕ} (p : MarksNeeds marks n before at) where
   -- where the marks go, two bytes on

@@ -6,18 +6,17 @@ use mathlib.Core.Bool.{Bool, true, false, cond}
 use mathlib.Core.List.{List, [], _∷_, _++_}
 use native.Mathlib.Omega.{arith}
 use lib.Dec.{ltb}
-use lib.ListN.{length, getD, set}
+use lib.ListN.{length}
 use lib.Arith.{digits-div, digits-mod}
-use borrow.Author.Tests.{lt-ltb, le-ltb}
 use Rattle.finite.specs.Select.{selectFrom}
 use Rattle.theory.specs.Rules.{Marking}
 use Rattle.formats.specs.RuleFile.{markWidth}
 use Rattle.formats.specs.WrittenFile.{isMarked, markBytes}
-use Rattle.rule_writer.specs.Writing.{Written, tableMarks, markIfAny}
+use Rattle.rule_bytes.specs.Writing.{Written, markIfAny}
 use Rattle.formats.proofs.Rows.{sized, marksFrom}
 use Rattle.formats.proofs.Listed.{select-listed, select-more}
 use Rattle.formats.proofs.MarkBytes.{marks-length, marks-append}
-use Rattle.rule_writer.proofs.Placed.{written-none, written-more, written-length, written-three}
+use Rattle.rule_bytes.proofs.Placed.{written-none, written-more, written-length}
 
 module _ (n : ℕ) (marks : Marking) where
   -- no pairs
@@ -68,14 +67,3 @@ module _ (n : ℕ) (marks : Marking) (from : ℕ) {d : List ℕ} {at : ℕ} wher
     -- room for the stretch that comes next
     pub rows-room : (k : ℕ) → at + markWidth * (j + k) ≤ length d → next + markWidth * k ≤ length e
     rows-room k h = omega (arith, rows-next, rows-length (omega arith))
-
--- one pair, where it is marked and where it is not
-module _ (marks : List ℕ) (s e : ℕ) (d : List ℕ) (at : ℕ) where
-  pub mark-in : 0 < getD marks (s * 64 + e) 0 → at + markWidth ≤ length d
-      → Written d at (markIfAny (tableMarks marks) s e) (set (set (set d at s) (at + 1) e) (at + 2) (getD marks (s * 64 + e) 0)) (at + markWidth)
-  unfolding markIfAny tableMarks
-  mark-in h l = simp (lt-ltb _ _ h) (written-three d at s e (getD marks (s * 64 + e) 0) l)
-
-  pub mark-out : getD marks (s * 64 + e) 0 ≤ 0 → Written d at (markIfAny (tableMarks marks) s e) d at
-  unfolding markIfAny tableMarks
-  mark-out h = simp (le-ltb _ _ h) (written-none d at)

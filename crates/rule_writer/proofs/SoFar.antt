@@ -5,7 +5,8 @@ use mathlib.Core.List.{List}
 use native.Mathlib.Omega.{arith}
 use native.Mathlib.Nat.{zero-add, zero-mul, mul-le-mul-right}
 use lib.ListN.{length}
-use Rattle.rule_writer.specs.Writing.{Written, tableMarks, markIfAny, MarkNeeds, RowNeeds, AllNeeds}
+use Rattle.rule_bytes.specs.Writing.{Written, tableMarks, markIfAny, MarkNeeds}
+use Rattle.rule_writer.specs.Writing.{RowNeeds, AllNeeds}
 use Rattle.formats.proofs.Rows.{marksFrom}
 use Rattle.rule_writer.proofs.Rows.{stretch-one, rows-start, rows-length, rows-room, rows-more}
 

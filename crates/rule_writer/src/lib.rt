@@ -1,47 +1,13 @@
 // Writing a rule file into a lent buffer: the elements and the letters are copied from tables of bytes, and the marks are
 // written pair by pair, each with its grade. Each function writes at a place, leaves every other byte as it was, and answers the place after what it
 // wrote.
-ghost use mathlib.Core.List.{_∷_};
-ghost use lib.ListN.{take};
+use rule_bytes::write_counted;
+use rule_bytes::write_mark;
 ghost use Prim.Native.Nat.{_*_};
 ghost use Rattle.formats.specs.Front.{AtFront};
-ghost use Rattle.rule_writer.specs.Writing.{Written, CopyNeeds, CountedNeeds, MarkNeeds, RowNeeds, AllNeeds, MarksNeeds, MarksWritten, RuleNeeds, tableFile, tableMarks, markIfAny};
+ghost use Rattle.rule_bytes.specs.Writing.{Written, tableMarks};
+ghost use Rattle.rule_writer.specs.Writing.{RowNeeds, AllNeeds, MarksNeeds, MarksWritten, RuleNeeds, tableFile};
 ghost use Rattle.formats.proofs.Rows.{marksFrom};
-
-// Copies the first `count` bytes of a slice.
-pub fn copy(from: &[u8], count: usize, out: &mut [u8], at: usize) -> usize
-    requires { ⌜ CopyNeeds (now from) count (now out) at ⌝ }
-    ensures { λ r. ⌜ Written (now (out .entry)) at (take count (now (from .entry))) (now (out .exit)) r ⌝ }
-{
-    for i in 0..count {
-        out[at + i] = from[i];
-    }
-    at + count
-}
-
-// Writes a count of one byte, then the first `size` bytes of a slice.
-pub fn write_counted(entries: &[u8], count: usize, size: usize, out: &mut [u8], at: usize) -> usize
-    requires { ⌜ CountedNeeds (now entries) count size (now out) at ⌝ }
-    ensures { λ r. ⌜ Written (now (out .entry)) at (count ∷ take size (now (entries .entry))) (now (out .exit)) r ⌝ }
-{
-    out[at] = count as u8;
-    copy(entries, size, out, at + 1)
-}
-
-// Writes the pair (s, e) and its grade where it is marked.
-fn write_mark(marks: &[u8], s: usize, e: usize, out: &mut [u8], at: usize) -> usize
-    requires { ⌜ MarkNeeds (now marks) s e (now out) at ⌝ }
-    ensures { λ r. ⌜ Written (now (out .entry)) at (markIfAny (tableMarks (now (marks .entry))) s e) (now (out .exit)) r ⌝ }
-{
-    let grade = marks[s * 64 + e];
-    if 0 < grade {
-        out[at] = s as u8;
-        out[at + 1] = e as u8;
-        out[at + 2] = grade;
-        return at + 3;
-    }
-    at
-}
 
 // Writes the marks that begin with s, by e.
 fn write_row(marks: &[u8], n: usize, s: usize, out: &mut [u8], at: usize) -> usize

@@ -7,8 +7,8 @@ use lib.ListN.{length, take, drop, getD, length-drop}
 use lib.Seq.{length-take-le, getD-take, getD-drop}
 use Rattle.formats.specs.Front.{AtFront}
 use Rattle.formats.proofs.SectionList.{rest-of}
-use Rattle.rule_writer.specs.Writing.{Written}
-use Rattle.rule_writer.proofs.Placed.{written-at-front}
+use Rattle.rule_bytes.specs.Writing.{Written}
+use Rattle.rule_bytes.proofs.Placed.{written-at-front}
 
 module _ (from : List ℕ) (base count : ℕ) where
   -- an entry of the part

@@ -9,7 +9,7 @@ use native.Mathlib.Numerals.{add-one}
 use lib.ListN.{length, take, drop, set, length-set, length-append, length-drop, take-append-drop}
 use lib.Seq.{length-take-le, take-at, drop-at, take-append-le, take-take, drop-drop, set-split}
 use Rattle.formats.specs.Front.{AtFront}
-use Rattle.rule_writer.specs.Writing.{placed, Written}
+use Rattle.rule_bytes.specs.Writing.{placed, Written}
 
 -- nothing put anywhere
 placed-none : (d : List ℕ) (at : ℕ) → placed d at [] ≡ d

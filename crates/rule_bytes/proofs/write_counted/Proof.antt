@@ -1,8 +1,8 @@
--- `rule_writer::write_counted` meets its contract: a store writes the count, and the copy goes on right after it. Assumes nothing.
+-- `rule_bytes::write_counted` meets its contract: a store writes the count, and the copy goes on right after it. Assumes nothing.
 use borrow.Author.Needs.{needs}
-use Rattle.rule_writer.proofs.Parts.{counted-place, counted-written, counted-length}
-use Rattle.rule_writer.proofs.write_counted.Statement.{statement}
-use Rattle.rule_writer.proofs.write_counted.Tie as tie
+use Rattle.rule_bytes.proofs.Counted.{counted-place, counted-written, counted-length}
+use Rattle.rule_bytes.proofs.write_counted.Statement.{statement}
+use Rattle.rule_bytes.proofs.write_counted.Tie as tie
 
 cast-out : tie.Need-cast-out
 cast-out c = search needs

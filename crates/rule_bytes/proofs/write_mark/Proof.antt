@@ -1,11 +1,11 @@
--- `rule_writer::write_mark` meets its contract: a marked pair is written by three stores, and one that is not marked leaves the
+-- `rule_bytes::write_mark` meets its contract: a marked pair is written by three stores, and one that is not marked leaves the
 -- buffer as it is. Assumes nothing.
 use native.Mathlib.Omega.{arith}
 use lib.ListN.{length-set}
 use borrow.Author.Needs.{needs}
-use Rattle.rule_writer.proofs.Rows.{mark-in, mark-out}
-use Rattle.rule_writer.proofs.write_mark.Statement.{statement}
-use Rattle.rule_writer.proofs.write_mark.Tie as tie
+use Rattle.rule_bytes.proofs.Marks.{mark-in, mark-out}
+use Rattle.rule_bytes.proofs.write_mark.Statement.{statement}
+use Rattle.rule_bytes.proofs.write_mark.Tie as tie
 
 mul-grade : tie.Need-mul-grade
 mul-grade c = search needs

@@ -7,8 +7,8 @@ use native.Mathlib.Nat.{add-zero}
 use native.Mathlib.Numerals.{add-one}
 use lib.ListN.{length, getD, take, set}
 use lib.Seq.{take-suc, length-take-le}
-use Rattle.rule_writer.specs.Writing.{Written, CopyNeeds}
-use Rattle.rule_writer.proofs.Placed.{written-none, written-store, written-length, written-more}
+use Rattle.rule_bytes.specs.Writing.{Written, CopyNeeds}
+use Rattle.rule_bytes.proofs.Placed.{written-none, written-store, written-length, written-more}
 
 -- the first i bytes are copied
 pub record Copied (from : List ℕ) (count : ℕ) (before : List ℕ) (at : ℕ) (after : List ℕ) (i : ℕ) : Type 0 where

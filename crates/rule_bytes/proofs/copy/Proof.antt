@@ -1,9 +1,9 @@
--- `rule_writer::copy` meets its contract: each turn copies one byte more, and the loop ends at the count. Assumes nothing.
+-- `rule_bytes::copy` meets its contract: each turn copies one byte more, and the loop ends at the count. Assumes nothing.
 use Prim.Native.Nat.{_-_}
 use native.Mathlib.Omega.{arith}
-use Rattle.rule_writer.proofs.Copied.{Copied, copied-start, copied-length, copied-next, copied-all}
-use Rattle.rule_writer.proofs.copy.Statement.{statement}
-use Rattle.rule_writer.proofs.copy.Tie as tie
+use Rattle.rule_bytes.proofs.Copied.{Copied, copied-start, copied-length, copied-next, copied-all}
+use Rattle.rule_bytes.proofs.copy.Statement.{statement}
+use Rattle.rule_bytes.proofs.copy.Tie as tie
 
 abbrev Inv-loop : tie.InvT-loop
 Inv-loop from count out₀ at i₀ out i = Copied from count out₀ at out i
