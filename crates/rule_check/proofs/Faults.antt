@@ -22,7 +22,8 @@ use Rattle.formats.proofs.Tables.{AllAssociate, all-associate-none}
 use Rattle.rule_table.proofs.Facts.{table-lawful, first-triple-place}
 use Rattle.rule_reach.specs.Reach.{Empty, WordOrder, WithoutAnswer, placeAt}
 use Rattle.rule_reach.proofs.Words.{first-unreached, none-without-absurd}
-use Rattle.rule_associating.specs.Tests.{AllFound, AssociatesAnswer}
+use Rattle.rule_letter_columns.specs.Columns.{AllFound}
+use Rattle.rule_associating.specs.Tests.{AssociatesAnswer}
 use Rattle.formats.specs.RuleFile.{marksAt, marksOf, ruleEnd, morphismOf}
 use Rattle.formats.specs.RuleChecks.{trailingCheck, tableChecks, markChecks, contentChecks}
 use Rattle.rule_marks.specs.declared.Fault.{Fault}

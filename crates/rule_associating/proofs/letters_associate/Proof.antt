@@ -5,9 +5,10 @@ use mathlib.Core.Path.{_≡_, refl}
 use lib.ListN.{getD}
 use native.Mathlib.Omega.{arith}
 use mir.Facts.{fits-8-64}
+use Rattle.rule_letter_columns.proofs.Entries.{letters-few}
+use Rattle.rule_along_words.proofs.Passed.{column-inside}
 use Rattle.rule_associating.specs.Tests.{LettersBetween}
-use Rattle.rule_associating.proofs.Entries.{letters-few}
-use Rattle.rule_associating.proofs.Passed.{RowBetween, column-inside, row-start, row-next, letters-start, letters-next, letters-all}
+use Rattle.rule_associating.proofs.Passed.{RowBetween, row-start, row-next, letters-start, letters-next, letters-all}
 use Rattle.rule_associating.proofs.letters_associate.Statement.{statement}
 use Rattle.rule_associating.proofs.letters_associate.Tie as tie
 

@@ -3,9 +3,9 @@ use Prim.Native.Nat.{_<_, _-_}
 use mathlib.Core.Logic.{inl, inr, ⊎-elim}
 use native.Mathlib.Omega.{arith}
 use Rattle.rule_table.proofs.Facts.{table-place, product-below}
-use Rattle.rule_associating.proofs.Passed.{AlongBefore, along-start, along-next, along-all}
-use Rattle.rule_associating.proofs.along.Statement.{statement}
-use Rattle.rule_associating.proofs.along.Tie as tie
+use Rattle.rule_along_words.proofs.Passed.{AlongBefore, along-start, along-next, along-all}
+use Rattle.rule_along_words.proofs.along.Statement.{statement}
+use Rattle.rule_along_words.proofs.along.Tie as tie
 
 abbrev Inv-loop : tie.InvT-loop
 Inv-loop rule n k columns j p s same₀ x₀ same x = AlongBefore rule n k columns j p s same x

@@ -2,10 +2,10 @@
 -- the number of entries left. Assumes nothing.
 use Prim.Native.Nat.{_≤_, _-_}
 use native.Mathlib.Omega.{arith}
-use Rattle.rule_associating.proofs.Passed.{LettersTo, letters-none, letters-one, letters-only}
-use Rattle.rule_associating.proofs.Entries.{letters-end}
-use Rattle.rule_associating.proofs.letter_entries.Statement.{statement}
-use Rattle.rule_associating.proofs.letter_entries.Tie as tie
+use Rattle.rule_letter_columns.proofs.Passed.{LettersTo, letters-none, letters-one, letters-only}
+use Rattle.rule_letter_columns.proofs.Entries.{letters-end}
+use Rattle.rule_letter_columns.proofs.letter_entries.Statement.{statement}
+use Rattle.rule_letter_columns.proofs.letter_entries.Tie as tie
 
 abbrev Inv-loop : tie.InvT-loop
 Inv-loop rule n k queue count i₀ i = LettersTo queue i × (i ≤ count)

@@ -4,11 +4,12 @@ use Prim.Native.Nat.{_≤_, _-_}
 use native.Mathlib.Omega.{arith}
 use mir.Facts.{fits-8-64}
 use Rattle.rule_table.proofs.Facts.{image-place}
-use Rattle.rule_associating.specs.Tests.{WordsAlong}
-use Rattle.rule_associating.proofs.Entries.{WordEntry, place-column, parent-small, letter-small, word-entry}
-use Rattle.rule_associating.proofs.Passed.{column-along, column-inside, words-start, words-next, words-all}
-use Rattle.rule_associating.proofs.words_associate.Statement.{statement}
-use Rattle.rule_associating.proofs.words_associate.Tie as tie
+use Rattle.rule_along_words.specs.Tests.{WordsAlong}
+use Rattle.rule_letter_columns.proofs.Entries.{letter-small}
+use Rattle.rule_along_words.proofs.Entries.{WordEntry, place-column, parent-small, word-entry}
+use Rattle.rule_along_words.proofs.Passed.{column-along, column-inside, words-start, words-next, words-all}
+use Rattle.rule_along_words.proofs.words_associate.Statement.{statement}
+use Rattle.rule_along_words.proofs.words_associate.Tie as tie
 
 abbrev Inv-loop : tie.InvT-loop
 Inv-loop rule n k queue count letters columns i₀ i = WordsAlong rule n k queue letters i × (letters ≤ i)

@@ -6,10 +6,10 @@ use native.Mathlib.Omega.{arith}
 use borrow.Author.Needs.{needs}
 use mir.Facts.{fits-8-64}
 use Rattle.rule_table.proofs.Facts.{table-place, product-below}
-use Rattle.rule_associating.proofs.Entries.{letters-few}
-use Rattle.rule_associating.proofs.Passed.{ColumnsTo, Filling, columns-start, column-more, columns-next, columns-all}
-use Rattle.rule_associating.proofs.letter_columns.Statement.{statement}
-use Rattle.rule_associating.proofs.letter_columns.Tie as tie
+use Rattle.rule_letter_columns.proofs.Entries.{letters-few}
+use Rattle.rule_letter_columns.proofs.Passed.{ColumnsTo, Filling, columns-start, column-more, columns-next, columns-all}
+use Rattle.rule_letter_columns.proofs.letter_columns.Statement.{statement}
+use Rattle.rule_letter_columns.proofs.letter_columns.Tie as tie
 
 abbrev Inv-loop2 : tie.InvT-loop2
 Inv-loop2 rule n k queue count letters columns₀ j h x₀ columns x = Filling rule n queue columns j h x
