@@ -21,7 +21,8 @@ use Rattle.promises.specs.Weak.{weakCheck}
 use Rattle.promises.specs.Confirm.{ConfirmPromise}
 use Rattle.promises.proofs.ConfirmOrder.{weak-fails, strong-passes}
 use Rattle.promises.proofs.NotConfirmed.{second-not-strong}
-use Rattle.confirm_call.specs.Steps.{Judged, FilesReady, CheckedPromise}
+use Rattle.confirm_reduction.specs.Judging.{Judged}
+use Rattle.confirm_call.specs.Steps.{FilesReady, CheckedPromise}
 
 module _ {first second : List ℕ} {one two : Shape} {scratch : List ℕ} (r : FilesReady first second one two scratch) {decided : List ℕ} (answer : Strengths)
     (d : BothDecided (morphismAt first (one .elements) (one .letters)) (morphismAt second (two .elements) (two .letters)) scratch decided answer) where

@@ -1,2 +1,1 @@
-pub mod Confirming
 pub mod Calling

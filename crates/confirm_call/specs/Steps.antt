@@ -1,28 +1,15 @@
 -- What is asked for and what is promised on the way from two checked files and a map to the answer. Assumes nothing.
-use Prim.Native.Nat.{ℕ, _+_}
+use Prim.Native.Nat.{ℕ}
 use mathlib.Core.Path.{_≡_}
-use mathlib.Core.Bool.{Bool}
 use mathlib.Core.List.{List, [], _∷_}
-use lib.ListN.{length, getD}
-use Rattle.finite.specs.Tells.{Tells}
+use lib.ListN.{length}
 use Rattle.answer.specs.Checks.{FirstFailure}
-use Rattle.scratch.specs.Map.{blocksBase}
 use Rattle.rule_layout.specs.declared.Shape.{Shape}
 use Rattle.two_rules.specs.declared.BothChecked.the-variants.{Rules}
 use Rattle.two_rules.specs.Checking.{BothPromise}
-use Rattle.finite.specs.Each.{EachBelow}
 use Rattle.promises.specs.declared.Confirmation.{Confirmation}
 use Rattle.promises.specs.Weak.{weakCheck}
-use Rattle.promises.specs.Confirm.{ReducesBy, confirmationVerdict, ConfirmationAnswer}
-
--- each of the first n elements is the least of its block
-abbrev pub EachAlone : ℕ → List ℕ → Type 0
-EachAlone n scratch = EachBelow (λ s. getD scratch (blocksBase + s) 0 ≡ s) n
-
--- whether the bytes reduce the first rule to the second; scratch keeps its length
-pub record Judged (first second map entry exit : List ℕ) (answer : Bool) : Type 0 where
-  pub tells : Tells (ReducesBy first second map) answer
-  pub same-length : length exit ≡ length entry
+use Rattle.promises.specs.Confirm.{confirmationVerdict, ConfirmationAnswer}
 
 -- both files were checked
 pub record FilesReady (first second : List ℕ) (one two : Shape) (scratch : List ℕ) : Type 0 where

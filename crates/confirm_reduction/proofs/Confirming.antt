@@ -38,7 +38,7 @@ use Rattle.promises.specs.Rounds.{mostRounds}
 use Rattle.promises.specs.Reduce.{ruleOf}
 use Rattle.promises.specs.Confirm.{ReducesBy}
 use Rattle.promises.proofs.NotConfirmed.{other-letters, other-length}
-use Rattle.confirm_call.specs.Steps.{EachAlone, Judged}
+use Rattle.confirm_reduction.specs.Judging.{EachAlone, Judged}
 
 -- blocks of elements that stand together: each byte is its element exactly if each element is alone
 module _ {m : Morphism} {acc : ℕ → ℕ → ℕ} {i : ℕ} {l : List ℕ} (b : BlocksAt (m .size) (Together m acc i) l blocksBase) where

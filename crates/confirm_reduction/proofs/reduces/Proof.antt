@@ -1,11 +1,11 @@
--- `confirm_call::reduces` meets its contract: each question in its turn, and the last decides. Assumes nothing.
+-- `confirm_reduction::reduces` meets its contract: each question in its turn, and the last decides. Assumes nothing.
 use native.Mathlib.Omega.{arith}
 use borrow.Author.Needs.{needs}
 use Rattle.scratch.proofs.Unchanged.{unchanged-room}
 use Rattle.two_rules.proofs.StrongFiles.{first-read, second-read, second-law, second-read-too}
-use Rattle.confirm_call.proofs.Confirming.{letters-differ, length-differs, not-mapped, not-alone, grades-place, judged}
-use Rattle.confirm_call.proofs.reduces.Statement.{statement}
-use Rattle.confirm_call.proofs.reduces.Tie as tie
+use Rattle.confirm_reduction.proofs.Confirming.{letters-differ, length-differs, not-mapped, not-alone, grades-place, judged}
+use Rattle.confirm_reduction.proofs.reduces.Statement.{statement}
+use Rattle.confirm_reduction.proofs.reduces.Tie as tie
 
 returns : tie.Need-returns
 returns c = letters-differ _ (c .before .before .before .before .before .pre) (c .if1 .taken)

@@ -1,4 +1,4 @@
--- `confirm_call::each_alone` meets its contract: the elements that were passed are alone. Assumes nothing.
+-- `confirm_reduction::each_alone` meets its contract: the elements that were passed are alone. Assumes nothing.
 use Prim.Native.Nat.{_+_, _-_}
 use mathlib.Core.Path.{_≡_}
 use native.Mathlib.Omega.{arith}
@@ -7,8 +7,8 @@ use mir.Facts.{fits-8-64}
 use Rattle.finite.specs.Each.{EachBelow}
 use Rattle.finite.proofs.Each.{each-none, each-more, each-all, each-not}
 use Rattle.scratch.specs.Map.{blocksBase}
-use Rattle.confirm_call.proofs.each_alone.Statement.{statement}
-use Rattle.confirm_call.proofs.each_alone.Tie as tie
+use Rattle.confirm_reduction.proofs.each_alone.Statement.{statement}
+use Rattle.confirm_reduction.proofs.each_alone.Tie as tie
 
 abbrev Inv-loop : tie.InvT-loop
 Inv-loop n scratch s₀ s = EachBelow (λ i. getD scratch (blocksBase + i) 0 ≡ i) s
