@@ -1,11 +1,11 @@
--- `reduce_call::write_reduced` meets its contract: the rounds, the numbers of the blocks and a copy of them, and the rule of the blocks. Assumes
+-- `reduce_output::write_reduced` meets its contract: the rounds, the numbers of the blocks and a copy of them, and the rule of the blocks. Assumes
 -- nothing.
 use mathlib.Core.Path.{_∙_}
 use borrow.Author.Needs.{needs}
 use Rattle.scratch.proofs.Unchanged.{unchanged-room}
-use Rattle.reduce_call.proofs.Reducing.{copy-place, quotient-place, reduced-written}
-use Rattle.reduce_call.proofs.write_reduced.Statement.{statement}
-use Rattle.reduce_call.proofs.write_reduced.Tie as tie
+use Rattle.reduce_output.proofs.Writing.{copy-place, quotient-place, reduced-written}
+use Rattle.reduce_output.proofs.write_reduced.Statement.{statement}
+use Rattle.reduce_output.proofs.write_reduced.Tie as tie
 
 refine-requires : tie.Need-refine-requires
 refine-requires c κs =
