@@ -23,7 +23,8 @@ use Rattle.promises.specs.declared.Combined.{Combined}
 use Rattle.promises.specs.declared.Combined.the-variants.{Refused}
 use Rattle.promises.specs.Combine.{pairChecks, CombinePromise}
 use Rattle.promises.proofs.CombineOrder.{letters-first, weak-first, weak-second}
-use Rattle.combine_call.specs.Steps.{BothReady, StrongReady, PairsPromise}
+use Rattle.combine_pairs.specs.Steps.{StrongReady, PairsPromise}
+use Rattle.combine_call.specs.Steps.{BothReady}
 
 module _ {first second : List ℕ} {one two : Shape} {scratch out : List ℕ} (r : BothReady first second one two scratch out) where
   letters-of-first : one .letters ≡ lettersOf first

@@ -1,2 +1,1 @@
-pub mod Combining
 pub mod Calling

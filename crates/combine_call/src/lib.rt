@@ -2,68 +2,19 @@
 // the order of their first words, every linked pair marked with the grade combined from those of its halves. All stands in one lent slice,
 // as pair_table/specs/Layout says.
 use answer::Refusal;
+use combine_pairs::combine_strong;
 use formats::RULE_SIZE;
-use pair_list::PairCount;
-use pair_list::list_pairs;
-use pair_rule::write_pairs;
 use promises::Combined;
 use promises::Operation;
 use rule_layout::Shape;
-use scratch::PAIR_LEFTS_BASE;
-use scratch::PAIR_NUMBERS_BASE;
 use sections::zero;
-use sections::zero_part;
 use two_rules::BothChecked;
 use two_rules::Strengths;
 use two_rules::check_both;
 use two_rules::decide_both;
 ghost use Rattle.promises.specs.Combine.{CombinePromise};
-ghost use Rattle.combine_call.specs.Steps.{BothReady, StrongReady, PairsPromise};
-
-// Writes the rule of the pairs of two strong rules, from the closures of their marks in scratch, or refuses more than 64 pairs.
-fn combine_strong(
-    first: &[u8],
-    one: Shape,
-    second: &[u8],
-    two: Shape,
-    operation: Operation,
-    scratch: &mut [u8],
-    out: &mut [u8],
-) -> Combined
-    requires { ⌜ StrongReady (now first) (now second) one two (now scratch) (now out) ⌝ }
-    ensures { λ r. ⌜ PairsPromise (now (first .entry)) (now (second .entry)) operation (now (out .entry)) (now (out .exit)) (now (scratch .entry)) (now (scratch .exit)) r ⌝ }
-{
-    zero_part(scratch, PAIR_NUMBERS_BASE, PAIR_LEFTS_BASE);
-    let count = match list_pairs(
-        first,
-        one.elements,
-        second,
-        two.elements,
-        one.letters,
-        scratch,
-    ) {
-        PairCount::Listed(count) => count,
-        PairCount::TooMany => {
-            return Combined::Refused {
-                refusal: Refusal::TooManyPairs,
-                input: 1,
-                place: 0,
-            };
-        }
-    };
-    let length = write_pairs(
-        first,
-        one.elements,
-        second,
-        two.elements,
-        one.letters,
-        count,
-        operation,
-        scratch,
-        out,
-    );
-    Combined::Rule(length)
-}
+ghost use Rattle.combine_pairs.specs.Steps.{PairsPromise};
+ghost use Rattle.combine_call.specs.Steps.{BothReady};
 
 // The checks behind those of the files, in their order, and the rule.
 fn combine_checked(

@@ -1,9 +1,9 @@
--- `combine_call::combine_strong` meets its contract: the list of pairs is complete, or too long, and of a complete list the rule is written.
+-- `combine_pairs::combine_strong` meets its contract: the list of pairs is complete, or too long, and of a complete list the rule is written.
 -- Assumes nothing.
 use borrow.Author.Needs.{needs}
-use Rattle.combine_call.proofs.Combining.{two-tables, some-letters, list-empty, too-many, write-place, pairs-combined}
-use Rattle.combine_call.proofs.combine_strong.Statement.{statement}
-use Rattle.combine_call.proofs.combine_strong.Tie as tie
+use Rattle.combine_pairs.proofs.Combining.{two-tables, some-letters, list-empty, too-many, write-place, pairs-combined}
+use Rattle.combine_pairs.proofs.combine_strong.Statement.{statement}
+use Rattle.combine_pairs.proofs.combine_strong.Tie as tie
 
 zero-part-requires : tie.Need-zero-part-requires
 zero-part-requires c κs = search needs

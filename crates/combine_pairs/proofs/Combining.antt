@@ -32,7 +32,7 @@ use Rattle.promises.specs.declared.Combined.the-variants.{Rule as Is-rule, Refu
 use Rattle.promises.specs.Combine.{combinedGrade, CombinedTo}
 use Rattle.promises.proofs.CombineOrder.{pairs-last, none-fails}
 use Rattle.promises.proofs.CombinedGrades.{combined-small}
-use Rattle.combine_call.specs.Steps.{StrongReady, PairsPromise}
+use Rattle.combine_pairs.specs.Steps.{StrongReady, PairsPromise}
 
 module _ {first second : List ℕ} {one two : Shape} {entry out : List ℕ} (s : StrongReady first second one two entry out) where
   pub two-tables : TwoTables first (one .elements) second (two .elements) (one .letters)
