@@ -20,7 +20,7 @@
  *   - A result has three fields of 16 bits, from bits 16, 32 and 48 on: duknavet_field(answer, 0), .. 1, .. 2. Fields that a
  *     function does not name are 0.
  *   - No place and no value is cut off, for inputs of any length: it is proved that the number tells the whole answer
- *     (crates/exports/proofs/NothingLost; the functions below read a number as unpack in crates/packing/specs/Packing does).
+ *     (crates/unpacking/proofs/NothingLost; the functions below read a number as unpack in crates/packing/specs/Packing does).
  *
  * Words
  *   A rule file has n elements (n, 1 to 64, then n * n products, a * b at a * n + b), k letters (k, 1 to 16, then an element each)

@@ -3,18 +3,21 @@ use Prim.Native.Nat.{ℕ, _<_}
 use mathlib.Core.Path.{_≡_, refl, sym, _∙_, subst}
 use mathlib.Core.Logic.{⊎-elim, inl, inr}
 use mathlib.Core.List.{List}
+use native.Mathlib.Omega.{arith}
 use lib.ListN.{length}
 use Rattle.theory.specs.Words.{Lasso}
 use Rattle.theory.specs.Rules.{element, value}
 use Rattle.theory.specs.Grades.{Graded, LassosGraded}
 use Rattle.theory.proofs.Values.{element-apart, value-element as word-element, value-some}
-use Rattle.theory.proofs.Gradings.{strong-lassos}
+use Rattle.theory.proofs.Gradings.{strong-lassos, has-grade, graded-small}
 use Rattle.formats.specs.RuleFile.{lettersOf, morphismOf, markingOf}
+use Rattle.rule_check.proofs.CheckedRule.{graded-marks}
 use Rattle.promises.specs.Monitor.{noValue, valueOf}
 use Rattle.promises.specs.Histories.{Action, sinceWord, beforeWord}
+use Rattle.promises.specs.Advance.{noGrade}
 use Rattle.monitor_state.proofs.Numbers.{value-none, value-element}
 use Rattle.board_promises.specs.declared.Board.{Board}
-use Rattle.board_promises.specs.Boards.{monitorAt, Counting, SomeCounting}
+use Rattle.board_promises.specs.Boards.{namesCount, monitorAt, Counting, SomeCounting}
 use Rattle.board_histories.specs.Histories.{Deed, Standing, nobody, stands, standing, CountsAnew, GradeAnew}
 use Rattle.board_histories.proofs.Standing.{Present, Holds, holds-nobody, holds-rule, BoardAgrees, not-both}
 
@@ -86,3 +89,13 @@ module _ {b : Board} {files : List ℕ} {log : List Deed} (a : BoardAgrees b fil
     attained = ⊎-elim (λ e. inl e) (λ (s : SomeCounting b files (b .lowest)). inr (record { name = s .name; counts = counts-anew (s .counts) })) (a .lowest .attained);
     none = λ e i h c. a .lowest .none e i h (counts-there c);
   }
+
+  -- a rule that has heard an event since its last mark has a grade, so that the board's is not none
+  pub grade-heard : {i : ℕ} {file : List ℕ} {history : List Action} → i < namesCount → standing log i ≡ stands file history → 0 < length (sinceWord history) → b .lowest < noGrade
+  grade-heard {i} {file} {history} h e some =
+      let p : Present b files i file history = present-of (subst (Holds b files i) e (a .names .holds i h)) in
+      let l : Lasso (lettersOf file) (beforeWord history) (sinceWord history) =
+      record { start-over = p .follows .before-over; cycle-over = p .follows .since-over; cycle-some = some } in
+      let k = has-grade (p .good .lawful) (graded-marks (p .good)) l in
+      let c : CountsAnew log i (k .0) = record { named = h; file = file; history = history; stands-there = e; some-letter = some; graded = k .1 } in
+      omega (arith, grade-anew .lowest i (k .0) c, graded-small (p .good .lawful) (graded-marks (p .good)) (k .1))

@@ -13,7 +13,7 @@ use Rattle.board_histories.specs.Histories.{Deed, entered, FilesKept, Bo
 use Rattle.board_histories.proofs.Passed.{done-passed, done-board}
 use Rattle.board_histories.proofs.Standing.{Holds, NamesAgree, BoardAgrees, SameName, same-holds, same-lowest, board-agrees}
 use Rattle.board_histories.proofs.Steps.{empty-agrees, enter-agrees, leave-agrees, event-agrees, mark-agrees}
-use Rattle.board_histories.proofs.Anew.{present-of, grade-anew}
+use Rattle.board_histories.proofs.Anew.{present-of, grade-anew, grade-heard}
 
 -- a refused call hands the same board back
 refused-agrees : {b : Board} {files : List ℕ} {log : List Deed} (next : Board) (lent : List ℕ) {board : Board} {notice : Notice} {refusal : Refusal} {input place : ℕ}
@@ -54,4 +54,5 @@ pub board-theorem : BoardTheorem
 board-theorem = record {
   grade = λ b files log r. grade-anew (run-agrees r);
   file-stands = λ b files log r i h file history e. present-of (subst (Holds b files i) e (run-agrees r .names .holds i h)) .its-file;
+  heard = λ b files log r i h file history e some. grade-heard (run-agrees r) h e some;
 }

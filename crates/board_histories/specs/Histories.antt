@@ -87,8 +87,11 @@ pub data BoardRun : Board → List ℕ → List Deed → Type 0 where
       → BoardRun b files log → MarkPromise b lent entry exit answer → answer .notice ≡ Refused refusal input place → BoardRun (answer .board) files log
   written-elsewhere : {b : Board} {files files′ : List ℕ} {log : List Deed} → BoardRun b files log → FilesKept b files files′ → BoardRun b files′ log
 
--- "after every step it equals the grade worked out anew"; and the file that a name entered with is the one that stands there
+-- "after every step it equals the grade worked out anew"; the file that a name entered with is the one that stands there; and the grade is none only
+-- where no rule has heard an event since its last mark: each that has has a grade
 pub record BoardTheorem : Type 0 where
   pub grade : (b : Board) (files : List ℕ) (log : List Deed) → BoardRun b files log → GradeAnew log (b .lowest)
   pub file-stands : (b : Board) (files : List ℕ) (log : List Deed) → BoardRun b files log → (i : ℕ) → i < namesCount → (file : List ℕ) (history : List Action)
       → standing log i ≡ stands file history → fileAt files i ≡ file
+  pub heard : (b : Board) (files : List ℕ) (log : List Deed) → BoardRun b files log → (i : ℕ) → i < namesCount → (file : List ℕ) (history : List Action)
+      → standing log i ≡ stands file history → 0 < length (sinceWord history) → b .lowest < noGrade

@@ -49,8 +49,8 @@ board-read b p = λ i. record { present = present i; before = before i; since = 
 pub front-read : (state : List ℕ) (b : Board) → ByteBoard b → boardOf (stateWith state b) ≡ b
 front-read state b p = board-read b p
 
-pub empty-read : boardOf (stateOf emptyBoard) ≡ emptyBoard
-empty-read = refl
+pub empty-read : (state : List ℕ) → boardOf (stateWith state emptyBoard) ≡ emptyBoard
+empty-read state = refl
 
 pub read-bytes : (state : List ℕ) → ((i : ℕ) → getD state i 0 < 256) → ByteBoard (boardOf state)
 read-bytes state small =

@@ -15,15 +15,15 @@ use Rattle.board_promises.specs.declared.Board.{Board}
 use Rattle.board_promises.specs.declared.Notice.{Notice}
 use Rattle.board_promises.specs.declared.Notice.the-variants.{Done, Refused}
 use Rattle.board_promises.specs.declared.Posted.{Posted}
-use Rattle.board_promises.specs.Boards.{namesCount, presentAt, withMonitor, withPresent, withLowest, withEntered, withLeft, movedBelow}
+use Rattle.board_promises.specs.Boards.{namesCount, emptyBoard, presentAt, withMonitor, withPresent, withLowest, withEntered, withLeft, movedBelow}
 use Rattle.board_promises.specs.Followers.{movedAt}
 use Rattle.board_promises.specs.Checks.{allChecks, eventChecks, markChecks}
 use Rattle.board_promises.specs.Promises.{HandsBack, EnterPromise, LeavePromise, EventPromise, MarkPromise}
 use Rattle.board_promises.proofs.Moved.{moved-none, moved-by}
 use Rattle.board_histories.proofs.Passed.{done-passed, event-letter}
 use Rattle.board_state.specs.State.{stateSize, boardOf, stateAfter, ByteBoard}
-use Rattle.board_state.proofs.ReadBack.{front-read, read-bytes}
-use Rattle.exports.specs.BoardExports.{ExportedBoardCall, ExportedBoardEnter, ExportedBoardLeave, ExportedBoardEvent, ExportedBoardMark}
+use Rattle.board_state.proofs.ReadBack.{front-read, empty-read, read-bytes}
+use Rattle.exports.specs.BoardExports.{ExportedBoardCall, ExportedBoardEmpty, ExportedBoardEnter, ExportedBoardLeave, ExportedBoardEvent, ExportedBoardMark}
 use Rattle.unpacking.proofs.Monitors.{SmallValues, mark-small, event-small}
 use Rattle.unpacking.proofs.BoardPresent.{present-rule, present-unstray}
 use Rattle.unpacking.proofs.NothingLost.{postedBoard}
@@ -141,3 +141,8 @@ module _ {state state-exit : List ℕ} {r : ℕ} (h : stateSize ≤ length state
     pub board-mark-kept : (x : ExportedBoardMark state state-exit files entry exit r) → boardOf state-exit ≡ postedBoard x h .board
     board-mark-kept x =
         call-kept x (movedBelow files Mark (boardOf state) namesCount) files (mark-bytes (read-bytes state bytes) (x .long h .promise)) (x .long h .promise .board)
+
+-- and those that the first call leaves hold an empty board
+pub board-empty-kept : {state state-exit : List ℕ} {r : ℕ} → stateSize ≤ length state → ExportedBoardEmpty state state-exit r → boardOf state-exit ≡ emptyBoard
+board-empty-kept {state} h x =
+    ap boardOf (x .long h .state-left ∙ ap (λ (answer : Posted). stateAfter state (answer .board) (answer .notice)) (x .long h .promise)) ∙ empty-read state
