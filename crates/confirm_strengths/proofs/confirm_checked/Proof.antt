@@ -1,9 +1,9 @@
--- `confirm_call::confirm_checked` meets its contract: the strengths are decided, then the questions about the map. Assumes nothing.
+-- `confirm_strengths::confirm_checked` meets its contract: the strengths are decided, then the questions about the map. Assumes nothing.
 use borrow.Author.Needs.{needs}
 use Rattle.two_rules.proofs.Calling.{first-table, second-table, first-needs, second-needs}
-use Rattle.confirm_call.proofs.Calling.{first-weak, second-weak, strong-place, said-yes, said-no}
-use Rattle.confirm_call.proofs.confirm_checked.Statement.{statement}
-use Rattle.confirm_call.proofs.confirm_checked.Tie as tie
+use Rattle.confirm_strengths.proofs.Deciding.{first-weak, second-weak, strong-place, said-yes, said-no}
+use Rattle.confirm_strengths.proofs.confirm_checked.Statement.{statement}
+use Rattle.confirm_strengths.proofs.confirm_checked.Tie as tie
 
 decide-both-requires : tie.Need-decide-both-requires
 decide-both-requires c κs =
