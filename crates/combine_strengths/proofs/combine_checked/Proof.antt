@@ -1,9 +1,9 @@
--- `combine_call::combine_checked` meets its contract: the letter counts are compared, then the strengths are decided. Assumes nothing.
+-- `combine_strengths::combine_checked` meets its contract: the letter counts are compared, then the strengths are decided. Assumes nothing.
 use borrow.Author.Needs.{needs}
 use Rattle.two_rules.proofs.Calling.{first-table, second-table, first-needs, second-needs}
-use Rattle.combine_call.proofs.Calling.{letters-differ, first-weak, second-weak, strong-place, strong-combined}
-use Rattle.combine_call.proofs.combine_checked.Statement.{statement}
-use Rattle.combine_call.proofs.combine_checked.Tie as tie
+use Rattle.combine_strengths.proofs.Deciding.{letters-differ, first-weak, second-weak, strong-place, strong-combined}
+use Rattle.combine_strengths.proofs.combine_checked.Statement.{statement}
+use Rattle.combine_strengths.proofs.combine_checked.Tie as tie
 
 returns : tie.Need-returns
 returns c = letters-differ (c .before .before .before .before .before .pre) (c .if1 .taken)
