@@ -15,10 +15,11 @@ use Rattle.theory.proofs.Escapes.{Escapes, Begins, Moves, ends-escapes}
 use Rattle.theory.proofs.Comparison.{ShortEscape}
 use Rattle.scratch.specs.Preimages.{afterLetter}
 use Rattle.mark_search_list.specs.Queue.{frontAt, backAt, letterAt, parentAt}
-use Rattle.mark_search_list.specs.Steps.{beforeLetter, splitMarked}
-use Rattle.mark_search.specs.Search.{Source, a-start, a-step, Entries, EndedAt}
+use Rattle.mark_search_list.specs.Steps.{beforeLetter}
+use Rattle.mark_search_visit.specs.Visits.{splitMarked}
+use Rattle.mark_search_run.specs.Search.{Source, a-start, a-step, Entries, EndedAt}
 use Rattle.mark_search_list.proofs.Growth.{queue-few, queue-bound}
-use Rattle.mark_search.proofs.Meeting.{stateAt, value-at-element, value-at-none, after-join, before-join, before-below}
+use Rattle.mark_search_run.proofs.Meeting.{stateAt, value-at-element, value-at-none, after-join, before-join, before-below}
 use Rattle.mark_cycles.specs.Cycles.{Spells, spells-none, spells-more, CycleNeeds}
 
 -- a cycle that an entry spells, with no more letters than there are entries before it

@@ -12,9 +12,10 @@ use Rattle.sections.specs.Answers.{PartZeroed}
 use Rattle.scratch.specs.Map.{MarkingAt, tablesEnd, statesBase, firstPreimagesBase, nextPreimagesBase}
 use Rattle.scratch.specs.Preimages.{PreimagesRoom, PreimagesListed}
 use Rattle.mark_search_list.specs.Queue.{seenAt, Kept}
-use Rattle.mark_search.specs.Search.{SearchNeeds, Searched, AllNeeds, EscapeNeeds, Escaped}
-use Rattle.mark_search.specs.declared.Ended.{Ended}
-use Rattle.mark_search.specs.declared.Ended.the-variants.{At, Nothing}
+use Rattle.mark_search_run.specs.Search.{SearchNeeds, Searched}
+use Rattle.mark_search_run.specs.declared.Ended.{Ended}
+use Rattle.mark_search_run.specs.declared.Ended.the-variants.{At, Nothing}
+use Rattle.mark_search.specs.Search.{AllNeeds, EscapeNeeds, Escaped}
 use Rattle.mark_search.specs.declared.Escape.{Escape}
 use Rattle.mark_search.specs.declared.Escape.the-variants.{At as Escape-at, Nothing as No-escape}
 use Rattle.scratch.proofs.Markings.{marking-kept}

@@ -1,4 +1,1 @@
-pub mod Visiting
-pub mod Meeting
-pub mod Searching
 pub mod Escaping

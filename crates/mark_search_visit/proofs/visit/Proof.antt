@@ -6,9 +6,9 @@ use Rattle.theory.specs.Rules.{level}
 use Rattle.scratch.specs.Map.{marksFrom}
 use Rattle.mark_search_list.specs.Queue.{frontAt, backAt}
 use Rattle.mark_search_list.proofs.Growth.{queue-few}
-use Rattle.mark_search.proofs.Visiting.{visited-stop, visited-on}
-use Rattle.mark_search.proofs.visit.Statement.{statement}
-use Rattle.mark_search.proofs.visit.Tie as tie
+use Rattle.mark_search_visit.proofs.Visiting.{visited-stop, visited-on}
+use Rattle.mark_search_visit.proofs.visit.Statement.{statement}
+use Rattle.mark_search_visit.proofs.visit.Tie as tie
 
 add-x : tie.Need-add-x
 add-x c = omega (arith, c .before .before .pre .1 .0 .there, queue-few (c .before .before .pre .1 .0 .queue))

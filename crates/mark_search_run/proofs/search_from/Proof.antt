@@ -1,7 +1,7 @@
 -- The states that the search begins with, and then the entries one after the other. Assumes nothing.
-use Rattle.mark_search.proofs.Searching.{begin-place, place-begun, searching-start, searched-begun}
-use Rattle.mark_search.proofs.search_from.Statement.{statement}
-use Rattle.mark_search.proofs.search_from.Tie as tie
+use Rattle.mark_search_run.proofs.Searching.{begin-place, place-begun, searching-start, searched-begun}
+use Rattle.mark_search_run.proofs.search_from.Statement.{statement}
+use Rattle.mark_search_run.proofs.search_from.Tie as tie
 
 begin-requires : tie.Need-begin-requires
 begin-requires c κs = begin-place (c .before .before .before .pre .1) (c .before .before .before .pre .0 .small)

@@ -5,10 +5,10 @@ use mir.Facts.{fits-8-64}
 use Rattle.theory.specs.Rules.{level}
 use Rattle.scratch.specs.Map.{marksFrom}
 use Rattle.formats.specs.Table.{morphismAt}
-use Rattle.mark_search.specs.Search.{Searching}
-use Rattle.mark_search.proofs.Searching.{at-few, searching-room, visit-place, searching-next, searched-ended, searched-none}
-use Rattle.mark_search.proofs.run.Statement.{statement}
-use Rattle.mark_search.proofs.run.Tie as tie
+use Rattle.mark_search_run.specs.Search.{Searching}
+use Rattle.mark_search_run.proofs.Searching.{at-few, searching-room, visit-place, searching-next, searched-ended, searched-none}
+use Rattle.mark_search_run.proofs.run.Statement.{statement}
+use Rattle.mark_search_run.proofs.run.Tie as tie
 
 abbrev Inv-loop : tie.InvT-loop
 Inv-loop rule n k scratch₀ first second least s begun count₀ at₀ scratch count at = Searching (morphismAt rule n k) (level least (marksFrom scratch₀ first)) (level least (marksFrom scratch₀ second)) s scratch₀ scratch count at

@@ -2,9 +2,9 @@
 use mathlib.Core.Path.{sym, _∙_}
 use borrow.Author.Needs.{needs}
 use Rattle.formats.specs.Table.{morphismAt}
-use Rattle.mark_search_list.proofs.Values.{turned-element, turned-none}
-use Rattle.mark_search.proofs.turn.Statement.{statement}
-use Rattle.mark_search.proofs.turn.Tie as tie
+use Rattle.mark_search_visit.proofs.Values.{turned-element, turned-none}
+use Rattle.mark_search_visit.proofs.turn.Statement.{statement}
+use Rattle.mark_search_visit.proofs.turn.Tie as tie
 
 product-requires : tie.Need-product-requires
 product-requires c κs = search needs
