@@ -15,7 +15,7 @@ use Rattle.theory.proofs.Escapes.{Escapes, Begins, Moves, ends-escapes}
 use Rattle.theory.proofs.Comparison.{ShortEscape}
 use Rattle.scratch.specs.Preimages.{afterLetter}
 use Rattle.mark_search_list.specs.Queue.{frontAt, backAt, letterAt, parentAt}
-use Rattle.mark_search_list.specs.Steps.{beforeLetter}
+use Rattle.mark_search_letters.specs.Steps.{beforeLetter}
 use Rattle.mark_search_visit.specs.Visits.{splitMarked}
 use Rattle.mark_search_run.specs.Search.{Source, a-start, a-step, Entries, EndedAt}
 use Rattle.mark_search_list.proofs.Growth.{queue-few, queue-bound}

@@ -20,7 +20,7 @@ use Rattle.mark_search.specs.declared.Escape.{Escape}
 use Rattle.mark_search.specs.declared.Escape.the-variants.{At as Escape-at, Nothing as No-escape}
 use Rattle.scratch.proofs.Markings.{marking-kept}
 use Rattle.scratch.proofs.Unchanged.{unchanged-none, unchanged-both}
-use Rattle.mark_search_list.proofs.Taking.{preimages-kept}
+use Rattle.mark_search_letters.proofs.Taking.{preimages-kept}
 
 -- no cycle escapes at the start values before s
 pub record SearchedTo (m : Morphism) (least first second s : ℕ) (entry now : List ℕ) : Type 0 where

@@ -21,10 +21,10 @@ use Rattle.scratch.specs.Map.{marksFrom, MarkingAt}
 use Rattle.scratch.proofs.Markings.{level-at}
 use Rattle.scratch.specs.Preimages.{afterLetter}
 use Rattle.mark_search_list.specs.Queue.{frontAt, backAt, HasState}
-use Rattle.mark_search_list.specs.Steps.{beforeLetter}
+use Rattle.mark_search_letters.specs.Steps.{beforeLetter}
 use Rattle.mark_search_visit.specs.Visits.{splitMarked}
 use Rattle.mark_search_run.specs.Search.{Source, a-start, a-step, Entries, Tried}
-use Rattle.mark_search_list.proofs.Values.{before-element, before-none}
+use Rattle.mark_search_letters.proofs.Values.{before-element, before-none}
 use Rattle.mark_search_visit.proofs.Values.{turned-element, turned-none}
 
 -- the state of an entry

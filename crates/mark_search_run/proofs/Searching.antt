@@ -11,7 +11,8 @@ use Rattle.finite.proofs.Numbers.{below-cases, le-or-lt}
 use Rattle.theory.specs.Rules.{Morphism, Marking, Pairs, level}
 use Rattle.scratch.specs.Map.{tablesEnd, firstPreimagesBase, marksFrom, MarkingAt}
 use Rattle.mark_search_list.specs.Queue.{frontAt, backAt, letterAt, parentAt, Queue, SameEntry, Grown}
-use Rattle.mark_search_list.specs.Steps.{BeginNeeds, Begun, ExpandNeeds, beforeLetter, Takes}
+use Rattle.mark_search_begin.specs.Steps.{BeginNeeds, Begun}
+use Rattle.mark_search_letters.specs.Steps.{ExpandNeeds, beforeLetter, Takes}
 use Rattle.mark_search_visit.specs.Visits.{splitMarked, Visited}
 use Rattle.mark_search_run.specs.Search.{Source, a-start, a-step, Tried, Searching, SearchNeeds, RunNeeds, Searched}
 use Rattle.mark_search_run.specs.declared.Ended.{Ended}
@@ -19,8 +20,8 @@ use Rattle.mark_search_run.specs.declared.Ended.the-variants.{At, Nothin
 use Rattle.scratch.proofs.Markings.{marking-itself, marking-kept}
 use Rattle.scratch.proofs.Unchanged.{unchanged-none, unchanged-both}
 use Rattle.mark_search_list.proofs.Growth.{grown-trans, state-grown, queue-few}
-use Rattle.mark_search_list.proofs.Beginning.{queue-none, level-kept}
-use Rattle.mark_search_list.proofs.Taking.{preimages-kept}
+use Rattle.mark_search_begin.proofs.Beginning.{queue-none, level-kept}
+use Rattle.mark_search_letters.proofs.Taking.{preimages-kept}
 use Rattle.mark_search_run.proofs.Meeting.{no-escape, split-inside, entries-as}
 use Rattle.formats.specs.RuleChecks.{scratchSize}
 

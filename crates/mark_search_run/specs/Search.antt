@@ -9,7 +9,7 @@ use Rattle.theory.proofs.Escapes.{Escapes}
 use Rattle.scratch.specs.Map.{MarkingAt, secondBase}
 use Rattle.scratch.specs.Preimages.{afterLetter, Preimages}
 use Rattle.mark_search_list.specs.Queue.{frontAt, backAt, letterAt, parentAt, seenAt, Queue, HasState, Kept, Grown}
-use Rattle.mark_search_list.specs.Steps.{beforeLetter, Takes}
+use Rattle.mark_search_letters.specs.Steps.{beforeLetter, Takes}
 use Rattle.mark_search_visit.specs.Visits.{splitMarked}
 use Rattle.mark_search_run.specs.declared.Ended.{Ended}
 use Rattle.mark_search_run.specs.declared.Ended.the-variants.{At, Nothing}

@@ -1,6 +1,6 @@
 // The search at one start value: it begins with each cycle value that the first marking pairs with the start value, and tries one entry of the
 // worklist after the other until one has an empty front.
-use mark_search_list::begin;
+use mark_search_begin::begin;
 use mark_search_visit::visit;
 use scratch::FRONTS_BASE;
 ghost use Rattle.rule_table.specs.Table.{Table};

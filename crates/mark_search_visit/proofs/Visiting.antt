@@ -8,8 +8,8 @@ use lib.ListN.{getD}
 use lib.Dec.{T}
 use Rattle.theory.specs.Rules.{Morphism, Pairs}
 use Rattle.mark_search_list.specs.Queue.{frontAt, backAt}
-use Rattle.mark_search_list.specs.Steps.{ExpandNeeds, Expanded}
-use Rattle.mark_search_list.proofs.Taking.{found-none}
+use Rattle.mark_search_letters.specs.Steps.{ExpandNeeds, Expanded}
+use Rattle.mark_search_letters.proofs.Taking.{found-none}
 use Rattle.mark_search_visit.specs.Visits.{splitMarked, Visited}
 
 module _ {m : Morphism} {s : ℕ} {entry : List ℕ} {count from : ℕ} (P : Pairs) (place : ExpandNeeds m s entry count from) {b : Bool}

@@ -7,7 +7,7 @@ use Rattle.theory.specs.Rules.{Morphism, Pairs}
 use Rattle.theory.proofs.Codes.{value-at}
 use Rattle.theory.proofs.Splits.{turn-square}
 use Rattle.mark_search_list.specs.Queue.{frontAt, backAt}
-use Rattle.mark_search_list.specs.Steps.{FoundFrom, Takes}
+use Rattle.mark_search_letters.specs.Steps.{FoundFrom, Takes}
 
 -- the pair of a split with x in front and the value with number y behind is one of P
 unfoldable pub splitMarked : Morphism → Pairs → ℕ → ℕ → ℕ → Bool

@@ -1,6 +1,6 @@
 // An entry of the worklist tried: where the second marking has its split nothing is added, else every letter is handed over from the
 // front to the back.
-use mark_search_list::expand;
+use mark_search_letters::expand;
 use rule_table::product;
 use scratch::BACKS_BASE;
 use scratch::FRONTS_BASE;
@@ -13,7 +13,7 @@ ghost use Rattle.theory.proofs.Codes.{value-at};
 ghost use Rattle.theory.proofs.Turns.{turned};
 ghost use Rattle.theory.specs.Rules.{level};
 ghost use Rattle.scratch.specs.Map.{marksFrom, secondBase};
-ghost use Rattle.mark_search_list.specs.Steps.{ExpandNeeds};
+ghost use Rattle.mark_search_letters.specs.Steps.{ExpandNeeds};
 ghost use Rattle.mark_search_visit.specs.Visits.{splitMarked, Visited};
 ghost use Rattle.formats.specs.RuleChecks.{scratchSize};
 

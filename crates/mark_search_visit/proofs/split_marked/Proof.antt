@@ -2,7 +2,7 @@
 use Prim.Native.Nat.{_<_}
 use native.Mathlib.Omega.{arith}
 use borrow.Author.Needs.{needs}
-use Rattle.mark_search_list.proofs.Values.{product-place}
+use Rattle.mark_search_letters.proofs.Values.{product-place}
 use Rattle.mark_search_visit.proofs.Values.{product-inside, turned-inside, split-byte}
 use Rattle.mark_search_visit.proofs.split_marked.Statement.{statement}
 use Rattle.mark_search_visit.proofs.split_marked.Tie as tie

@@ -9,9 +9,10 @@ use lib.ListN.{getD}
 use Rattle.finite.proofs.Numbers.{below-cases, le-or-lt}
 use Rattle.theory.specs.Rules.{Morphism}
 use Rattle.scratch.specs.Preimages.{afterLetter, LastBelow, firstAt, nextAt, Preimages}
 use Rattle.mark_search_list.specs.Queue.{frontAt, backAt, letterAt, HasState, Kept, SameEntry}
-use Rattle.mark_search_list.specs.Steps.{AddNeeds, Added, ExpandNeeds, beforeLetter, FoundFrom, Takes, Taken, Expanded}
+use Rattle.mark_search_list.specs.Steps.{AddNeeds, Added}
+use Rattle.mark_search_letters.specs.Steps.{ExpandNeeds, beforeLetter, FoundFrom, Takes, Taken, Expanded}
 use Rattle.mark_search_list.proofs.Growth.{grown-refl, grown-trans, state-grown, queue-few}
 
 -- the lists of preimages stay
 pub preimages-kept : {m : Morphism} {entry exit : List ℕ} → Kept entry exit → Preimages m entry → Preimages m exit

@@ -2,10 +2,10 @@ use Prim.Native.Nat.{_-_}
 use native.Mathlib.Omega.{arith}
 use Rattle.theory.specs.Rules.{level}
 use Rattle.scratch.specs.Map.{marksFrom}
-use Rattle.mark_search_list.specs.Steps.{Begun}
-use Rattle.mark_search_list.proofs.Beginning.{begun-start, begun-place, begun-next, begun-all}
-use Rattle.mark_search_list.proofs.begin.Statement.{statement}
-use Rattle.mark_search_list.proofs.begin.Tie as tie
+use Rattle.mark_search_begin.specs.Steps.{Begun}
+use Rattle.mark_search_begin.proofs.Beginning.{begun-start, begun-place, begun-next, begun-all}
+use Rattle.mark_search_begin.proofs.begin.Statement.{statement}
+use Rattle.mark_search_begin.proofs.begin.Tie as tie
 
 abbrev Inv-loop : tie.InvT-loop
 Inv-loop scratch₀ n s first least count₀ e₀ scratch count e = Begun n s (level least (marksFrom scratch₀ first)) e scratch₀ scratch count

@@ -1,8 +1,8 @@
 -- A pair below the least grade adds nothing; any other adds its state. Assumes nothing.
 use borrow.Author.Needs.{needs}
-use Rattle.mark_search_list.proofs.Beginning.{not-begun, begun-with}
-use Rattle.mark_search_list.proofs.begin_with.Statement.{statement}
-use Rattle.mark_search_list.proofs.begin_with.Tie as tie
+use Rattle.mark_search_begin.proofs.Beginning.{not-begun, begun-with}
+use Rattle.mark_search_begin.proofs.begin_with.Statement.{statement}
+use Rattle.mark_search_begin.proofs.begin_with.Tie as tie
 
 mul-mark : tie.Need-mul-mark
 mul-mark c = search needs

@@ -10,9 +10,10 @@ use Rattle.finite.proofs.Numbers.{below-cases, le-or-lt}
 use Rattle.theory.specs.Rules.{level}
 use Rattle.scratch.specs.Map.{marksFrom}
 use Rattle.scratch.proofs.Markings.{level-same}
 use Rattle.mark_search_list.specs.Queue.{frontAt, backAt, seenAt, Queue, HasState, Kept}
-use Rattle.mark_search_list.specs.Steps.{Added, BeginNeeds, BegunWith, Begun}
+use Rattle.mark_search_list.specs.Steps.{Added}
+use Rattle.mark_search_begin.specs.Steps.{BeginNeeds, BegunWith, Begun}
 use Rattle.mark_search_list.proofs.Growth.{grown-refl, grown-trans, state-grown}
 use Rattle.formats.specs.RuleChecks.{scratchSize}
 
 -- a worklist with no entry: no state was found for s yet

@@ -9,7 +9,7 @@ use Rattle.finite.proofs.Numbers.{le-or-lt}
 use Rattle.theory.specs.Rules.{Morphism}
 use Rattle.rule_table.specs.Table.{Table, ProductNeeds}
 use Rattle.formats.specs.Table.{productAt, imageAt, morphismAt}
-use Rattle.mark_search_list.specs.Steps.{beforeLetter}
+use Rattle.mark_search_letters.specs.Steps.{beforeLetter}
 
 module _ (m : Morphism) where
   pub before-element : (a y : ℕ) → y < m .size → beforeLetter m a y ≡ m .product (m .image a) y

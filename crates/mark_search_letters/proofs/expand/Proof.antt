@@ -2,10 +2,10 @@
 use Prim.Native.Nat.{_-_}
 use native.Mathlib.Omega.{arith}
 use Rattle.formats.specs.Table.{morphismAt}
-use Rattle.mark_search_list.specs.Steps.{Expanded}
-use Rattle.mark_search_list.proofs.Taking.{expanded-start, expanded-place, expanded-next, expanded-all}
-use Rattle.mark_search_list.proofs.expand.Statement.{statement}
-use Rattle.mark_search_list.proofs.expand.Tie as tie
+use Rattle.mark_search_letters.specs.Steps.{Expanded}
+use Rattle.mark_search_letters.proofs.Taking.{expanded-start, expanded-place, expanded-next, expanded-all}
+use Rattle.mark_search_letters.proofs.expand.Statement.{statement}
+use Rattle.mark_search_letters.proofs.expand.Tie as tie
 
 abbrev Inv-loop : tie.InvT-loop
 Inv-loop rule n k scratch₀ s count from total₀ a₀ scratch total a = Expanded (morphismAt rule n k) s scratch₀ count from a scratch total

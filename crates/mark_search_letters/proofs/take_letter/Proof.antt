@@ -1,12 +1,12 @@
 use native.Mathlib.Omega.{arith}
 use mir.Facts.{fits-8-64}
 use Rattle.formats.specs.Table.{morphismAt}
 use Rattle.mark_search_list.specs.Queue.{frontAt, backAt}
 use Rattle.mark_search_list.proofs.Growth.{queue-few}
-use Rattle.mark_search_list.proofs.Values.{before-inside}
-use Rattle.mark_search_list.proofs.Taking.{Taking, taking-start, taking-add, taking-next, taking-less, taking-done}
-use Rattle.mark_search_list.proofs.take_letter.Statement.{statement}
-use Rattle.mark_search_list.proofs.take_letter.Tie as tie
+use Rattle.mark_search_letters.proofs.Values.{before-inside}
+use Rattle.mark_search_letters.proofs.Taking.{Taking, taking-start, taking-add, taking-next, taking-less, taking-done}
+use Rattle.mark_search_letters.proofs.take_letter.Statement.{statement}
+use Rattle.mark_search_letters.proofs.take_letter.Tie as tie
 
 abbrev Inv-loop : tie.InvT-loop
 Inv-loop rule n k scratch₀ s count from a x y back total₀ rest₀ scratch total rest = Taking (morphismAt rule n k) s scratch₀ count from a scratch total rest

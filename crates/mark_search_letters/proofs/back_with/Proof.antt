@@ -1,7 +1,7 @@
 use borrow.Author.Needs.{needs}
-use Rattle.mark_search_list.proofs.Values.{image-inside, product-place, back-element, back-none}
-use Rattle.mark_search_list.proofs.back_with.Statement.{statement}
-use Rattle.mark_search_list.proofs.back_with.Tie as tie
+use Rattle.mark_search_letters.proofs.Values.{image-inside, product-place, back-element, back-none}
+use Rattle.mark_search_letters.proofs.back_with.Statement.{statement}
+use Rattle.mark_search_letters.proofs.back_with.Tie as tie
 
 image-requires : tie.Need-image-requires
 image-requires c κs = search needs
