@@ -1,5 +1,4 @@
--- A round that is looked at meets the definition of the rounds, and rounds until one would change nothing, or a limit is reached, end no later
--- than at the first stable round. Assumes nothing.
+-- Rounds until one would change nothing, or a limit is reached, end no later than at the first stable round. Assumes nothing.
 use Prim.Native.Nat.{ℕ, suc, _+_, _≤_, _<_}
 use mathlib.Core.Path.{_≡_, refl, sym, subst, _∙_}
 use mathlib.Core.Bool.{Bool, true, false}
@@ -12,40 +11,19 @@ use lib.ListN.{getD}
 use Rattle.finite.specs.Tells.{Tells}
 use Rattle.finite.proofs.Tells.{told-yes, told-no}
 use Rattle.theory.specs.Rules.{Morphism}
-use Rattle.theory.specs.Rounds.{StillTogether, Together, Stable}
-use Rattle.minimality.proofs.Rounds.{together-sym, together-trans, together-next, together-before, same-outcomes-carry, still-carry}
+use Rattle.theory.specs.Rounds.{Together, Stable}
+use Rattle.minimality.proofs.Rounds.{together-sym, together-trans, together-before, same-outcomes-carry}
 use Rattle.minimality.proofs.FirstStable.{blocks-many, blocks-at-most}
-use Rattle.reduce_first_round.specs.Map.{outcomeOf, outcomeAt, InOneBlock, BlocksAt}
+use Rattle.reduce_first_round.specs.Map.{outcomeOf, outcomeAt, BlocksAt}
 use Rattle.scratch.specs.Bytes.{UnchangedOutside}
 use Rattle.reduce_first_round.specs.Steps.{OutcomesWritten, BlocksWritten}
 use Rattle.scratch.specs.Map.{blocksBase, nextBlocksBase, numbersBase, outcomesBase}
 use Rattle.reduce_rounds.specs.declared.Refined.{Refined}
-use Rattle.reduce_rounds.specs.Rounds.{BlockChanges, RoundSeen, TakenOver, RoundsRefined}
+use Rattle.reduce_next_round.specs.Round.{RoundSeen, TakenOver}
+use Rattle.reduce_rounds.specs.Rounds.{RoundsRefined}
 use Rattle.scratch.proofs.Unchanged.{unchanged-none, unchanged-both, unchanged-wider}
 use Rattle.reduce_first_round.proofs.OutcomeBytes.{outcome-below}
 use Rattle.reduce_first_round.proofs.BlockBytes.{least-carry, least-unique, least-at, blocks-carry, blocks-moved, bytes-related, related-bytes}
-
-module _ {m : Morphism} (closed : (a b : ℕ) → a < m .size → b < m .size → m .product a b < m .size)
-    (images : (a : ℕ) → a < m .letters → m .image a < m .size) where
-  -- from the blocks of an equivalence to those of what a round keeps together
-  pub still-blocks : {R : ℕ → ℕ → Type 0} {entry exit : List ℕ} → ((s t : ℕ) → R s t → R t s) → ((s t u : ℕ) → R s t → R t u → R s u)
-      → BlocksAt (m .size) R entry blocksBase → BlocksAt (m .size) (StillTogether m (InOneBlock entry)) exit nextBlocksBase
-      → BlocksAt (m .size) (StillTogether m R) exit nextBlocksBase
-  unfolding InOneBlock
-  still-blocks {R} {entry} symmetric transitive b next =
-      blocks-carry (λ t s ht hs. (
-        still-carry closed images (bytes-related b symmetric transitive) t s ht hs,
-        still-carry closed images (related-bytes b symmetric transitive) t s ht hs,
-      )) next
-
-  -- a round looked at
-  pub round-seen : {entry exit : List ℕ} {answer : Bool} → m .size ≤ 64 → BlocksWritten (m .size) (StillTogether m (InOneBlock entry)) nextBlocksBase entry exit
-      → Tells (BlockChanges (m .size) exit) answer → RoundSeen m entry exit answer
-  round-seen small w told = record {
-    next = λ acc i b. blocks-carry (λ t s ht hs. together-next m acc i) (still-blocks (together-sym m acc i) (together-trans m acc i) b (w .blocks));
-    changes = told;
-    kept = unchanged-wider (omega arith) (omega arith) (w .kept);
-  }
 
 -- the blocks still stand when a round was looked at
 seen-blocks : {m : Morphism} {R : ℕ → ℕ → Type 0} {entry exit : List ℕ} {answer : Bool} → m .size ≤ 64 → BlocksAt (m .size) R entry blocksBase → RoundSeen m entry exit answer

@@ -1,11 +1,11 @@
--- `reduce_rounds::products_together` meets its contract: the blocks of the products on each side are compared. Assumes nothing.
+-- `reduce_round_blocks::products_together` meets its contract: the blocks of the products on each side are compared. Assumes nothing.
 use Prim.Native.Nat.{_<_}
 use native.Mathlib.Omega.{arith}
 use borrow.Author.Needs.{needs}
 use Rattle.rule_table.proofs.Facts.{table-place, product-below}
 use Rattle.reduce_first_round.proofs.Products.{letter-below, right-apart, left-apart, both-together}
-use Rattle.reduce_rounds.proofs.products_together.Statement.{statement}
-use Rattle.reduce_rounds.proofs.products_together.Tie as tie
+use Rattle.reduce_round_blocks.proofs.products_together.Statement.{statement}
+use Rattle.reduce_round_blocks.proofs.products_together.Tie as tie
 
 image-requires : tie.Need-image-requires
 image-requires c κs = search needs

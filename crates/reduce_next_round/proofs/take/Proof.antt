@@ -1,11 +1,11 @@
--- `reduce_rounds::take` meets its contract: the blocks that were passed are taken over. Assumes nothing.
+-- `reduce_next_round::take` meets its contract: the blocks that were passed are taken over. Assumes nothing.
 use Prim.Native.Nat.{_-_}
 use native.Mathlib.Omega.{arith}
 use Rattle.scratch.proofs.Unchanged.{unchanged-room}
-use Rattle.reduce_rounds.specs.Rounds.{TakenOver}
-use Rattle.reduce_rounds.proofs.Taking.{taken-none, taken-more, taken-all}
-use Rattle.reduce_rounds.proofs.take.Statement.{statement}
-use Rattle.reduce_rounds.proofs.take.Tie as tie
+use Rattle.reduce_next_round.specs.Round.{TakenOver}
+use Rattle.reduce_next_round.proofs.Taking.{taken-none, taken-more, taken-all}
+use Rattle.reduce_next_round.proofs.take.Statement.{statement}
+use Rattle.reduce_next_round.proofs.take.Tie as tie
 
 abbrev Inv-loop : tie.InvT-loop
 Inv-loop n scratch₀ s₀ scratch s = TakenOver s scratch₀ scratch

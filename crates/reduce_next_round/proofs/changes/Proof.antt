@@ -1,10 +1,10 @@
--- `reduce_rounds::changes` meets its contract: the elements that were passed keep their blocks. Assumes nothing.
+-- `reduce_next_round::changes` meets its contract: the elements that were passed keep their blocks. Assumes nothing.
 use Prim.Native.Nat.{_-_}
 use native.Mathlib.Omega.{arith}
 use borrow.Author.Needs.{needs}
-use Rattle.reduce_rounds.proofs.Taking.{SameBelow, same-none, same-more, change-found, no-change}
-use Rattle.reduce_rounds.proofs.changes.Statement.{statement}
-use Rattle.reduce_rounds.proofs.changes.Tie as tie
+use Rattle.reduce_next_round.proofs.Taking.{SameBelow, same-none, same-more, change-found, no-change}
+use Rattle.reduce_next_round.proofs.changes.Statement.{statement}
+use Rattle.reduce_next_round.proofs.changes.Tie as tie
 
 abbrev Inv-loop : tie.InvT-loop
 Inv-loop n scratch s₀ s = SameBelow s scratch

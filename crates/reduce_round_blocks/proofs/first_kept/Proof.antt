@@ -1,4 +1,4 @@
--- `reduce_rounds::first_kept` meets its contract: no element that was passed is kept together with s. Assumes nothing.
+-- `reduce_round_blocks::first_kept` meets its contract: no element that was passed is kept together with s. Assumes nothing.
 use Prim.Native.Nat.{_-_}
 use native.Mathlib.Omega.{arith}
 use Rattle.formats.specs.Table.{morphismAt}
@@ -6,8 +6,8 @@ use Rattle.theory.specs.Rounds.{StillTogether}
 use Rattle.reduce_first_round.specs.Map.{InOneBlock}
 use Rattle.reduce_first_round.proofs.BlockBytes.{NoneBelow, none-start, none-next, none-found, none-all}
 use Rattle.reduce_first_round.proofs.Products.{still-refl}
-use Rattle.reduce_rounds.proofs.first_kept.Statement.{statement}
-use Rattle.reduce_rounds.proofs.first_kept.Tie as tie
+use Rattle.reduce_round_blocks.proofs.first_kept.Statement.{statement}
+use Rattle.reduce_round_blocks.proofs.first_kept.Tie as tie
 
 abbrev Inv-loop : tie.InvT-loop
 Inv-loop rule n k scratch s t₀ t = NoneBelow (StillTogether (morphismAt rule n k) (InOneBlock scratch)) s t

@@ -13,7 +13,7 @@ use Rattle.finite.proofs.Tells.{told-yes, told-no}
 use Rattle.scratch.specs.Map.{blocksBase, nextBlocksBase}
 use Rattle.scratch.proofs.Unchanged.{unchanged-none, unchanged-both, unchanged-set}
 use Rattle.formats.specs.RuleChecks.{scratchSize}
-use Rattle.reduce_rounds.specs.Rounds.{BlockChanges, TakenOver}
+use Rattle.reduce_next_round.specs.Round.{BlockChanges, TakenOver}
 
 -- the blocks of the first s elements do not change
 pub record SameBelow (s : ℕ) (l : List ℕ) : Type 0 where

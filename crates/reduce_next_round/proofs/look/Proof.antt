@@ -1,8 +1,8 @@
--- `reduce_rounds::look` meets its contract: the new blocks are worked out and compared. Assumes nothing.
+-- `reduce_next_round::look` meets its contract: the new blocks are worked out and compared. Assumes nothing.
 use borrow.Author.Needs.{needs}
-use Rattle.reduce_rounds.proofs.Settling.{round-seen}
-use Rattle.reduce_rounds.proofs.look.Statement.{statement}
-use Rattle.reduce_rounds.proofs.look.Tie as tie
+use Rattle.reduce_next_round.proofs.Looking.{round-seen}
+use Rattle.reduce_next_round.proofs.look.Statement.{statement}
+use Rattle.reduce_next_round.proofs.look.Tie as tie
 
 next-blocks-requires : tie.Need-next-blocks-requires
 next-blocks-requires c κs = search needs

@@ -1,4 +1,4 @@
--- `reduce_rounds::next_blocks` meets its contract: the elements that were passed have their new blocks. Assumes nothing.
+-- `reduce_round_blocks::next_blocks` meets its contract: the elements that were passed have their new blocks. Assumes nothing.
 use Prim.Native.Nat.{_-_}
 use native.Mathlib.Omega.{arith}
 use Rattle.scratch.specs.Map.{nextBlocksBase}
@@ -9,8 +9,8 @@ use Rattle.reduce_first_round.specs.Steps.{BlocksWritten}
 use Rattle.scratch.proofs.Unchanged.{unchanged-room}
 use Rattle.reduce_first_round.proofs.BlockBytes.{written-none, written-all}
 use Rattle.reduce_first_round.proofs.Writing.{next-more}
-use Rattle.reduce_rounds.proofs.next_blocks.Statement.{statement}
-use Rattle.reduce_rounds.proofs.next_blocks.Tie as tie
+use Rattle.reduce_round_blocks.proofs.next_blocks.Statement.{statement}
+use Rattle.reduce_round_blocks.proofs.next_blocks.Tie as tie
 
 abbrev Inv-loop : tie.InvT-loop
 Inv-loop rule n k scratch₀ s₀ scratch s = BlocksWritten s (StillTogether (morphismAt rule n k) (InOneBlock scratch₀)) nextBlocksBase scratch₀ scratch

@@ -1,12 +1,12 @@
--- `reduce_rounds::still_together` meets its contract: the letters that were passed keep the elements together. Assumes nothing.
+-- `reduce_round_blocks::still_together` meets its contract: the letters that were passed keep the elements together. Assumes nothing.
 use Prim.Native.Nat.{_-_}
 use native.Mathlib.Omega.{arith}
 use borrow.Author.Tests.{not-true, not-false}
 use Rattle.formats.specs.Table.{morphismAt}
 use Rattle.reduce_first_round.specs.Map.{InOneBlock}
 use Rattle.reduce_first_round.proofs.Products.{TogetherBelow, still-not, still-start, still-next, still-parted, still-all}
-use Rattle.reduce_rounds.proofs.still_together.Statement.{statement}
-use Rattle.reduce_rounds.proofs.still_together.Tie as tie
+use Rattle.reduce_round_blocks.proofs.still_together.Statement.{statement}
+use Rattle.reduce_round_blocks.proofs.still_together.Tie as tie
 
 abbrev Inv-loop : tie.InvT-loop
 Inv-loop rule n k scratch s t a₀ a = TogetherBelow (morphismAt rule n k) (InOneBlock scratch) s t a
