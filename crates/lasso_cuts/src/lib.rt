@@ -6,7 +6,7 @@ use rule_table::image;
 use rule_table::product;
 use scratch::BEGINNINGS_BASE;
 use scratch::ENDS_BASE;
-use sections::greatest;
+use section_bounds::greatest;
 ghost use mathlib.Core.Path.{_≡_};
 ghost use Prim.Native.Nat.{_+_, _≤_};
 ghost use lib.ListN.{length};

@@ -9,9 +9,9 @@ use lib.ListN.{length, getD}
 use Rattle.answer.specs.declared.Refusal.the-variants.{UnknownLetter, WordLength}
 use Rattle.answer.specs.Checks.{Check, refused, FirstFailure}
 use Rattle.answer.proofs.Order.{first-passes, first-fails, none-left}
-use Rattle.sections.specs.declared.Found.{Found}
-use Rattle.sections.specs.declared.Found.the-variants.{At, Nothing}
-use Rattle.sections.specs.Answers.{FoundOut}
+use Rattle.section_bounds.specs.declared.Found.{Found}
+use Rattle.section_bounds.specs.declared.Found.the-variants.{At, Nothing}
+use Rattle.section_bounds.specs.Answers.{FoundOut}
 use Rattle.formats.proofs.Sections.{FirstOut}
 use Rattle.formats.specs.WordChecks.{shortestStart, shortestCycle, longestWord, LengthOutAt, UnknownLetterAt, lassoChecks}
 use Rattle.lasso_words.specs.Answers.{GoodLasso}

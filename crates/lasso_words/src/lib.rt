@@ -1,7 +1,7 @@
 // The words of a call: their lengths, then their letters.
 use answer::Refusal;
-use sections::Found;
-use sections::first_out;
+use section_bounds::Found;
+use section_bounds::first_out;
 ghost use Rattle.lasso_words.specs.Answers.{LassoAnswer};
 
 // The first check of two words that fails.

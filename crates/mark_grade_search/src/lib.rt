@@ -2,7 +2,7 @@
 // first marking has is not searched, for a cycle that escapes there escapes at the next higher one.
 use mark_search::Escape;
 use mark_search::first_escape;
-use sections::greater;
+use section_bounds::greater;
 ghost use mathlib.Core.Path.{_≡_};
 ghost use Prim.Native.Nat.{_+_, _≤_, _<_};
 ghost use lib.ListN.{length};

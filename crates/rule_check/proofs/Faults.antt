@@ -9,8 +9,8 @@ use Rattle.answer.specs.declared.Refusal.{Refusal}
 use Rattle.answer.specs.declared.Refusal.the-variants.{NotAssociative, Unreachable, TrailingBytes}
 use Rattle.answer.specs.Checks.{Check, Verdict, passed, numbered, refused, FirstFailure}
 use Rattle.answer.proofs.Order.{first-passes, first-fails, none-left, refused-before, passed-before}
-use Rattle.sections.specs.declared.Found.{Found}
-use Rattle.sections.specs.declared.Found.the-variants.{At, Nothing}
+use Rattle.section_bounds.specs.declared.Found.{Found}
+use Rattle.section_bounds.specs.declared.Found.the-variants.{At, Nothing}
 use Rattle.theory.specs.Rules.{Morphism}
 use Rattle.rule_table.specs.declared.Triple.{Triple}
 use Rattle.rule_table.specs.declared.Triple.the-variants.{At as Triple-at, Nothing as No-triple}

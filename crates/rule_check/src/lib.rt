@@ -13,7 +13,7 @@ use rule_reach::reach;
 use rule_table::Triple;
 use rule_table::first_not_associative;
 use scratch::MARK_TABLE_SIZE;
-use sections::Found;
+use section_bounds::Found;
 use sections::zero;
 use sections::zero_part;
 ghost use mathlib.Core.Path.{_≡_};

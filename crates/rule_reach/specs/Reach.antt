@@ -6,8 +6,8 @@ use lib.ListN.{length, getD}
 use Rattle.finite.proofs.FirstWords.{FirstOrder}
 use Rattle.theory.specs.Rules.{Morphism, Value, none, element, join}
 use Rattle.formats.specs.Table.{morphismAt}
-use Rattle.sections.specs.declared.Found.{Found}
-use Rattle.sections.specs.declared.Found.the-variants.{At, Nothing}
+use Rattle.section_bounds.specs.declared.Found.{Found}
+use Rattle.section_bounds.specs.declared.Found.the-variants.{At, Nothing}
 
 -- entry 0 is the empty word; entry i + 1 has its element at byte i
 unfoldable pub entryAt : List ℕ → ℕ → Value

@@ -6,7 +6,7 @@
 // of element s, or 0 while s is not found.
 use rule_table::image;
 use rule_table::product;
-use sections::Found;
+use section_bounds::Found;
 ghost use mathlib.Core.Path.{_≡_};
 ghost use Prim.Native.Nat.{_≤_};
 ghost use lib.ListN.{length};

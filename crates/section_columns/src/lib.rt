@@ -1,6 +1,6 @@
 // Triples of bytes by their columns: mostly every byte of many triples is in its range, and the greatest and the least byte of each column
 // tell so faster than a search.
-use sections::greater;
+use section_bounds::greater;
 ghost use mathlib.Core.Path.{_≡_};
 ghost use mathlib.Core.Bool.{true};
 ghost use Prim.Native.Nat.{_+_, _*_, _≤_};

@@ -9,9 +9,9 @@ use lib.Dec.{eqb}
 use lib.ListN.{getD}
 use Rattle.formats.specs.Sections.{InRange}
 use Rattle.formats.proofs.Sections.{FirstOut, AllInRange}
-use Rattle.sections.proofs.Laws.{one-more-in, out-first, from-zero, found-at}
-use Rattle.sections.specs.declared.Found.{Found}
-use Rattle.sections.specs.declared.Found.the-variants.{At}
+use Rattle.section_bounds.proofs.Laws.{one-more-in, out-first, from-zero, found-at}
+use Rattle.section_bounds.specs.declared.Found.{Found}
+use Rattle.section_bounds.specs.declared.Found.the-variants.{At}
 use Rattle.formats.proofs.Triples.{first-of, second-of, third-of, by-triples}
 use Rattle.section_columns.specs.Triples.{SomeTriplesIn}
 use Rattle.section_triples.specs.Ranges.{TripleRanges, TriplesFound}

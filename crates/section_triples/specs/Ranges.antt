@@ -2,9 +2,10 @@
 use Prim.Native.Nat.{ℕ, _+_, _*_}
 use mathlib.Core.Path.{_≡_}
 use mathlib.Core.List.{List}
-use Rattle.sections.specs.declared.Found.{Found}
+use Rattle.section_bounds.specs.declared.Found.{Found}
 use Rattle.sections.specs.declared.Counted.{Counted}
-use Rattle.sections.specs.Answers.{FoundOut, EntriesAnswer}
+use Rattle.section_bounds.specs.Answers.{FoundOut}
+use Rattle.sections.specs.Answers.{EntriesAnswer}
 
 -- ranges that go by the byte's place in its triple; only the third byte has a floor
 pub record TripleRanges (floor bound : ℕ → ℕ) (first second third least : ℕ) : Type 0 where

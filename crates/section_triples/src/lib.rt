@@ -1,8 +1,8 @@
 // Entries that are triples of bytes, after a count of two bytes: the marks of a rule file, and the transitions of an automaton file.
 use answer::Refusal;
+use section_bounds::Found;
 use section_columns::triples_in;
 use sections::Counted;
-use sections::Found;
 ghost use Prim.Native.Nat.{_+_, _*_, _≤_, _<_, _^_};
 ghost use lib.ListN.{length};
 ghost use Rattle.section_triples.specs.Ranges.{TriplesFound, TriplesAnswer};

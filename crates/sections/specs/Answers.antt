@@ -4,23 +4,16 @@ use mathlib.Core.Path.{_≡_}
 use mathlib.Core.List.{List}
 use lib.ListN.{getD}
 use Rattle.answer.specs.Checks.{passed, refused, FirstFailure}
-use Rattle.sections.specs.declared.Found.{Found}
-use Rattle.sections.specs.declared.Found.the-variants.{At, Nothing}
 use Rattle.sections.specs.declared.Counted.{Counted}
 use Rattle.sections.specs.declared.Counted.the-variants.{Read, Refused}
 use Rattle.formats.specs.Sections.{CountWidth, Section, countAt, countChecks, entryChecks, sectionChecks}
-use Rattle.formats.proofs.Sections.{AllInRange, CountGood, EntriesGood, FirstOut}
+use Rattle.formats.proofs.Sections.{CountGood, EntriesGood}
 use Rattle.scratch.specs.Bytes.{UnchangedOutside}
 
 -- a part was filled with zeros, and nothing else changed
 pub record PartZeroed (from to : ℕ) (entry exit : List ℕ) : Type 0 where
   pub zeros : (i : ℕ) → from ≤ i → i < to → getD exit i 0 ≡ 0
   pub outside : UnchangedOutside from to entry exit
-
--- the first byte out of its range, or all are in theirs
-abbrev pub FoundOut : List ℕ → ℕ → ℕ → (ℕ → ℕ) → (ℕ → ℕ) → Found → Type 0
-FoundOut bytes from count floor bound (At i) = FirstOut bytes from count floor bound i
-FoundOut bytes from count floor bound Nothing = AllInRange bytes from count floor bound
 
 -- reading a count: the count, or the first of its checks that fails, whatever the number of the input
 abbrev pub CountAnswer : CountWidth → ℕ → ℕ → ℕ → List ℕ → Counted → Type 0

@@ -1,12 +1,13 @@
 // Sections of the file formats: a count, then as many bytes as it asks for, each naming something that exists. What is left
 // of a file is handed on as a part of the lent bytes, with the place where that part begins.
 use answer::Refusal;
+use section_bounds::Found;
+use section_bounds::first_out;
 ghost use mathlib.Core.Path.{_≡_};
 ghost use Prim.Native.Nat.{_+_, _≤_, _<_, _^_};
 ghost use lib.ListN.{length, replicate};
 ghost use Rattle.formats.specs.Sections.{one-byte, two-byte};
-ghost use Rattle.formats.proofs.Sections.{AllInRange};
-ghost use Rattle.sections.specs.Answers.{PartZeroed, FoundOut, CountAnswer, EntriesAnswer};
+ghost use Rattle.sections.specs.Answers.{PartZeroed, CountAnswer, EntriesAnswer};
 
 // Fills a part of a lent buffer with zeros.
 pub fn zero_part(s: &mut [u8], from: usize, to: usize)
@@ -24,60 +25,6 @@ pub fn zero(s: &mut [u8])
 {
     let end = s.len();
     zero_part(s, 0, end);
-}
-
-// The greater of two bytes.
-pub fn greater(x: u8, y: u8) -> u8
-    ensures { λ r. ⌜ (x ≤ r) × (y ≤ r) ⌝ }
-{
-    if x < y {
-        return y;
-    }
-    x
-}
-
-// A byte that none of some bytes is above.
-pub fn greatest(s: &[u8], from: usize, count: usize) -> u8
-    requires { ⌜ from + count ≤ length (now s) ⌝ }
-    ensures { λ r. ⌜ AllInRange (now (s .entry)) from count (λ i. 0) (λ i. r + 1) ⌝ }
-{
-    let mut top = 0u8;
-    for i in 0..count {
-        let x = s[from + i];
-        top = greater(top, x);
-    }
-    top
-}
-
-// The first of some bytes that is not below a bound.
-pub enum Found {
-    At(usize),
-    Nothing,
-}
-
-// The same, byte by byte.
-fn scan_out(s: &[u8], from: usize, count: usize, bound: usize) -> Found
-    requires { ⌜ from + count ≤ length (now s) ⌝ }
-    ensures { λ r. ⌜ FoundOut (now (s .entry)) from count (λ i. 0) (λ i. bound) r ⌝ }
-{
-    for i in 0..count {
-        if bound <= s[from + i] as usize {
-            return Found::At(i);
-        }
-    }
-    Found::Nothing
-}
-
-// Mostly there is none, and the greatest of the bytes tells so faster than a search.
-pub fn first_out(s: &[u8], from: usize, count: usize, bound: usize) -> Found
-    requires { ⌜ from + count ≤ length (now s) ⌝ }
-    ensures { λ r. ⌜ FoundOut (now (s .entry)) from count (λ i. 0) (λ i. bound) r ⌝ }
-{
-    let top = greatest(s, from, count) as usize;
-    if top < bound {
-        return Found::Nothing;
-    }
-    scan_out(s, from, count, bound)
 }
 
 // A section's count, or the first of its checks that fails.

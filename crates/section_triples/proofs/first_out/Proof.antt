@@ -5,7 +5,7 @@ use mathlib.Core.Logic.{inl, inr}
 use native.Mathlib.Omega.{arith}
 use borrow.Author.Needs.{needs}
 use mir.Facts.{fits-8-64}
-use Rattle.sections.proofs.Laws.{all-in}
+use Rattle.section_bounds.proofs.Laws.{all-in}
 use Rattle.section_triples.proofs.TripleBytes.{TriplesPassed, known-passed, beyond-first, beyond-second, beyond-third, triple-good}
 use Rattle.section_triples.proofs.first_out.Statement.{statement}
 use Rattle.section_triples.proofs.first_out.Tie as tie

@@ -5,7 +5,7 @@ use mathlib.Core.Path.{refl}
 use native.Mathlib.Omega.{arith}
 use borrow.Author.Needs.{needs}
 use Rattle.formats.proofs.Sections.{FirstOut, entries-cut, entries-out}
-use Rattle.sections.proofs.Laws.{found-at, found-nothing}
+use Rattle.section_bounds.proofs.Laws.{found-at, found-nothing}
 use Rattle.section_triples.specs.Ranges.{TripleRanges}
 use Rattle.section_triples.proofs.TripleBytes.{found-below}
 use Rattle.section_triples.proofs.triples.Statement.{statement}

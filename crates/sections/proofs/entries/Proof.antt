@@ -4,7 +4,8 @@ use mathlib.Core.Path.{refl}
 use native.Mathlib.Omega.{arith}
 use borrow.Author.Needs.{needs}
 use Rattle.formats.proofs.Sections.{FirstOut, entries-out}
-use Rattle.sections.proofs.Laws.{entries-cut-answer, found-at, found-nothing}
+use Rattle.section_bounds.proofs.Laws.{found-at, found-nothing}
+use Rattle.sections.proofs.Laws.{entries-cut-answer}
 use Rattle.sections.proofs.entries.Statement.{statement}
 use Rattle.sections.proofs.entries.Tie as tie
 

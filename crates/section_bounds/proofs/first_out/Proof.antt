@@ -1,8 +1,8 @@
--- `sections::first_out` meets its contract: where the greatest of the bytes is below the bound all are; else the search answers. Assumes nothing.
+-- `section_bounds::first_out` meets its contract: where the greatest of the bytes is below the bound all are; else the search answers. Assumes nothing.
 use borrow.Author.Needs.{needs}
-use Rattle.sections.proofs.Laws.{under-bound}
-use Rattle.sections.proofs.first_out.Statement.{statement}
-use Rattle.sections.proofs.first_out.Tie as tie
+use Rattle.section_bounds.proofs.Laws.{under-bound}
+use Rattle.section_bounds.proofs.first_out.Statement.{statement}
+use Rattle.section_bounds.proofs.first_out.Tie as tie
 
 greatest-requires : tie.Need-greatest-requires
 greatest-requires c κs = search needs

@@ -1,12 +1,12 @@
--- `sections::scan_out` meets its contract: the loop passes only bytes below the bound, so a byte that stops it is the first
+-- `section_bounds::scan_out` meets its contract: the loop passes only bytes below the bound, so a byte that stops it is the first
 -- that is not, and where none does all are below it. Assumes nothing.
 use Prim.Native.Nat.{_≤_, _+_, _-_}
 use mathlib.Core.Logic.{inr}
 use native.Mathlib.Omega.{arith}
 use Rattle.formats.proofs.Sections.{AllInRange}
-use Rattle.sections.proofs.Laws.{none-out, from-zero, one-more-in, out-first, all-in}
-use Rattle.sections.proofs.scan_out.Statement.{statement}
-use Rattle.sections.proofs.scan_out.Tie as tie
+use Rattle.section_bounds.proofs.Laws.{none-out, from-zero, one-more-in, out-first, all-in}
+use Rattle.section_bounds.proofs.scan_out.Statement.{statement}
+use Rattle.section_bounds.proofs.scan_out.Tie as tie
 
 abbrev Inv-loop : tie.InvT-loop
 Inv-loop s from count bound i₀ i = AllInRange s from i (λ j. 0) (λ j. bound) × (i ≤ count)

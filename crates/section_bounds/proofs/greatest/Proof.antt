@@ -1,11 +1,11 @@
--- `sections::greatest` meets its contract: no byte that was passed is above the greatest so far. Assumes nothing.
+-- `section_bounds::greatest` meets its contract: no byte that was passed is above the greatest so far. Assumes nothing.
 use Prim.Native.Nat.{_≤_, _+_, _-_}
 use native.Mathlib.Omega.{arith}
 use borrow.Author.Needs.{needs}
 use Rattle.formats.proofs.Sections.{AllInRange}
-use Rattle.sections.proofs.Laws.{none-out, all-in, raised-below}
-use Rattle.sections.proofs.greatest.Statement.{statement}
-use Rattle.sections.proofs.greatest.Tie as tie
+use Rattle.section_bounds.proofs.Laws.{none-out, all-in, raised-below}
+use Rattle.section_bounds.proofs.greatest.Statement.{statement}
+use Rattle.section_bounds.proofs.greatest.Tie as tie
 
 abbrev Inv-loop : tie.InvT-loop
 Inv-loop s from count top₀ i₀ top i = AllInRange s from i (λ j. 0) (λ j. top + 1) × (i ≤ count)
