@@ -13,7 +13,7 @@
 //!
 //! The calls of this page work in buffers that are lent to them. [`owned`] has the same calls with results of their own,
 //! [`RuleMonitor`] a monitor with its rule, [`RuleBoard`] a board with its rules, and [`RuleAutomaton`] a rule's own automaton; [`files`]
-//! has rules and automata as values, [`text`] their texts, [`words`] refusals in words.
+//! has rules and automata as values, [`text`] their texts, [`letters`] how the letters of two rules meet, [`words`] refusals in words.
 //!
 //! Every call takes any bytes, of any length: what is wrong with them is answered as a [`Refused`]. Calls that get a rule are
 //! lent a scratch of [`SCRATCH`] bytes or more, and leave it as zeros. After a refusal the result buffers keep every byte; where
@@ -40,6 +40,7 @@ mod combinations;
 pub mod exchange;
 pub mod files;
 mod lassos;
+pub mod letters;
 mod markings;
 mod monitors;
 pub mod owned;

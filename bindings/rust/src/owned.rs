@@ -97,6 +97,31 @@ pub fn check(rule: &[u8]) -> Result<(), Explained> {
     checked(rule).map_err(|refused| explain(refused, Asked::Rule(rule)))
 }
 
+/// Whether both are rules, and those that are to be strong are: refused in the words of a call that gets both.
+pub fn check_two(first: &[u8], second: &[u8], to_be_strong: [bool; 2]) -> Result<(), Explained> {
+    let fault = |input: u8, refused: crate::Refused| {
+        explain(
+            crate::Refused { input, ..refused },
+            Asked::TwoRules { first, second },
+        )
+    };
+    let rules = [(1, first), (2, second)];
+    for (input, rule) in rules {
+        checked(rule).map_err(|refused| fault(input, refused))?;
+    }
+    for ((input, rule), _) in rules
+        .into_iter()
+        .zip(to_be_strong)
+        .filter(|(_, strong)| *strong)
+    {
+        let mut out = vec![0; RULE_OUT];
+        // Complements are of strong rules only, and a weak one is refused as every other call does.
+        let complement = crate::complement(rule, &mut out, &mut scratch());
+        complement.map_err(|refused| fault(input, refused))?;
+    }
+    Ok(())
+}
+
 /// A mark of a monitor that saw nothing changes nothing, so that the checks of the rule are all that the call does.
 pub(crate) fn checked(rule: &[u8]) -> Result<(), crate::Refused> {
     match crate::mark(rule, crate::fresh(), &mut scratch()) {

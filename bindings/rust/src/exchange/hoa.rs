@@ -8,8 +8,8 @@ use std::collections::BTreeMap;
 
 const SIGNS: Signs = Signs { and: "&", or: "|" };
 
-/// A line of the header that only this library writes: how many valuations, the first ones, are letters. By the format's rules others
-/// pass over it, since it begins with a small letter.
+/// A line of the header that only this library writes: how many valuations, the first ones, are letters, and their names if they have
+/// any. By the format's rules others pass over it, since it begins with a small letter.
 pub const LETTERS: &str = "duknavet-letters";
 
 /// What the header says.
@@ -19,12 +19,13 @@ struct Header {
     aliases: BTreeMap<String, Valuations>,
     /// Whether every endless run accepts, as with the acceptance `0 t`.
     all_accept: Option<bool>,
-    /// How many of the valuations are letters, where the file says it.
-    letters: Option<(usize, Place)>,
+    /// How many of the valuations are letters, where the file says it, and their names, if they have any.
+    letters: Option<(usize, Vec<String>, Place)>,
 }
 
-/// What was read: the states and transitions, the propositions, and how many valuations are letters, where that is not all.
-pub type Read = (Graph, Vec<String>, Option<usize>);
+/// What was read: the states and transitions, the propositions, and how many valuations are letters and their names, where the file
+/// says it.
+pub type Read = (Graph, Vec<String>, Option<(usize, Vec<String>)>);
 
 pub fn read(text: &str) -> Result<Read, TextError> {
     let mut scanner = Scanner::new(text);
@@ -46,14 +47,15 @@ pub fn read(text: &str) -> Result<Read, TextError> {
             graph.accept(state);
         }
     }
-    if let Some((letters, place)) = header.letters {
+    if let Some((letters, _, place)) = &header.letters {
+        let (letters, place) = (*letters, *place);
         let valuations = 1 << header.propositions.len();
         if letters == 0 || letters > valuations {
             let message = format!("{letters} letters, but there are {valuations} valuations");
             return Err(TextError::new(place, message));
         }
     }
-    let letters = header.letters.map(|(letters, _)| letters);
+    let letters = header.letters.map(|(letters, names, _)| (letters, names));
     match scanner.peek() {
         None => Ok((graph, header.propositions, letters)),
         Some(_) => Err(scanner.fault("expected the end: one automaton a file")),
@@ -96,7 +98,7 @@ fn read_header(scanner: &mut Scanner, graph: &mut Graph) -> Result<Header, TextE
                 let set = read_condition(scanner, &header)?;
                 header.aliases.insert(name, set);
             }
-            LETTERS => header.letters = Some((scanner.number("the count of the letters")?, place)),
+            LETTERS => header.letters = Some(read_letters(scanner, place)?),
             "Acceptance" => header.all_accept = Some(read_acceptance(scanner)?),
             other if other.starts_with(|first: char| first.is_uppercase()) => {
                 let message = format!("`{other}:` is not read here");
@@ -106,6 +108,25 @@ fn read_header(scanner: &mut Scanner, graph: &mut Graph) -> Result<Header, TextE
         }
     }
     Ok(header)
+}
+
+/// How many letters there are, and a name for each or for none.
+fn read_letters(
+    scanner: &mut Scanner,
+    place: Place,
+) -> Result<(usize, Vec<String>, Place), TextError> {
+    let letters = scanner.number("the count of the letters")?;
+    let mut names = Vec::new();
+    while scanner.peek() == Some('"') {
+        names.push(scanner.string()?);
+    }
+    match names.is_empty() || names.len() == letters {
+        true => Ok((letters, names, place)),
+        false => {
+            let message = format!("{letters} letters, but {} names", names.len());
+            Err(TextError::new(place, message))
+        }
+    }
 }
 
 /// Passes over what a line of the header says that changes no meaning.

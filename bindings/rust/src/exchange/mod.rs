@@ -17,7 +17,7 @@ mod scanner;
 pub use print::{print_hoa, print_rule_hoa};
 
 use crate::files::Automaton;
-use crate::text::TextError;
+use crate::text::{Names, Place, TextError};
 
 /// A format of other tools.
 #[derive(Clone, Copy, Debug, PartialEq, Eq, Hash)]
@@ -35,13 +35,18 @@ pub struct Foreign {
     pub automaton: Automaton,
     /// The propositions, the first that of the lowest bit.
     pub propositions: Vec<String>,
+    /// How its letters are called: as valuations of the propositions, unless these were invented for letters.
+    pub names: Names,
     /// How many states the file has; those of transitions that accept count once.
     pub states: usize,
 }
 
 impl Foreign {
-    /// What each letter stands for, a line each.
+    /// What each letter stands for, a line each; none where letters have names.
     pub fn notes(&self) -> Vec<String> {
+        if self.names.as_letters().is_some() {
+            return Vec::new();
+        }
         let letters = 0..usize::from(self.automaton.letters);
         let note =
             |letter: usize| format!("letter {letter}: {}", valuation(letter, &self.propositions));
@@ -60,6 +65,16 @@ fn valuation(letter: usize, propositions: &[String]) -> String {
         true => "any event".to_string(),
         false => literals.join(" & "),
     }
+}
+
+/// How letters are called, by the propositions or by the names that the file gives to letters.
+fn names_of(propositions: &[String], letters: Option<Vec<String>>) -> Result<Names, TextError> {
+    let names = match letters {
+        None => Names::propositions(propositions),
+        Some(names) => Names::letters(&names),
+    };
+    let start = Place { line: 1, column: 1 };
+    names.map_err(|message| TextError::new(start, message))
 }
 
 /// The format that bytes begin as: `HOA:`, or `never` and white space or a brace.
@@ -82,9 +97,12 @@ pub fn read(bytes: &[u8]) -> Result<Foreign, TextError> {
         _ => hoa::read(text)?,
     };
     let all = 1_u8 << propositions.len().min(4);
-    let letters = letters.map_or(all, |some| all.min(some as u8));
+    let count = letters
+        .as_ref()
+        .map_or(all, |(some, _)| all.min(*some as u8));
     Ok(Foreign {
-        automaton: graph.automaton(letters)?,
+        automaton: graph.automaton(count)?,
+        names: names_of(&propositions, letters.map(|(_, names)| names))?,
         propositions,
         states: graph.states(),
     })

@@ -69,6 +69,15 @@ impl Rule {
         })
     }
 
+    /// The rule with other letters, each acting as one of its own; none where one of these is no letter of it.
+    pub fn with_letters(&self, acts_as: &[u8]) -> Option<Rule> {
+        let image = |letter: &u8| self.images.get(usize::from(*letter)).copied();
+        Some(Rule {
+            images: acts_as.iter().map(image).collect::<Option<_>>()?,
+            ..self.clone()
+        })
+    }
+
     /// The product a·b; none where there is no such element.
     pub fn product(&self, a: u8, b: u8) -> Option<u8> {
         if a >= self.elements || b >= self.elements {

@@ -56,7 +56,7 @@ pub fn page(bytes: &[u8], names: &Names, title: &str) -> Result<String, Explaine
         }
     }
     let letters = (0..=u8::MAX).zip(&rule.images).map(|(letter, image)| {
-        let name = names.of(letter).unwrap_or("").to_string();
+        let name = names.of(letter).unwrap_or_default();
         vec![letter.to_string(), name, image.to_string()]
     });
     section(

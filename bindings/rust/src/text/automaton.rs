@@ -1,7 +1,8 @@
-//! The text of an automaton: `states`, their count and a kind each; `letters`, their count and their names, all or none;
-//! `transitions`, their count and for each the state it leaves, its letter and the state it goes to.
+//! The text of an automaton: the propositions, if letters are their valuations; `states`, their count and a kind each; `letters`, their
+//! count and their names, all or none; `transitions`, their count and for each the state it leaves, its letter and the state it goes to.
 
 use super::names::Names;
+use super::quotes::written;
 use super::read::{Kind, Parsed};
 use super::tokens::{TextError, Tokens};
 use crate::files::Automaton;
@@ -11,13 +12,14 @@ const KINDS: [&str; 4] = ["plain", "initial", "final", "both"];
 
 pub(super) fn read(tokens: &mut Tokens<'_>) -> Result<Parsed, TextError> {
     let mut parsed = Parsed::new();
+    parsed.names.read_declaration(tokens, "states")?;
     tokens.expect("states")?;
     let states = parsed.byte(tokens, "the count of the states")?;
     for state in 0..states {
         read_kind(tokens, &mut parsed, state)?;
     }
     tokens.expect("letters")?;
-    let letters = parsed.byte(tokens, "the count of the letters")?;
+    let letters = parsed.letter_count(tokens)?;
     let unnamed = |tokens: &Tokens<'_>| tokens.peek().is_none_or(|next| next.word == "transitions");
     if !unnamed(tokens) {
         for letter in 0..letters {
@@ -26,7 +28,7 @@ pub(super) fn read(tokens: &mut Tokens<'_>) -> Result<Parsed, TextError> {
                 return Err(tokens.fault(&wanted));
             }
             let name = tokens.next(&wanted)?;
-            parsed.names.add(Some(name))?;
+            parsed.names.add(letter, Some(name))?;
         }
     }
     tokens.expect("transitions")?;
@@ -36,9 +38,11 @@ pub(super) fn read(tokens: &mut Tokens<'_>) -> Result<Parsed, TextError> {
             tokens,
             &format!("the state that transition {transition} leaves"),
         )?;
-        let letter = tokens.next(&format!("the letter of transition {transition}"))?;
-        let number = parsed.names.read(letter)?;
-        parsed.push(number, letter.place);
+        let letter = tokens.peek().map(|token| token.place);
+        let place = letter
+            .ok_or_else(|| tokens.fault(&format!("the letter of transition {transition}")))?;
+        let number = parsed.names.read(tokens)?;
+        parsed.push(number, place);
         parsed.byte(
             tokens,
             &format!("the state that transition {transition} goes to"),
@@ -58,9 +62,9 @@ fn read_kind(tokens: &mut Tokens<'_>, parsed: &mut Parsed, state: usize) -> Resu
     parsed.byte(tokens, &wanted).map(|_| ())
 }
 
-/// The text of an automaton. Names are printed where every letter has one.
+/// The text of an automaton. Names are printed for every letter where one has a name; letters of propositions go by their numbers.
 pub fn print_automaton(automaton: &Automaton, names: &Names) -> String {
-    let mut text = Kind::Automaton.header();
+    let mut text = Kind::Automaton.header() + &names.declaration();
     let _ = writeln!(text, "states {}", automaton.kinds.len());
     for kind in &automaton.kinds {
         let _ = match KINDS.get(usize::from(*kind)) {
@@ -69,15 +73,15 @@ pub fn print_automaton(automaton: &Automaton, names: &Names) -> String {
         };
     }
     let _ = writeln!(text, "letters {}", automaton.letters);
-    let all: Option<Vec<&str>> = (0..automaton.letters).map(|own| names.of(own)).collect();
-    let named = all.filter(|all| !all.is_empty());
-    if let Some(all) = &named {
-        let _ = writeln!(text, "  {}", all.join(" "));
+    let named = names.as_letters().unwrap_or_default();
+    if !named.is_empty() {
+        let named: Vec<String> = named.iter().map(|name| written(name)).collect();
+        let _ = writeln!(text, "  {}", named.join(" "));
     }
     let _ = writeln!(text, "transitions {}", automaton.transitions.len());
     for transition in &automaton.transitions {
-        let name = names.of(transition.letter).filter(|_| named.is_some());
-        let letter = name.map_or_else(|| transition.letter.to_string(), str::to_string);
+        let name = names.written(transition.letter);
+        let letter = name.unwrap_or_else(|| transition.letter.to_string());
         let _ = writeln!(text, "  {} {letter} {}", transition.from, transition.to);
     }
     text

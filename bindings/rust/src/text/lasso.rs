@@ -1,8 +1,9 @@
-//! The text of a lasso: `u: 1 0  v: 0`, letters by name or number. `u:` may be left out with an empty start.
+//! The text of a lasso: `u: 1 0  v: 0`, letters by name, as valuations such as `a & !b`, or by number. `u:` may be left out with an
+//! empty start.
 
 use super::names::Names;
 use super::read::skip_lasso_header;
-use super::tokens::{decode, Place, TextError, Token, Tokens};
+use super::tokens::{decode, TextError, Tokens};
 use crate::files::Lasso;
 
 /// The lasso that a text says, its letters by the names or as numbers from 0 to 255.
@@ -21,17 +22,21 @@ pub fn read_lasso(bytes: &[u8], names: &Names) -> Result<Lasso, TextError> {
 
 fn read_word(tokens: &mut Tokens<'_>, names: &Names) -> Result<Vec<u8>, TextError> {
     let mut letters = Vec::new();
-    while let Some(token) = tokens.peek().filter(|token| !token.word.ends_with(':')) {
-        tokens.next("a letter")?;
-        letters.push(names.read(token)?);
+    while tokens
+        .peek()
+        .is_some_and(|token| !token.word.ends_with(':'))
+    {
+        letters.push(names.read(tokens)?);
     }
     Ok(letters)
 }
 
-/// The letter that a word is, by name or as a number from 0 to 255.
-pub fn read_letter(word: &str, names: &Names) -> Result<u8, TextError> {
-    let place = Place { line: 1, column: 1 };
-    names.read(Token { word, place })
+/// The letter that a text is: by name, as a valuation such as `a & !b`, or as a number from 0 to 255.
+pub fn read_letter(text: &str, names: &Names) -> Result<u8, TextError> {
+    let mut tokens = Tokens::of(text);
+    let letter = names.read(&mut tokens)?;
+    tokens.end()?;
+    Ok(letter)
 }
 
 /// The letters of a word, with a space between them.

@@ -2,8 +2,8 @@
 //!
 //! A text begins with a line such as `duknavet rule 1`; `#` begins a comment; everything else is words with white space between
 //! them, numbers in base ten. A text says the same as the bytes of a file, entry by entry, and reading it gives these bytes: a text
-//! whose entries are out of range reads well, and the call that gets its bytes refuses them. What a text has beyond the bytes is names
-//! of letters.
+//! whose entries are out of range reads well, and the call that gets its bytes refuses them. What a text has beyond the bytes is how
+//! letters are called: by names, or as valuations of propositions.
 //!
 //! No bytes of a rule, an automaton or a marks section that pass the checks begin as a text does: their first byte is a count of at
 //! most 64 elements or 6 states, or with the second one a count of at most 4,096 marks, and the letters `du` are 100 and 117. Nor do those
@@ -14,6 +14,7 @@ mod lasso;
 mod map;
 mod marks;
 mod names;
+mod quotes;
 mod read;
 mod rule;
 mod tokens;
@@ -22,7 +23,8 @@ pub use automaton::print_automaton;
 pub use lasso::{print_lasso, print_word, read_lasso, read_letter};
 pub use map::print_map;
 pub use marks::{grade_word, print_marks};
-pub use names::Names;
+pub use names::{Names, MOST_PROPOSITIONS};
+pub(crate) use quotes::{quoted, written};
 pub use read::{kind, read, Kind, Parsed};
 pub use rule::print_rule;
 pub(crate) use tokens::decode;

@@ -81,6 +81,16 @@ impl Parsed {
         Ok(number)
     }
 
+    /// Reads how many letters there are: of propositions, as many as these have valuations.
+    pub(super) fn letter_count(&mut self, tokens: &mut Tokens<'_>) -> Result<usize, TextError> {
+        let place = tokens.peek().map(|token| token.place);
+        let letters = self.byte(tokens, "the count of the letters")?;
+        if let Some(place) = place {
+            self.names.expect_count(letters, place)?;
+        }
+        Ok(letters)
+    }
+
     /// Reads a count of two bytes.
     pub(super) fn wide_count(
         &mut self,

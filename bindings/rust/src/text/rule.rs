@@ -1,5 +1,5 @@
-//! The text of a rule: `elements`, n and the products by rows; `letters`, k and for each letter its name, if it has one, and its
-//! element; the marks section.
+//! The text of a rule: the propositions, if letters are their valuations; `elements`, n and the products by rows; `letters`, k and for
+//! each letter its name, if it has one, and its element; the marks section.
 
 use super::marks;
 use super::names::Names;
@@ -10,6 +10,7 @@ use std::fmt::Write;
 
 pub(super) fn read(tokens: &mut Tokens<'_>) -> Result<Parsed, TextError> {
     let mut parsed = Parsed::new();
+    parsed.names.read_declaration(tokens, "elements")?;
     tokens.expect("elements")?;
     let elements = parsed.byte(tokens, "the count of the elements")?;
     for a in 0..elements {
@@ -18,7 +19,7 @@ pub(super) fn read(tokens: &mut Tokens<'_>) -> Result<Parsed, TextError> {
         }
     }
     tokens.expect("letters")?;
-    let letters = parsed.byte(tokens, "the count of the letters")?;
+    let letters = parsed.letter_count(tokens)?;
     for letter in 0..letters {
         let name = tokens
             .peek()
@@ -27,7 +28,7 @@ pub(super) fn read(tokens: &mut Tokens<'_>) -> Result<Parsed, TextError> {
         if name.is_some() {
             tokens.next(&wanted)?;
         }
-        parsed.names.add(name)?;
+        parsed.names.add(letter, name)?;
         parsed.byte(tokens, &wanted)?;
     }
     marks::read_section(tokens, &mut parsed)?;
@@ -36,7 +37,7 @@ pub(super) fn read(tokens: &mut Tokens<'_>) -> Result<Parsed, TextError> {
 
 /// The text of a rule.
 pub fn print_rule(rule: &Rule, names: &Names) -> String {
-    let mut text = Kind::Rule.header();
+    let mut text = Kind::Rule.header() + &names.declaration();
     let _ = writeln!(text, "elements {}", rule.elements);
     let widest = rule.products.iter().max().unwrap_or(&0).to_string().len();
     for row in rule.products.chunks(usize::from(rule.elements).max(1)) {
@@ -45,7 +46,7 @@ pub fn print_rule(rule: &Rule, names: &Names) -> String {
     }
     let _ = writeln!(text, "letters {}", rule.images.len());
     for (letter, image) in (0..=u8::MAX).zip(&rule.images) {
-        let _ = match names.of(letter) {
+        let _ = match names.written(letter) {
             Some(name) => writeln!(text, "  {name} {image}"),
             None => writeln!(text, "  {image}"),
         };

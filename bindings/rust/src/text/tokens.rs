@@ -1,5 +1,6 @@
 //! The words of a text, each with its line and column.
 
+use super::quotes::quoted_length;
 use std::fmt;
 
 /// A place in a text: its line, and the character of that line, both from 1.
@@ -67,7 +68,7 @@ pub(crate) struct Token<'a> {
     pub place: Place,
 }
 
-/// The words of a text from first to last. A colon ends a word and belongs to it.
+/// The words of a text from first to last; a name in quotes is one word.
 pub(crate) struct Tokens<'a> {
     words: Vec<Token<'a>>,
     next: usize,
@@ -78,8 +79,7 @@ impl<'a> Tokens<'a> {
     pub fn of(text: &'a str) -> Tokens<'a> {
         let mut words = Vec::new();
         for (line, content) in (1..).zip(text.split('\n')) {
-            let code = content.split('#').next().unwrap_or("");
-            words_of_line(code, line, &mut words);
+            words_of_line(content, line, &mut words);
         }
         Tokens {
             words,
@@ -156,29 +156,33 @@ pub(crate) fn whole_number(word: &str) -> Option<usize> {
     digits.then(|| word.parse().ok()).flatten()
 }
 
-fn words_of_line<'a>(code: &'a str, line: usize, words: &mut Vec<Token<'a>>) {
-    let mut begun: Option<(usize, usize)> = None;
-    for (column, (at, character)) in (1..).zip(code.char_indices()) {
-        let place = |column| Place { line, column };
-        if character.is_whitespace() || character == ':' {
-            let end = if character == ':' { at + 1 } else { at };
-            let (from, column) = match begun.take() {
-                Some(begun) => begun,
-                None if character == ':' => (at, column),
-                None => continue,
-            };
-            words.push(Token {
-                word: &code[from..end],
-                place: place(column),
-            });
-        } else if begun.is_none() {
-            begun = Some((at, column));
+fn words_of_line<'a>(content: &'a str, line: usize, words: &mut Vec<Token<'a>>) {
+    let (mut rest, mut column) = (content, 1);
+    while let Some(first) = rest.chars().next().filter(|first| *first != '#') {
+        let length = match first {
+            '"' => quoted_length(rest),
+            _ => word_length(rest, first),
+        };
+        let (word, behind) = rest.split_at(length);
+        if !first.is_whitespace() {
+            let place = Place { line, column };
+            words.push(Token { word, place });
         }
+        column += word.chars().count();
+        rest = behind;
     }
-    if let Some((from, column)) = begun {
-        words.push(Token {
-            word: &code[from..],
-            place: Place { line, column },
-        });
+}
+
+/// How many bytes the word has that begins a text; a blank is one by itself here, and so are `&` and `!`, which join and negate
+/// propositions. A colon ends a word and belongs to it.
+fn word_length(text: &str, first: char) -> usize {
+    if first.is_whitespace() || "&!:".contains(first) {
+        return first.len_utf8();
+    }
+    let ends = |own: char| own.is_whitespace() || "&!#\":".contains(own);
+    match text.find(ends) {
+        Some(end) if text[end..].starts_with(':') => end + 1,
+        Some(end) => end,
+        None => text.len(),
     }
 }

@@ -48,12 +48,22 @@ fn texts() {
     };
     let (named, plain) = (printed("open 0", "shut 1"), printed("0", "1"));
     let others = NAMED.replace("open", "up").replace("shut", "down");
-    assert_eq!(asked("both", NAMED.as_bytes(), W).printed(0), named);
-    assert_eq!(asked("both", W, NAMED.as_bytes()).printed(0), named);
+    let unnamed = |ran: Ran| {
+        let by_number = "names no letters, so they go by their numbers\n";
+        assert!(ran.err.ends_with(by_number), "{ran:?}");
+        ran.text().to_string()
+    };
+    assert_eq!(unnamed(asked("both", NAMED.as_bytes(), W)), named);
+    assert_eq!(unnamed(asked("both", W, NAMED.as_bytes())), named);
     let both_named = asked("either", NAMED.as_bytes(), others.as_bytes());
+    both_named.said(
+        2,
+        "standard input has up, down; --by-number goes by numbers\n",
+    );
+    let both_named = asked("either", NAMED.as_bytes(), NAMED.as_bytes());
     assert_eq!(both_named.printed(0), named);
     let no_names = plain.as_bytes();
-    assert_eq!(asked("both", no_names, NAMED.as_bytes()).printed(0), named);
+    assert_eq!(unnamed(asked("both", no_names, NAMED.as_bytes())), named);
     assert_eq!(asked("both", no_names, W).printed(0), plain);
     let to = |form: &str, first: &[u8]| {
         let first = Scrap::holding(first);

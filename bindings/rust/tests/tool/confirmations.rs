@@ -70,12 +70,25 @@ fn answers() {
 #[test]
 fn names_of_letters() {
     let said = "no: letter open stands for 0, which goes to 1, and in the reduced rule for 0\n";
+    let shown = |first: &[u8], second: &[u8], map: &[u8], status: i32| {
+        let ran = asked(first, second, map);
+        let by_number = "names no letters, so they go by their numbers\n";
+        assert!(
+            ran.status == status && ran.err.ends_with(by_number),
+            "{ran:?}"
+        );
+        ran.text().to_string()
+    };
     for (first, second) in [(NAMED.as_bytes(), W), (W, NAMED.as_bytes())] {
-        assert_eq!(asked(first, second, &[0, 1]).printed(0), "yes\n");
-        assert_eq!(asked(first, second, &[1, 0]).printed(1), said);
+        assert_eq!(shown(first, second, &[0, 1], 0), "yes\n");
+        assert_eq!(shown(first, second, &[1, 0], 1), said);
     }
+    assert_eq!(
+        asked(NAMED.as_bytes(), NAMED.as_bytes(), &[1, 0]).printed(1),
+        said
+    );
     let said = "no: u:  v: shut has grade 0 by the rule and 1 by the reduced one\n";
-    assert_eq!(asked(NAMED.as_bytes(), GRADED, &[0, 1]).printed(1), said);
+    assert_eq!(shown(NAMED.as_bytes(), GRADED, &[0, 1], 1), said);
 }
 
 #[test]

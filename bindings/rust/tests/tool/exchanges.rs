@@ -8,6 +8,7 @@ use crate::samples::AUTOMATON;
 use duknavet::exchange::{print_hoa, read};
 use duknavet::files::{Automaton, Lasso};
 use duknavet::owned;
+use duknavet::text::Names;
 use duknavet::witness::{compare, Comparison};
 use std::fmt::Write;
 
@@ -61,7 +62,8 @@ fn automata_round_trip() {
         let (states, letters) = (random.within(1, 4), random.within(1, 5));
         let bytes = automata::automaton(&mut random, states, letters, 35).bytes();
         let automaton = Automaton::take_apart(&bytes).expect("an automaton");
-        let again = read(print_hoa(&automaton).as_bytes()).expect("what was written");
+        let again =
+            read(print_hoa(&automaton, &Names::none()).as_bytes()).expect("what was written");
         assert_eq!(again.automaton.letters, automaton.letters);
         let rules = (
             owned::automaton_rule(&bytes),
@@ -155,7 +157,7 @@ fn letters_out_of_range() {
             letters,
             transitions: Vec::new(),
         };
-        assert!(print_hoa(&automaton).ends_with("State: 0 {0}\n--END--\n"));
+        assert!(print_hoa(&automaton, &Names::none()).ends_with("State: 0 {0}\n--END--\n"));
     }
 }
 
@@ -163,9 +165,9 @@ fn letters_out_of_range() {
 fn through_the_tool() {
     let hoa = run_with(&["convert", "--to", "hoa", "-"], AUTOMATON);
     let text = run_with(&["convert", "--to", "text", "-"], hoa.printed(0).as_bytes());
-    assert!(text
-        .printed(0)
-        .starts_with("duknavet automaton 1\n# letter 0: !b0\n# letter 1: b0\nstates 2\n"));
+    assert!(text.printed(0).starts_with(
+        "duknavet automaton 1\npropositions 1 \"b0\"\n# letter 0: !b0\n# letter 1: b0\nstates 2\n"
+    ));
     let bytes = run_with(&["convert", "-"], hoa.printed(0).as_bytes());
     assert_eq!((bytes.status, bytes.out.as_slice()), (0, AUTOMATON));
 }

@@ -20,6 +20,7 @@ mod exchanges;
 mod following;
 mod forms;
 mod marked;
+mod names;
 mod pictures;
 mod program;
 mod refusals;

@@ -25,6 +25,18 @@ impl Ran {
         self.text()
     }
 
+    /// The output of a run with this status and just this line on standard error.
+    #[track_caller]
+    pub fn noted(&self, status: i32, words: &str) -> &str {
+        let line = format!("duknavet-tool: {words}\n");
+        assert_eq!(
+            (self.status, self.err.as_str()),
+            (status, line.as_str()),
+            "{self:?}"
+        );
+        self.text()
+    }
+
     /// That a run was refused or failed with such words, and wrote no result.
     #[track_caller]
     pub fn said(&self, status: i32, words: &str) {

@@ -6,6 +6,7 @@ use crate::random::Random;
 use crate::samples::{rule, GRADED, NAMED, NOT_ASSOCIATIVE, UNMARKED, W, Z};
 use duknavet::exchange::{print_rule_hoa, read};
 use duknavet::files::Rule;
+use duknavet::text::Names;
 use duknavet::witness::{compare, Comparison};
 use duknavet::{owned, RuleAutomaton, Strength};
 
@@ -58,7 +59,8 @@ impl Written {
 }
 
 fn hoa(bytes: &[u8], least: u8) -> String {
-    print_rule_hoa(&RuleAutomaton::reached(bytes, least).expect("a rule"))
+    let automaton = RuleAutomaton::reached(bytes, least).expect("a rule");
+    print_rule_hoa(&automaton, &Names::none())
 }
 
 #[test]
@@ -105,7 +107,8 @@ fn what_is_written_reads_back() {
         let bytes = rule(&mut random, 5).bytes();
         let least = random.within(1, 3) as u8;
         let automaton = RuleAutomaton::reached(&bytes, least).expect("a rule");
-        let foreign = read(print_rule_hoa(&automaton).as_bytes()).expect("what was written");
+        let foreign =
+            read(print_rule_hoa(&automaton, &Names::none()).as_bytes()).expect("what was written");
         assert_eq!(foreign.automaton.letters, automaton.letters);
         let states = automaton.states.len();
         assert_eq!(foreign.automaton.kinds.len(), states.max(1), "{bytes:?}");
@@ -140,7 +143,15 @@ fn through_the_tool() {
         "{text}"
     );
     let named = run_with(&["convert", "--to", "hoa", "-"], NAMED.as_bytes());
-    assert_eq!(named.printed(0), text);
+    let letters = "duknavet-letters: 2 \"open\" \"shut\"\n";
+    assert_eq!(named.printed(0).replace(letters, ""), text);
+    let again = run_with(
+        &["convert", "--to", "text", "-"],
+        named.printed(0).as_bytes(),
+    );
+    assert!(again
+        .printed(0)
+        .contains("letters 2\n  open shut\ntransitions "));
     for (bytes, said) in [
         (W, "equal: both reduce to the same 2 elements\n"),
         (Z, "equal: neither grades a lasso higher\n"),
@@ -148,7 +159,11 @@ fn through_the_tool() {
         let own = Scrap::holding(bytes);
         let written = run(&["convert", "--to=hoa", own.name()]);
         let compared = run_with(&["compare", own.name(), "-"], written.printed(0).as_bytes());
-        assert_eq!(compared.printed(0), said);
+        let by_number = format!(
+            "{} names no letters, so they go by their numbers",
+            own.name()
+        );
+        assert_eq!(compared.noted(0, &by_number), said);
     }
     // A lasso of grade 2 is accepted where the least grade is 2, and not where it is 3.
     for (least, grade) in [("1", 3), ("2", 3), ("3", 0)] {
@@ -173,8 +188,12 @@ fn nothing_is_accepted_where_no_state_is_initial() {
     assert!(!Written::of(text).accepts(&[0], &[0, 1]));
     let own = Scrap::holding(UNMARKED);
     let compared = run_with(&["compare", own.name(), "-"], text.as_bytes());
+    let by_number = format!(
+        "{} names no letters, so they go by their numbers",
+        own.name()
+    );
     assert_eq!(
-        compared.printed(0),
+        compared.noted(0, &by_number),
         "equal: both reduce to the same 1 elements\n"
     );
 }

@@ -162,7 +162,7 @@ fn errors_have_places() {
         ("elements 1 0\n# no letters\n", "line 4, column 1: expected `letters`, found the end"),
         ("elements 1 0 letters 2 up 0 up 0", "line 2, column 29: `up` is another letter's name already"),
         ("elements 1 0 letters 1 mark 0", "line 2, column 24: `mark` has another meaning and is no letter's name"),
-        ("elements 1 0 letters 1 é 0", "line 2, column 24: `é` is no name: a name is a letter or `_`, then letters, digits, `_` and `-`"),
+        ("elements 1 0 letters 1 é+ 0", "line 2, column 24: `é+` is no name: a name is a letter or `_`, then letters, digits, `_` and `-`, or stands in quotes"),
         ("elements 1 0 # é\n letters é 0", "line 3, column 10: expected the count of the letters, a number from 0 to 255, found `é`"),
         ("elements 1 -1", "line 2, column 12: expected the product 0·0, a number from 0 to 255, found `-1`"),
     ] {

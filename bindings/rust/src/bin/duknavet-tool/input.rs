@@ -78,14 +78,6 @@ pub fn refused_by_input(first: &Source, second: &Source, explained: &Explained) 
     }
 }
 
-/// The names of letters that two files share: those of the first that names any.
-pub fn names_of_two<'a>(first: &'a Source, second: &'a Source) -> &'a Names {
-    match first.names.any() {
-        true => &first.names,
-        false => &second.names,
-    }
-}
-
 /// A name as messages show it.
 pub fn shown(name: &OsStr) -> String {
     match name == "-" {
@@ -150,7 +142,7 @@ pub fn source_of(name: String, bytes: Vec<u8>) -> Result<Source, Failure> {
             Parsed {
                 bytes: read.automaton.bytes(),
                 places: Vec::new(),
-                names: Names::none(),
+                names: read.names,
             }
         }
     };

@@ -11,6 +11,7 @@ mod help;
 mod input;
 mod kinds;
 mod lines;
+mod meeting;
 mod output;
 mod requests;
 mod state;

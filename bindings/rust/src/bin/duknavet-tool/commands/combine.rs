@@ -4,6 +4,7 @@ use crate::arguments::Arguments;
 use crate::command::{Answer, Command, Failure};
 use crate::form::{self, TO};
 use crate::input;
+use crate::meeting::{self, Side, BY_NUMBER};
 use duknavet::{owned, Operation};
 
 pub const COMMAND: Command = Command {
@@ -12,10 +13,10 @@ pub const COMMAND: Command = Command {
     least: 3,
     most: 3,
     purpose: "make one rule of two strong ones over as many letters",
-    options: &[TO],
+    options: &[TO, BY_NUMBER],
     details: "Each lasso has the lower of its two grades (both), the higher (either), or the lower of the first and of 3 less the second \
-(without). Letters go by their numbers; their names are those of FIRST, or of SECOND where FIRST names none. The rule is written \
-as a text where one of them is. Its elements are the pairs of values that words have in the two rules, and need not be the fewest: \
+(without). Letters meet by their names, in the order of FIRST, or by the propositions of both; where one file names none they go by \
+their numbers. The rule is written as a text where one of them is. Its elements are the pairs of values that words have in the two rules, and need not be the fewest: \
 reduce makes them so. Different numbers of letters are refused by 18, a weak rule by 12, more than 64 pairs of values by 19.",
     run,
 };
@@ -24,11 +25,12 @@ fn run(arguments: &Arguments) -> Result<Answer, Failure> {
     let operation = operation(arguments)?;
     let first = input::rule(arguments.plain(1))?;
     let second = input::rule(arguments.plain(2))?;
-    let written = owned::combine(&first.bytes, &second.bytes, operation)
+    let sides = (Side::of(&first), Side::of(&second));
+    let met = meeting::of_two(arguments, sides.0, sides.1, [true, true])?;
+    let written = owned::combine(&met.first, &met.second, operation)
         .map_err(|explained| input::refused_by_input(&first, &second, &explained))?;
     let from_text = first.is_text() || second.is_text();
-    let names = input::names_of_two(&first, &second);
-    form::write_rule_named(arguments, from_text, names, &written)
+    form::write_rule_named(arguments, from_text, &met.names, &written)
 }
 
 fn operation(arguments: &Arguments) -> Result<Operation, Failure> {

@@ -2,8 +2,9 @@
 
 use crate::arguments::Arguments;
 use crate::command::{Answer, Command, Failure};
-use crate::input::{self, Source};
+use crate::input::Source;
 use crate::kinds::{self, AS};
+use crate::meeting::{self, Side, BY_NUMBER};
 use crate::output;
 use duknavet::owned;
 use duknavet::text::{print_lasso, Kind};
@@ -15,7 +16,7 @@ pub const COMMAND: Command = Command {
     least: 2,
     most: 2,
     purpose: "compare two rules or automata over the same letters, and give a lasso that tells them apart",
-    options: &[AS],
+    options: &[AS, BY_NUMBER],
     details: "Prints equal, with status 0, where every lasso has the same grade by both: strong rules by the bytes of their \
 reductions, weak ones by inclusion both ways. Else, with status 1, a lasso of which no single letter can be left out, and its two \
 grades, each as the call member answers it. An automaton stands for its rule. Two rules of which one is weak are shown \
@@ -26,8 +27,13 @@ equal only as long as words have at most 64 pairs of values in both.",
 fn run(arguments: &Arguments) -> Result<Answer, Failure> {
     let (first, first_rule) = rule_of(arguments, 0)?;
     let (second, second_rule) = rule_of(arguments, 1)?;
+    for (source, rule) in [(&first, &first_rule), (&second, &second_rule)] {
+        owned::check(rule).map_err(|explained| source.refused(&explained))?;
+    }
+    let sides = (side(&first, &first_rule), side(&second, &second_rule));
+    let met = meeting::of_two(arguments, sides.0, sides.1, [false, false])?;
     let comparison =
-        compare(&first_rule, &second_rule).map_err(|(which, explained)| match which {
+        compare(&met.first, &met.second).map_err(|(which, explained)| match which {
             1 => first.refused(&explained),
             _ => second.refused(&explained),
         })?;
@@ -44,8 +50,7 @@ fn run(arguments: &Arguments) -> Result<Answer, Failure> {
             Ok(Answer::Yes)
         }
         Comparison::Different(difference) => {
-            let names = input::names_of_two(&first, &second);
-            let lasso = print_lasso(&difference.lasso, names);
+            let lasso = print_lasso(&difference.lasso, &met.names);
             let (by_first, by_second) = (difference.first, difference.second);
             output::write(format!("{lasso}\ngrades {by_first} {by_second}\n").as_bytes())?;
             Ok(Answer::No)
@@ -57,6 +62,10 @@ fn run(arguments: &Arguments) -> Result<Answer, Failure> {
             "one rule is weak, words have {pairs} pairs of values in both, more than 64, and no short lasso tells them apart"
         ))),
     }
+}
+
+fn side<'a>(source: &'a Source, rule: &'a [u8]) -> Side<'a> {
+    Side { source, rule }
 }
 
 /// A file, and the rule that it is or that its automaton has.

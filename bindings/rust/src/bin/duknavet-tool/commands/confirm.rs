@@ -2,6 +2,7 @@
 
 use crate::arguments::Arguments;
 use crate::command::{Answer, Command, Failure};
+use crate::meeting::{self, Side, BY_NUMBER};
 use crate::{input, output};
 use duknavet::text::Kind;
 use duknavet::witness::why_not_confirmed;
@@ -13,7 +14,7 @@ pub const COMMAND: Command = Command {
     least: 3,
     most: 3,
     purpose: "tell whether a rule was reduced right elsewhere, by a map of its elements",
-    options: &[],
+    options: &[BY_NUMBER],
     details: "MAP has for each element of RULE the element of REDUCED that it went to: as bytes, or as a text. Prints yes, with status 0, where \
 MAP goes to every element of REDUCED and to no other, carries products and letters over, every lasso has the same grade by both rules, and \
 REDUCED is strong and has the fewest elements; its elements may be numbered in any way, and its marks may be any that give the grades. Else \
@@ -26,15 +27,16 @@ fn run(arguments: &Arguments) -> Result<Answer, Failure> {
     let rule = input::rule(arguments.plain(0))?;
     let reduced = input::rule(arguments.plain(1))?;
     let map = input::expected(arguments.plain(2), Kind::Map)?;
-    let (first, second) = (&rule.bytes, &reduced.bytes);
+    let sides = (Side::of(&rule), Side::of(&reduced));
+    let met = meeting::of_two(arguments, sides.0, sides.1, [true, false])?;
+    let (first, second) = (&met.first, &met.second);
     let refused = |explained| input::refused_by_input(&rule, &reduced, &explained);
     if owned::confirm(first, second, &map.bytes).map_err(refused)? == Confirmation::Yes {
         output::write(b"yes\n")?;
         return Ok(Answer::Yes);
     }
     let fault = why_not_confirmed(first, second, &map.bytes).map_err(refused)?;
-    let names = input::names_of_two(&rule, &reduced);
-    let why = fault.map(|fault| format!(": {}", fault.in_words(names)));
+    let why = fault.map(|fault| format!(": {}", fault.in_words(&met.names)));
     output::write(format!("no{}\n", why.unwrap_or_default()).as_bytes())?;
     Ok(Answer::No)
 }

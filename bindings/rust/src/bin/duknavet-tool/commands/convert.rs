@@ -64,10 +64,10 @@ fn run(arguments: &Arguments) -> Result<Answer, Failure> {
         ("hoa", Kind::Rule) => {
             let automaton = RuleAutomaton::reached(&source.bytes, least);
             let automaton = automaton.map_err(|explained| source.refused(&explained))?;
-            output::print(&print_rule_hoa(&automaton))
+            output::print(&print_rule_hoa(&automaton, &source.names))
         }
         ("hoa", Kind::Automaton) => match Automaton::take_apart(&source.bytes) {
-            Some(automaton) => output::print(&print_hoa(&automaton)),
+            Some(automaton) => output::print(&print_hoa(&automaton, &source.names)),
             None => Err(kinds::refusal(&source, kind)),
         },
         ("hoa", _) => Err(arguments.usage("only automata and rules have the Hanoi format")),
@@ -79,12 +79,9 @@ fn text(source: &Source, kind: Kind) -> Result<Answer, Failure> {
     let Some(text) = text_of(&source.bytes, kind, &source.names) else {
         return Err(kinds::refusal(source, kind));
     };
-    let mut lines = text.split_inclusive('\n');
-    let header = lines.next().unwrap_or("").to_string();
-    let notes: String = source
-        .notes
-        .iter()
-        .map(|note| format!("# {note}\n"))
-        .collect();
-    output::print(&(header + &notes + &lines.collect::<String>()))
+    let notes = source.notes.iter().map(|note| format!("# {note}\n"));
+    // The comments right behind the first line describe a file, so that notes stand further down.
+    let first = text.find("\nstates ").map_or(0, |end| end + 1);
+    let (before, behind) = text.split_at(first);
+    output::print(&(before.to_string() + &notes.collect::<String>() + behind))
 }
