@@ -28,4 +28,4 @@ pub(crate) use quotes::{quoted, written};
 pub use read::{kind, read, Kind, Parsed};
 pub use rule::print_rule;
 pub(crate) use tokens::decode;
-pub use tokens::{Place, TextError};
+pub use tokens::{words, Place, TextError};

@@ -186,3 +186,29 @@ fn word_length(text: &str, first: char) -> usize {
         None => text.len(),
     }
 }
+
+/// The words of a line up to a comment, with white space between them; what stands in quotes is of one word.
+pub fn words(line: &str) -> impl Iterator<Item = &str> {
+    let mut rest = line.trim_start();
+    std::iter::from_fn(move || {
+        let (word, behind) = rest.split_at(request_word_length(rest));
+        rest = behind.trim_start();
+        (!word.is_empty()).then_some(word)
+    })
+}
+
+fn request_word_length(text: &str) -> usize {
+    let mut length = 0;
+    while let Some(next) = text[length..].chars().next() {
+        if next.is_whitespace() || next == '#' {
+            break;
+        }
+        // A quote within a word, as a file's name may have it, is no beginning of a name.
+        let begins = text[..length].ends_with(['&', '!']) || length == 0;
+        length += match next {
+            '"' if begins => quoted_length(&text[length..]),
+            _ => next.len_utf8(),
+        };
+    }
+    length
+}

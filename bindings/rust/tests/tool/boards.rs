@@ -8,6 +8,9 @@ use crate::samples::{rule, GRADED, NAMED, NOT_ASSOCIATIVE, TWICE, W, Z};
 use duknavet::words::Explained;
 use duknavet::{Board, RuleBoard};
 
+/// Letter 0 for ever, the only letter.
+const ONE_LETTER: &[u8] = &[1, 0, 1, 0, 1, 0, 0, 0, 3];
+
 #[test]
 fn answers_come_line_by_line() {
     let [named, graded, weak, damaged] =
@@ -23,7 +26,10 @@ fn answers_come_line_by_line() {
         ("mark".to_string(), "lowest none"),
         ("# a comment\n\nevent 1".to_string(), "lowest 0"),
         ("leave 3".to_string(), "lowest 2"),
-        ("event open".to_string(), "not understood"),
+        // The order of the letters stands until the board is empty.
+        ("event shut".to_string(), "lowest 2"),
+        ("event alarm".to_string(), "not understood"),
+        ("event".to_string(), "not understood"),
         ("event 2".to_string(), "refused 10 input 7 place 0"),
         (enter("7", &named), "refused 21 input 1 place 0"),
         (enter("8", &named), "refused 21 input 1 place 0"),
@@ -44,6 +50,7 @@ fn answers_come_line_by_line() {
         ("event 0".to_string(), "lowest 3"),
         ("leave 7".to_string(), "lowest 3"),
         ("leave 3".to_string(), "lowest none"),
+        ("event open".to_string(), "not understood"),
     ] {
         assert_eq!(line.ask(&asked), answer, "{asked}");
     }
@@ -176,7 +183,7 @@ fn states_are_taken_up_again() {
     }
     assert_eq!(line.ask("save"), "saved");
     let saved = std::fs::read_to_string(state.name()).expect("the state was written");
-    let begins = "duknavet board 1\nlowest 0\nrule 1 64 1\n  duknavet rule 1\n  elements 2\n";
+    let begins = "duknavet board 1\nlowest 0\nletters \"open\" \"shut\"\nrule 1 64 1\n  duknavet rule 1\n  elements 2\n";
     assert!(saved.starts_with(begins), "{saved}");
     assert!(saved.contains("\nrule 6 64 1\n"), "{saved}");
     assert_eq!(line.ask("mark"), "lowest none");
@@ -200,7 +207,10 @@ fn states_are_taken_up_again() {
         &saved.replace("rule 6 64", "rule 1 64"),
         &saved.replace("rule 6 64 1", "rule 6 64"),
         &saved.replace("rule 6 64 1", "rule 6 256 1"),
-        &saved.replace("  elements 2", "  elements"),
+        &saved.replace("  elements 2", "  elements 3"),
+        &saved.replace("letters \"open\"", "letters \"open"),
+        &saved.replace("letters \"open\" \"shut\"", "letters"),
+        &saved.replace("letters \"open\"", "letters \"shut\""),
         &saved.replace("  duknavet rule 1", "  duknavet marks 1"),
     ] {
         std::fs::write(state.name(), damage).expect("a file of the test is written");
@@ -236,24 +246,206 @@ fn states_that_cannot_be_written() {
     assert!(ran.err.contains(nowhere), "{ran:?}");
 }
 
-/// Rules that give one name to two letters.
+/// A rule that enters is put in the order of the board's letters.
 #[test]
-fn names_that_differ() {
+fn letters_in_another_order() {
+    let exchanged = NAMED.replace("open 0\n  shut 1", "shut 0\n  open 1");
     let files = [
         NAMED.to_string(),
-        NAMED.replace("open 0\n  shut", "shut 0\n  open"),
+        NAMED.replace("open 0\n  shut 1", "shut 1\n  open 0"),
+        exchanged.clone(),
     ];
-    let [one, two] = files.map(|text| Scrap::holding(text.as_bytes()));
-    let input = format!(
-        "enter 0 {}\nenter 1 {}\nevent open\nevent 0\nleave 0\nevent shut\n",
-        one.name(),
-        two.name()
+    let [one, two, three] = files.map(|text| Scrap::holding(text.as_bytes()));
+    let answers = |input: String| {
+        let ran = run_with(&["board"], input.as_bytes());
+        assert_eq!((ran.status, ran.err.as_str()), (0, ""));
+        ran.text().to_string()
+    };
+    let enter = format!("enter 0 {}\nenter 1 {}\n", one.name(), two.name());
+    assert_eq!(
+        answers(format!(
+            "{enter}event open\nevent 1\nmark\nevent 1\nleave 0\n"
+        )),
+        "lowest none\nlowest none\nlowest 3\nlowest 3\nlowest none\nlowest 0\nlowest 0\n"
     );
-    let ran = run_with(&["board"], input.as_bytes());
-    let answers = "lowest none\nlowest none\nnot understood\nlowest 3\nlowest 3\nlowest 3\n";
-    assert_eq!((ran.status, ran.text()), (0, answers));
-    let words = "line 3: `open` is letter 0 of rule 0, but letter 1 of rule 1";
-    assert!(ran.err.contains(words), "{ran:?}");
+    // The third asks that the flap shuts again and again.
+    let enter = format!("enter 0 {}\nenter 1 {}\n", one.name(), three.name());
+    assert_eq!(
+        answers(format!(
+            "{enter}event open\nleave 0\nevent shut\nmark\nevent shut\n"
+        )),
+        "lowest none\nlowest none\nlowest 0\nlowest 0\nlowest 3\nlowest none\nlowest 3\n"
+    );
+    // An empty board forgets the order.
+    let enter = format!(
+        "enter 0 {}\nleave 0\nenter 0 {}\n",
+        one.name(),
+        three.name()
+    );
+    assert_eq!(
+        answers(format!("{enter}event 0\n")),
+        "lowest none\nlowest none\nlowest none\nlowest 3\n"
+    );
+    // A state that was written before boards had an order, with rules that give one name to two letters.
+    let text = |text: &str| -> String { text.lines().map(|line| format!("  {line}\n")).collect() };
+    let state = Scrap::holding(
+        format!(
+            "duknavet board 1\nlowest 4\nrule 0 64 64\n{}rule 1 64 64\n{}",
+            text(NAMED),
+            text(&exchanged)
+        )
+        .as_bytes(),
+    );
+    let ran = run_with(&["board", "--state", state.name()], b"event open\n");
+    ran.said(2, "its rules call their letters in different ways");
+}
+
+#[test]
+fn letters_that_do_not_meet() {
+    let alarm = NAMED.replace("open", "alarm");
+    let three = NAMED
+        .replace("letters 2", "letters 3")
+        .replace("marks", "halt 1\nmarks");
+    let valued = NAMED
+        .replace("duknavet rule 1", "duknavet rule 1\npropositions p")
+        .replace("open ", "")
+        .replace("shut ", "");
+    let files = [NAMED, &alarm, &three, &valued];
+    let [named, alarm, three, valued] = files.map(|text| Scrap::holding(text.as_bytes()));
+    let [plain, one] = [W, ONE_LETTER].map(Scrap::holding);
+    let enter = |name: u8, file: &Scrap| format!("enter {name} {}\n", file.name());
+    let entered = |words: &[&str], files: &[&Scrap]| {
+        let input: String = (0..)
+            .zip(files)
+            .map(|(name, file)| enter(name, file))
+            .collect();
+        let ran = run_with(&[&["board"], words].concat(), input.as_bytes());
+        assert_eq!(ran.status, 0);
+        let let_in = ran.text().lines().map(|answer| answer == "lowest none");
+        (let_in.collect::<Vec<bool>>(), ran.err)
+    };
+    for (words, files, expected, said) in [
+        (
+            &[][..],
+            &[&named, &alarm][..],
+            &[true, false][..],
+            "different names: only the board has open, only",
+        ),
+        (&[], &[&named, &three], &[true, false], "has halt\n"),
+        (
+            &[],
+            &[&named, &valued],
+            &[true, false],
+            "the letters of the board are open, shut, and those of",
+        ),
+        (
+            &[],
+            &[&named, &plain],
+            &[true, true],
+            "names no letters, so they go by their numbers\n",
+        ),
+        (
+            &[],
+            &[&plain, &named],
+            &[true, true],
+            "the board names no letters, so they go by their numbers\n",
+        ),
+        (
+            &[],
+            &[&named, &one],
+            &[true, false],
+            "names no letters, and there are not as many as of the board\n",
+        ),
+        (
+            &[],
+            &[&one, &named],
+            &[true, false],
+            "the board names no letters, and there are not as many as of",
+        ),
+        (&[], &[&one, &plain], &[true, true], ""),
+        (
+            &["--letters", "open,shut"],
+            &[&named, &plain],
+            &[true, true],
+            "names no letters, so they go by their",
+        ),
+        (&["--letters", "shut, open"], &[&named], &[true], ""),
+        (
+            &["--letters", "open"],
+            &[&one, &named],
+            &[true, false],
+            "line 2: the letters have different names: only",
+        ),
+        (
+            &["--ap", "p,q"],
+            &[&valued, &named],
+            &[true, false],
+            "the letters of the board are valuations of p, q, and",
+        ),
+    ] {
+        let (let_in, err) = entered(words, files);
+        assert_eq!(let_in, expected, "{err}");
+        assert!(
+            err.contains(said) && err.is_empty() == said.is_empty(),
+            "{err} lacks {said}"
+        );
+    }
+    for (words, said) in [
+        (
+            &["--letters", "a,a"][..],
+            "`a` is another letter's name already",
+        ),
+        (
+            &["--ap", "a,b,c,d,e"],
+            "5 propositions, but letters have room for 4",
+        ),
+        (
+            &["--ap", "a", "--letters", "b"],
+            "`--letters` and `--ap` do not go together",
+        ),
+    ] {
+        run(&[&["board"], words].concat()).said(3, said);
+    }
+}
+
+/// New propositions come behind those of the board, and what rules present have heard stands.
+#[test]
+fn propositions_that_come_later() {
+    let again = |names: &str, letters: &str| {
+        let count = letters.split(' ').count();
+        let text = format!("duknavet rule 1\npropositions {names}\nelements 2 0 0 0 1 letters {count} {letters} marks 1 0 0 3\n");
+        Scrap::holding(text.as_bytes())
+    };
+    // a again and again; both b and c again and again at once.
+    let (first, second) = (again("a", "1 0"), again("c b", "1 1 1 0"));
+    let state = Scrap::free();
+    let words = ["board", "--state", state.name()];
+    let mut line = Line::open(&words);
+    for (asked, answer) in [
+        (format!("enter 0 {}", first.name()), "lowest none"),
+        ("event a".to_string(), "lowest 3"),
+        ("event a & b".to_string(), "not understood"),
+        (format!("enter 1 {}", second.name()), "lowest 3"),
+        ("event c & b".to_string(), "lowest 3"),
+        ("mark".to_string(), "lowest none"),
+        ("event a & b".to_string(), "lowest 0"),
+        ("event b&!a & c".to_string(), "lowest 3"),
+    ] {
+        assert_eq!(line.ask(&asked), answer, "{asked}");
+    }
+    assert_eq!(line.close(), 0);
+    let saved = std::fs::read_to_string(state.name()).expect("the state was written");
+    assert!(
+        saved.starts_with("duknavet board 1\nlowest 3\npropositions \"a\" \"c\" \"b\"\nrule 0 "),
+        "{saved}"
+    );
+    let mut again = Line::open(&words);
+    assert_eq!(again.ask("mark"), "lowest none");
+    assert_eq!(again.ask("event a & b & !c"), "lowest 0");
+    assert_eq!(again.ask("event 6"), "lowest 3");
+    assert_eq!(again.close(), 0);
+    let other = run(&["board", "--state", state.name(), "--ap", "a,b,c"]);
+    other.said(3, "the rules of the state have other letters");
 }
 
 #[test]

@@ -50,8 +50,7 @@ impl Lines {
             return Ok(Some(Line::TooLong));
         }
         let text = String::from_utf8_lossy(&kept);
-        let code = text.split('#').next().unwrap_or("");
-        let words = code.split_whitespace().map(str::to_string);
+        let words = duknavet::text::words(&text).map(str::to_string);
         Ok(Some(Line::Words(words.collect())))
     }
 }

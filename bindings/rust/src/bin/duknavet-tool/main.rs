@@ -3,6 +3,7 @@
 //! It parses, prints and asks; every verdict is a call's. A subcommand is a file of `commands/` and a line of its list.
 
 mod arguments;
+mod board_letters;
 mod board_state;
 mod command;
 mod commands;

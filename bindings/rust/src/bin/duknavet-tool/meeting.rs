@@ -111,3 +111,10 @@ fn tell_unnamed(first: Side<'_>, second: Side<'_>) {
         ));
     }
 }
+
+/// Names with a comma between them, as options have them.
+pub fn names_in(list: &str) -> Vec<String> {
+    list.split(',')
+        .map(|name| name.trim().to_string())
+        .collect()
+}

@@ -74,11 +74,10 @@ impl Following {
             ["save"] => return requests::saved(self.file.as_deref(), |_| self.save()),
             ["keep", name] => self.watched.keep(requests::name(name)?),
             ["return", name] => self.watched.return_to(requests::name(name)?),
-            [letter] => {
-                let letter = read_letter(letter, &self.names).map_err(|error| error.message)?;
-                self.watched.event(letter)
+            letter => {
+                let read = read_letter(&letter.join(" "), &self.names);
+                self.watched.event(read.map_err(|error| error.message)?)
             }
-            _ => return Err("a line has one event or one request".to_string()),
         };
         Ok(moved.map(shown).unwrap_or_else(refused))
     }
