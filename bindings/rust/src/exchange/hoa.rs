@@ -1,7 +1,8 @@
-//! The Hanoi format, version 1, with Büchi acceptance on states or transitions.
+//! The Hanoi format, version 1, with Büchi acceptance on states or transitions: the header, and the whole.
 
 use super::condition::{self, holds, Signs, Valuations};
-use super::graph::{Edge, Graph};
+use super::graph::Graph;
+use super::hoa_body::read_body;
 use super::scanner::Scanner;
 use crate::text::{Place, TextError};
 use std::collections::BTreeMap;
@@ -12,13 +13,37 @@ const SIGNS: Signs = Signs { and: "&", or: "|" };
 /// any. By the format's rules others pass over it, since it begins with a small letter.
 pub const LETTERS: &str = "duknavet-letters";
 
+/// The lines of the header that may stand once.
+const ONCE: [&str; 7] = [
+    "States",
+    "AP",
+    "Acceptance",
+    "acc-name",
+    "tool",
+    "name",
+    LETTERS,
+];
+
+/// Which runs accept.
+#[derive(Clone, Copy, Debug, PartialEq, Eq)]
+pub enum Acceptance {
+    /// Every endless run: `0 t`.
+    All,
+    /// Those that meet set 0 again and again: `1 Inf(0)`.
+    Repeated,
+}
+
 /// What the header says.
 #[derive(Default)]
-struct Header {
-    propositions: Vec<String>,
+pub struct Header {
+    /// How many states there are, where the file says it.
+    states: Option<usize>,
+    initial: Vec<(usize, Place)>,
+    propositions: Option<Vec<String>>,
     aliases: BTreeMap<String, Valuations>,
-    /// Whether every endless run accepts, as with the acceptance `0 t`.
-    all_accept: Option<bool>,
+    /// The propositions that aliases name, which `AP:` may follow.
+    named: Vec<(usize, Place)>,
+    acceptance: Option<Acceptance>,
     /// How many of the valuations are letters, where the file says it, and their names, if they have any.
     letters: Option<(usize, Vec<String>, Place)>,
 }
@@ -30,84 +55,164 @@ pub type Read = (Graph, Vec<String>, Option<(usize, Vec<String>)>);
 pub fn read(text: &str) -> Result<Read, TextError> {
     let mut scanner = Scanner::new(text);
     scanner.expect("HOA:")?;
+    let place = scanner.place();
     if scanner.word() != "v1" {
-        return Err(scanner.fault("expected the version v1"));
+        return Err(TextError::new(place, "expected the version v1"));
     }
+    let (header, acceptance) = read_header(&mut scanner)?;
     let mut graph = Graph::default();
-    let header = read_header(&mut scanner, &mut graph)?;
-    let Some(all_accept) = header.all_accept else {
-        return Err(scanner.fault("there is no `Acceptance:`"));
-    };
-    while !scanner.take("--END--") {
-        scanner.expect("State:")?;
-        read_state(&mut scanner, &header, &mut graph)?;
+    for (state, place) in &header.initial {
+        let state = header.state(&mut graph, *state, *place)?;
+        graph.initial.push(state);
     }
-    if all_accept {
+    read_body(&mut scanner, &header, acceptance, &mut graph)?;
+    if acceptance == Acceptance::All {
         for state in 0..graph.states() {
             graph.accept(state);
         }
     }
-    if let Some((letters, _, place)) = &header.letters {
-        let (letters, place) = (*letters, *place);
-        let valuations = 1 << header.propositions.len();
-        if letters == 0 || letters > valuations {
-            let message = format!("{letters} letters, but there are {valuations} valuations");
-            return Err(TextError::new(place, message));
+    scanner.end("expected the end: one automaton a file")?;
+    let letters = header.letters.map(|(letters, names, _)| (letters, names));
+    Ok((graph, header.propositions.unwrap_or_default(), letters))
+}
+
+impl Header {
+    /// How many valuations the propositions have.
+    pub fn valuations(&self) -> usize {
+        1 << self.propositions.as_ref().map_or(0, Vec::len)
+    }
+
+    /// A state by its number in the file, which must be below the count where there is one.
+    pub fn state(
+        &self,
+        graph: &mut Graph,
+        number: usize,
+        place: Place,
+    ) -> Result<usize, TextError> {
+        match self.states {
+            Some(states) if number >= states => {
+                let message = format!("there is no state {number}: `States:` says {states}");
+                Err(TextError::new(place, message))
+            }
+            _ => Ok(graph.state(&number.to_string())),
         }
     }
-    let letters = header.letters.map(|(letters, names, _)| (letters, names));
-    match scanner.peek() {
-        None => Ok((graph, header.propositions, letters)),
-        Some(_) => Err(scanner.fault("expected the end: one automaton a file")),
+
+    /// The valuations where a proposition holds. How many there are may not be known yet; there are at most four.
+    fn proposition(&self, number: usize, place: Place) -> Result<Valuations, TextError> {
+        let count = self.propositions.as_ref().map_or(4, Vec::len);
+        match number < count {
+            true => Ok(holds(number)),
+            false => Err(no_proposition(place)),
+        }
+    }
+
+    fn finish(&mut self) -> Result<(), TextError> {
+        let count = self.propositions.get_or_insert_with(Vec::new).len();
+        let mut named = self.named.iter();
+        if let Some((_, place)) = named.find(|(number, _)| *number >= count) {
+            return Err(no_proposition(*place));
+        }
+        let valuations = self.valuations();
+        match &self.letters {
+            Some((letters, _, place)) if *letters == 0 || *letters > valuations => {
+                let message = format!("{letters} letters, but there are {valuations} valuations");
+                Err(TextError::new(*place, message))
+            }
+            _ => Ok(()),
+        }
     }
 }
 
-fn read_header(scanner: &mut Scanner, graph: &mut Graph) -> Result<Header, TextError> {
+fn no_proposition(place: Place) -> TextError {
+    let message = "expected `t`, `f`, an alias or the number of a proposition";
+    TextError::new(place, message)
+}
+
+fn read_header(scanner: &mut Scanner) -> Result<(Header, Acceptance), TextError> {
     let mut header = Header::default();
-    while !scanner.take("--BODY--") {
+    let mut stood: Vec<String> = Vec::new();
+    loop {
         let place = scanner.place();
+        let fault = |message: String| Err(TextError::new(place, message));
+        if scanner.take("--BODY--") {
+            header.finish()?;
+            return match header.acceptance {
+                Some(acceptance) => Ok((header, acceptance)),
+                None => fault("there is no `Acceptance:`".to_string()),
+            };
+        }
+        if !scanner.line_begins_header() {
+            return Err(scanner.fault("expected a line of the header or `--BODY--`"));
+        }
         let name = scanner.word();
-        if name.is_empty() || !scanner.take(":") {
-            return Err(TextError::new(
-                place,
-                "expected a line of the header or `--BODY--`",
-            ));
+        scanner.expect(":")?;
+        if ONCE.contains(&name.as_str()) {
+            if stood.contains(&name) {
+                return fault(format!("`{name}:` stands twice"));
+            }
+            stood.push(name.clone());
         }
-        match name.as_str() {
-            "States" => {
-                scanner.number("the count of the states")?;
-            }
-            "Start" => {
-                let state = scanner.number("the initial state")?;
-                let state = graph.state(&state.to_string());
-                graph.initial.push(state);
-                plain_target(scanner)?;
-            }
-            "AP" => {
-                let count = scanner.number("the count of the propositions")?;
-                if count > 4 {
-                    let message = format!("{count} propositions, but letters have room for 4");
-                    return Err(TextError::new(place, message));
-                }
-                let names = (0..count).map(|_| scanner.string());
-                header.propositions = names.collect::<Result<_, _>>()?;
-            }
-            "Alias" => {
-                scanner.expect("@")?;
-                let name = scanner.word();
-                let set = read_condition(scanner, &header)?;
-                header.aliases.insert(name, set);
-            }
-            LETTERS => header.letters = Some(read_letters(scanner, place)?),
-            "Acceptance" => header.all_accept = Some(read_acceptance(scanner)?),
-            other if other.starts_with(|first: char| first.is_uppercase()) => {
-                let message = format!("`{other}:` is not read here");
-                return Err(TextError::new(place, message));
-            }
-            _ => pass_line(scanner)?,
-        }
+        read_line(scanner, &name, place, &mut header)?;
     }
-    Ok(header)
+}
+
+/// Reads a line of the header behind its name, which stands at a place.
+fn read_line(
+    scanner: &mut Scanner,
+    name: &str,
+    place: Place,
+    header: &mut Header,
+) -> Result<(), TextError> {
+    match name {
+        "States" => header.states = Some(scanner.number("the count of the states")?),
+        "Start" => {
+            let place = scanner.place();
+            let state = scanner.number("the initial state")?;
+            header.initial.push((state, place));
+            plain_target(scanner)?;
+        }
+        "AP" => header.propositions = Some(read_propositions(scanner, place)?),
+        "Alias" => {
+            let place = scanner.place();
+            let name = read_alias(scanner)?;
+            if header.aliases.contains_key(&name) {
+                return Err(TextError::new(place, format!("@{name} stands twice")));
+            }
+            let mut named = Vec::new();
+            let set = read_condition(scanner, header, &mut named)?;
+            header.named.extend(named);
+            header.aliases.insert(name, set);
+        }
+        LETTERS => header.letters = Some(read_letters(scanner, place)?),
+        "Acceptance" => header.acceptance = Some(read_acceptance(scanner)?),
+        other if other.starts_with(|first: char| first.is_uppercase()) => {
+            let message = format!("`{other}:` is not read here");
+            return Err(TextError::new(place, message));
+        }
+        // What a line says that begins with a small letter changes no meaning.
+        _ => while !scanner.line_begins_header() && scanner.pass()? {},
+    }
+    Ok(())
+}
+
+fn read_propositions(scanner: &mut Scanner, place: Place) -> Result<Vec<String>, TextError> {
+    let count = scanner.number("the count of the propositions")?;
+    if count > 4 {
+        let message = format!("{count} propositions, but letters have room for 4");
+        return Err(TextError::new(place, message));
+    }
+    let mut propositions = Vec::new();
+    for _ in 0..count {
+        let place = scanner.place();
+        let name = scanner.string()?;
+        if propositions.contains(&name) {
+            let message = format!("the proposition \"{name}\" stands twice");
+            return Err(TextError::new(place, message));
+        }
+        propositions.push(name);
+    }
+    Ok(propositions)
 }
 
 /// How many letters there are, and a name for each or for none.
@@ -129,128 +234,83 @@ fn read_letters(
     }
 }
 
-/// Passes over what a line of the header says that changes no meaning.
-fn pass_line(scanner: &mut Scanner) -> Result<(), TextError> {
-    loop {
-        let word = scanner.peek_word();
-        let ends = word == "--BODY--" || scanner.line_begins_header();
-        if ends || scanner.peek().is_none() {
-            return Ok(());
-        }
-        scanner.pass()?;
-    }
-}
-
-fn read_acceptance(scanner: &mut Scanner) -> Result<bool, TextError> {
+/// Büchi acceptance, which may stand in parentheses.
+fn read_acceptance(scanner: &mut Scanner) -> Result<Acceptance, TextError> {
     let place = scanner.place();
-    match scanner.number("the count of the acceptance sets")? {
-        0 if scanner.word() == "t" => Ok(true),
-        1 if scanner.word() == "Inf" => {
-            scanner.expect("(")?;
-            scanner.expect("0")?;
-            scanner.expect(")")?;
-            Ok(false)
-        }
-        _ => {
-            let message = "only Büchi acceptance is read: `1 Inf(0)`, or `0 t`";
-            Err(TextError::new(place, message))
-        }
+    let sets = scanner.number("the count of the acceptance sets")?;
+    let mut open = 0;
+    while scanner.take("(") {
+        open += 1;
+    }
+    let acceptance = match (sets, scanner.word().as_str()) {
+        (0, "t") => Some(Acceptance::All),
+        (1, "Inf") => ["(", "0", ")"]
+            .iter()
+            .all(|wanted| scanner.take(wanted))
+            .then_some(Acceptance::Repeated),
+        _ => None,
+    };
+    let closed = (0..open).all(|_| scanner.take(")"));
+    let ends = !matches!(scanner.peek(), Some('&' | '|'));
+    acceptance.filter(|_| closed && ends).ok_or_else(|| {
+        let message = "only Büchi acceptance is read: `1 Inf(0)`, or `0 t`";
+        TextError::new(place, message)
+    })
+}
+
+/// The name of an alias, behind its sign without a blank.
+fn read_alias(scanner: &mut Scanner) -> Result<String, TextError> {
+    scanner.expect("@")?;
+    let name =
+        scanner.run_here(|character| character.is_ascii_alphanumeric() || "_-".contains(character));
+    match name.is_empty() {
+        true => Err(scanner.fault("expected the name of an alias")),
+        false => Ok(name),
     }
 }
 
-fn read_condition(scanner: &mut Scanner, header: &Header) -> Result<Valuations, TextError> {
+/// A condition, and the propositions that it names.
+fn read_condition(
+    scanner: &mut Scanner,
+    header: &Header,
+    named: &mut Vec<(usize, Place)>,
+) -> Result<Valuations, TextError> {
     let mut atom = |scanner: &mut Scanner| {
         let place = scanner.place();
-        if scanner.take("@") {
-            let name = scanner.word();
+        if scanner.peek() == Some('@') {
+            let name = read_alias(scanner)?;
             let message = format!("there is no alias @{name}");
             let set = header.aliases.get(&name).copied();
             return set.ok_or_else(|| TextError::new(place, message));
         }
+        let digit = |next: char| next.is_ascii_digit();
+        if scanner.peek().is_some_and(digit) {
+            let number = scanner.number("a proposition")?;
+            named.push((number, place));
+            return header.proposition(number, place);
+        }
         match scanner.word().as_str() {
             "t" => Ok(condition::ALL),
             "f" => Ok(condition::NONE),
-            word => match word.parse() {
-                Ok(number) if number < header.propositions.len() => Ok(holds(number)),
-                _ => {
-                    let message = "expected `t`, `f`, an alias or the number of a proposition";
-                    Err(TextError::new(place, message))
-                }
-            },
+            _ => Err(no_proposition(place)),
         }
     };
     condition::read(scanner, &SIGNS, &mut atom)
 }
 
-fn read_label(scanner: &mut Scanner, header: &Header) -> Result<Option<Valuations>, TextError> {
+pub fn read_label(scanner: &mut Scanner, header: &Header) -> Result<Option<Valuations>, TextError> {
     if !scanner.take("[") {
         return Ok(None);
     }
-    let set = read_condition(scanner, header)?;
+    let set = read_condition(scanner, header, &mut Vec::new())?;
     scanner.expect("]")?;
     Ok(Some(set))
 }
 
-/// Whether the acceptance set stands in braces.
-fn read_marks(scanner: &mut Scanner) -> Result<bool, TextError> {
-    let mut accepting = false;
-    if scanner.take("{") {
-        while !scanner.take("}") {
-            if scanner.number("an acceptance set")? != 0 {
-                return Err(scanner.fault("there is only the acceptance set 0"));
-            }
-            accepting = true;
-        }
-    }
-    Ok(accepting)
-}
-
 /// A target is one state: alternating automata are not read.
-fn plain_target(scanner: &mut Scanner) -> Result<(), TextError> {
+pub fn plain_target(scanner: &mut Scanner) -> Result<(), TextError> {
     match scanner.peek() {
         Some('&') => Err(scanner.fault("alternating automata are not read")),
         _ => Ok(()),
     }
-}
-
-fn read_state(scanner: &mut Scanner, header: &Header, graph: &mut Graph) -> Result<(), TextError> {
-    let shared = read_label(scanner, header)?;
-    let name = scanner.number("a state")?;
-    let from = graph.state(&name.to_string());
-    if scanner.peek() == Some('"') {
-        scanner.string()?;
-    }
-    if read_marks(scanner)? {
-        graph.accept(from);
-    }
-    let valuations = 1_usize << header.propositions.len();
-    let mut unlabelled = 0;
-    while scanner
-        .peek()
-        .is_some_and(|next| next == '[' || next.is_ascii_digit())
-    {
-        let place = scanner.place();
-        let letters = match read_label(scanner, header)?.or(shared) {
-            Some(letters) => letters,
-            None if unlabelled < valuations => {
-                unlabelled += 1;
-                1 << (unlabelled - 1)
-            }
-            None => {
-                let message = format!("more than {valuations} transitions without a label");
-                return Err(TextError::new(place, message));
-            }
-        };
-        let to = scanner.number("a state")?;
-        plain_target(scanner)?;
-        let to = graph.state(&to.to_string());
-        let accepting = read_marks(scanner)?;
-        graph.edges.push(Edge {
-            from,
-            letters,
-            to,
-            accepting,
-        });
-    }
-    Ok(())
 }

@@ -6,6 +6,8 @@ pub struct Scanner {
     characters: Vec<char>,
     next: usize,
     place: Place,
+    /// Where a comment begins that goes on to the end.
+    unclosed: Option<Place>,
 }
 
 impl Scanner {
@@ -14,6 +16,7 @@ impl Scanner {
             characters: text.chars().collect(),
             next: 0,
             place: Place { line: 1, column: 1 },
+            unclosed: None,
         }
     }
 
@@ -36,9 +39,13 @@ impl Scanner {
     /// Passes over white space and comments, which may stand in one another.
     pub fn skip(&mut self) {
         let mut depth = 0_usize;
+        let mut outermost = self.place;
         loop {
             match (self.ahead(0), self.ahead(1)) {
                 (Some('/'), Some('*')) => {
+                    if depth == 0 {
+                        outermost = self.place;
+                    }
                     depth += 1;
                     self.advance();
                     self.advance();
@@ -51,8 +58,11 @@ impl Scanner {
                 (Some(character), _) if depth > 0 || character.is_whitespace() => {
                     self.advance();
                 }
-                _ => return,
+                _ => break,
             }
+        }
+        if depth > 0 {
+            self.unclosed = Some(outermost);
         }
     }
 
@@ -86,6 +96,11 @@ impl Scanner {
     /// A run of characters of a kind, empty where another one comes.
     pub fn run(&mut self, of_kind: impl Fn(char) -> bool) -> String {
         self.skip();
+        self.run_here(of_kind)
+    }
+
+    /// The same, with nothing passed over before it.
+    pub fn run_here(&mut self, of_kind: impl Fn(char) -> bool) -> String {
         let mut run = String::new();
         while let Some(character) = self.ahead(0).filter(|character| of_kind(*character)) {
             run.push(character);
@@ -94,13 +109,14 @@ impl Scanner {
         run
     }
 
-    /// A word of letters, digits, `_`, `-` and `.`, not taken.
-    pub fn peek_word(&mut self) -> String {
+    /// A run of characters of a kind, not taken.
+    pub fn peek_run(&mut self, of_kind: impl Fn(char) -> bool) -> String {
         self.skip();
         let rest = self.characters.get(self.next..).unwrap_or(&[]).iter();
-        rest.take_while(|character| in_word(**character)).collect()
+        rest.take_while(|character| of_kind(**character)).collect()
     }
 
+    /// A word of letters, digits, `_`, `-` and `.`.
     pub fn word(&mut self) -> String {
         self.run(in_word)
     }
@@ -109,6 +125,11 @@ impl Scanner {
         self.skip();
         let place = self.place;
         let digits = self.run(|character| character.is_ascii_digit());
+        // By the format's rules 01 is two numbers, which nobody means.
+        if digits.len() > 1 && digits.starts_with('0') {
+            let message = format!("expected {wanted}, a number that does not begin with 0");
+            return Err(TextError::new(place, message));
+        }
         digits
             .parse()
             .map_err(|_| TextError::new(place, format!("expected {wanted}, a number")))
@@ -128,20 +149,27 @@ impl Scanner {
         }
     }
 
-    /// Takes one thing, whatever it is: a text in quotes, a word, or a character.
-    pub fn pass(&mut self) -> Result<String, TextError> {
+    /// Takes a text in quotes, a word or a number if one comes.
+    pub fn pass(&mut self) -> Result<bool, TextError> {
         match self.peek() {
-            Some('"') => self.string(),
-            Some(character) if in_word(character) => Ok(self.word()),
-            Some(_) => Ok(self.advance().into_iter().collect()),
-            None => Err(self.fault("expected more")),
+            Some('"') => self.string().map(|_| true),
+            Some(first) if first.is_alphanumeric() || first == '_' => Ok(!self.word().is_empty()),
+            _ => Ok(false),
         }
     }
 
     /// Whether a word with a colon right behind it comes next.
     pub fn line_begins_header(&mut self) -> bool {
-        let word = self.peek_word();
+        let word = self.peek_run(in_word);
         !word.is_empty() && self.ahead(word.chars().count()) == Some(':')
+    }
+
+    /// Whether a word comes next and then, with white space between them or none, one colon.
+    pub fn comes_with_colon(&mut self, of_kind: impl Fn(char) -> bool) -> bool {
+        let length = self.peek_run(of_kind).chars().count();
+        let behind = self.characters.get(self.next + length..).unwrap_or(&[]);
+        let mut behind = behind.iter().skip_while(|next| next.is_whitespace());
+        length > 0 && behind.next() == Some(&':') && behind.next() != Some(&':')
     }
 
     pub fn place(&mut self) -> Place {
@@ -149,8 +177,21 @@ impl Scanner {
         self.place
     }
 
+    /// That something is wrong where the next thing stands, or with the comment that hides it.
     pub fn fault(&mut self, message: &str) -> TextError {
-        TextError::new(self.place(), message)
+        let place = self.place();
+        match self.unclosed {
+            Some(comment) => TextError::new(comment, "a comment does not end"),
+            None => TextError::new(place, message),
+        }
+    }
+
+    /// That nothing follows.
+    pub fn end(&mut self, message: &str) -> Result<(), TextError> {
+        match self.peek().is_none() && self.unclosed.is_none() {
+            true => Ok(()),
+            false => Err(self.fault(message)),
+        }
     }
 }
 

@@ -5,9 +5,9 @@
 //! whose entries are out of range reads well, and the call that gets its bytes refuses them. What a text has beyond the bytes is how
 //! letters are called: by names, or as valuations of propositions.
 //!
-//! No bytes of a rule, an automaton or a marks section that pass the checks begin as a text does: their first byte is a count of at
-//! most 64 elements or 6 states, or with the second one a count of at most 4,096 marks, and the letters `du` are 100 and 117. Nor do those
-//! of a map to a rule, which are below 64.
+//! A byte order mark, blank lines and comments may stand before the first line of a text. No bytes of a rule, an automaton, a marks
+//! section or a map to a rule that pass the checks are a text all the same: but for the low byte of a count of marks or transitions all
+//! their bytes are below 64, and the high byte is at most 16, while `du` is 100 and 117, and `u:` and `v:` have 58 behind a byte above 64.
 
 mod automaton;
 mod lasso;
@@ -17,6 +17,7 @@ mod names;
 mod quotes;
 mod read;
 mod rule;
+mod start;
 mod tokens;
 
 pub use automaton::print_automaton;
@@ -27,5 +28,6 @@ pub use names::{Names, MOST_PROPOSITIONS};
 pub(crate) use quotes::{quoted, written};
 pub use read::{kind, read, Kind, Parsed};
 pub use rule::print_rule;
+pub(crate) use start::from_first_line;
 pub(crate) use tokens::decode;
 pub use tokens::{words, Place, TextError};

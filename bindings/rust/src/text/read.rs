@@ -1,6 +1,7 @@
 //! What a text is of, and the bytes that it says.
 
 use super::names::Names;
+use super::start::from_first_line;
 use super::tokens::{decode, Place, TextError, Tokens};
 use super::{automaton, map, marks, rule};
 
@@ -110,14 +111,16 @@ impl Parsed {
     }
 }
 
-/// Whether bytes are a text, and of what: a text is what begins with `duknavet` and a space, or, of a lasso, with `u:` or `v:`.
+/// Whether bytes are a text, and of what: a text is what begins with `duknavet` and a space, or, of a lasso, with `u:` or `v:`. A byte
+/// order mark, blank lines and comments may stand before.
 ///
 /// An unknown second word is an error of the text.
 pub fn kind(bytes: &[u8]) -> Option<Result<Kind, TextError>> {
-    if bytes.starts_with(b"u:") || bytes.starts_with(b"v:") {
+    let first = from_first_line(bytes);
+    if first.starts_with(b"u:") || first.starts_with(b"v:") {
         return Some(Ok(Kind::Lasso));
     }
-    bytes.starts_with(b"duknavet ").then(|| {
+    first.starts_with(b"duknavet ").then(|| {
         let text = decode(bytes)?;
         header(&mut Tokens::of(text))
     })

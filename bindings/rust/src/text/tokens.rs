@@ -1,6 +1,7 @@
 //! The words of a text, each with its line and column.
 
 use super::quotes::quoted_length;
+use super::start::without_mark;
 use std::fmt;
 
 /// A place in a text: its line, and the character of that line, both from 1.
@@ -44,8 +45,9 @@ impl TextError {
     }
 }
 
-/// The text of some bytes, or the place of the first that is no text.
+/// The text of some bytes without a byte order mark, or the place of the first that is no text.
 pub(crate) fn decode(bytes: &[u8]) -> Result<&str, TextError> {
+    let bytes = without_mark(bytes);
     std::str::from_utf8(bytes).map_err(|error| {
         let good = String::from_utf8_lossy(&bytes[..error.valid_up_to()]);
         TextError::new(end_of(&good), "the text is not in UTF-8")

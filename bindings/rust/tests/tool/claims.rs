@@ -55,7 +55,7 @@ fn texts_that_are_not_read() {
     for (text, expected) in [
         (
             "HOA: v2".to_string(),
-            "line 1, column 8: expected the version v1",
+            "line 1, column 6: expected the version v1",
         ),
         (
             format!("{head}--BODY--\n--END--"),

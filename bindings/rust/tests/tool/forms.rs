@@ -1,9 +1,9 @@
 //! Bytes and texts, rules and automata are told apart, never by a guess.
 
 use crate::inputs::automata;
-use crate::program::run_with;
+use crate::program::{run_with, Scrap};
 use crate::random::Random;
-use crate::samples::rule;
+use crate::samples::{remainders, rule, NAMED, W};
 use duknavet::exchange::format;
 use duknavet::owned;
 use duknavet::text::kind;
@@ -62,7 +62,13 @@ fn what_begins_otherwise_is_bytes() {
         "v ",
         " u:",
         "#",
-        "\u{feff}duknavet rule 1",
+        "# duknavet rule 1",
+        "/* HOA: v1",
+        "/* one */ two",
+        "\u{feff}",
+        "\u{feff}\u{feff}duknavet rule 1",
+        "\u{feff} duknavet rule 1",
+        "#one \\\nnever {",
     ] {
         assert_eq!(kind(beginning.as_bytes()).map(|_| ()), None, "{beginning}");
         assert_eq!(format(beginning.as_bytes()), None, "{beginning}");
@@ -72,6 +78,58 @@ fn what_begins_otherwise_is_bytes() {
     run_with(&["summary", "-"], b"duknavet").said(2, words);
 }
 
+/// A byte order mark, blank lines and comments are passed over where the first line of a text follows, and places count without the mark.
+#[test]
+fn what_may_stand_before_a_text() {
+    let lasso = Scrap::holding("\u{feff}\n# a week\nu: 0  v: 1\n".as_bytes());
+    let rule = Scrap::holding(W);
+    let graded = run_with(&["member", rule.name(), lasso.name()], b"");
+    assert_eq!(graded.printed(1), "grade 0 turns 1\n");
+    let hoa =
+        "HOA: v1 Start: 0 AP: 1 \"a\" Acceptance: 1 Inf(0) --BODY-- State: 0 {0} [!0] 0 --END--";
+    let claim = "never { accept: do :: !a od }";
+    let expected = "automaton states 1 letters 2 transitions 1\n";
+    for before in [
+        "",
+        "\u{feff}",
+        "\n \t\r\n",
+        "/* one\n two */ ",
+        "\u{feff}\n/* one */\n\n/* two */",
+    ] {
+        for text in [hoa, claim] {
+            let text = format!("{before}{text}");
+            assert_eq!(
+                run_with(&["check", "-"], text.as_bytes()).printed(0),
+                expected
+            );
+        }
+    }
+    for before in [
+        "// one\n",
+        "#define b 1 \\\n + 2\n",
+        "\u{feff}// one\r\n\r\n#define b\n/* two */",
+    ] {
+        let text = format!("{before}{claim}");
+        assert_eq!(
+            run_with(&["check", "-"], text.as_bytes()).printed(0),
+            expected
+        );
+    }
+    for before in ["\u{feff}", "\n\n", "# one\n", "\u{feff}#\n \n## two\n"] {
+        let text = format!("{before}{NAMED}");
+        let checked = run_with(&["check", "-"], text.as_bytes());
+        assert_eq!(checked.printed(0), "rule elements 2 letters 2 marks 1\n");
+    }
+    // What a format has no comments for is an error of the text.
+    let other = format!("# one\n{hoa}");
+    run_with(&["check", "-"], other.as_bytes()).said(2, "line 1, column 1: expected `HOA:`");
+    let other = format!("// one\n{NAMED}");
+    run_with(&["check", "-"], other.as_bytes())
+        .said(2, "line 1, column 1: expected `duknavet`, found `//`");
+    let marked = format!("\u{feff}{}", NAMED.replace("rule", "rile"));
+    run_with(&["check", "-"], marked.as_bytes()).said(2, "line 1, column 10: expected `rule`, ");
+}
+
 #[test]
 fn what_passes_the_checks_is_bytes() {
     let mut random = Random::new(501);
@@ -79,6 +137,39 @@ fn what_passes_the_checks_is_bytes() {
         let bytes = rule(&mut random, 20).bytes();
         assert_eq!(kind(&bytes).map(|_| ()), None);
         assert_eq!(format(&bytes), None);
+    }
+}
+
+/// Rules whose first byte is a blank, `#`, `(`, `/`, `0` or `<`, as comments, formulas, numbers and markup begin.
+#[test]
+fn rules_that_begin_as_other_texts_do() {
+    for (elements, first) in [
+        (32, b' '),
+        (35, b'#'),
+        (40, b'('),
+        (47, b'/'),
+        (48, b'0'),
+        (60, b'<'),
+    ] {
+        let bytes = remainders(elements).bytes();
+        assert_eq!(bytes.first(), Some(&first));
+        assert_eq!(kind(&bytes).map(|_| ()), None);
+        assert_eq!(format(&bytes), None);
+        let said = format!("rule elements {elements} letters 1 marks 1\n");
+        assert_eq!(run_with(&["check", "-"], &bytes).printed(0), said);
+        assert_eq!(run_with(&["strong", "-"], &bytes).printed(0), "strong\n");
+        let text = run_with(&["convert", "-"], &bytes);
+        let again = run_with(&["convert", "-"], text.printed(0).as_bytes());
+        assert_eq!((again.status, again.out), (0, bytes.clone()));
+        // Damaged they are refused as bytes, without a word of what they might look like.
+        let mut damaged = bytes.clone();
+        damaged.push(0);
+        let refused = run_with(&["check", "-"], &damaged);
+        refused.said(
+            2,
+            "1 byte too many follows the last mark (refusal 4, input 1, ",
+        );
+        assert!(refused.err.ends_with(")\n"), "{}", refused.err);
     }
 }
 

@@ -28,6 +28,8 @@ mod rounds;
 mod rule_automata;
 mod samples;
 mod states;
+mod strict_claims;
+mod strict_hoa;
 mod texts;
 mod transcripts;
 mod usage;
