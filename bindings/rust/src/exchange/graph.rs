@@ -8,6 +8,11 @@ use std::collections::BTreeMap;
 /// The most states that are looked at.
 const MOST: usize = 4096;
 
+/// That too many states are left for an automaton file.
+pub fn too_many_left(states: usize) -> String {
+    format!("after trimming {states} states are left, more than 6")
+}
+
 pub struct Edge {
     pub from: usize,
     pub letters: Valuations,
@@ -57,8 +62,7 @@ impl Graph {
         let doubled = self.doubled();
         let kept = doubled.useful();
         if kept.len() > 255 {
-            let message = format!("{} states are left, more than 6", kept.len());
-            return Err(TextError::new(start, message));
+            return Err(TextError::new(start, too_many_left(kept.len())));
         }
         Ok(doubled.only(&kept, letters))
     }

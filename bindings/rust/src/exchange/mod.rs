@@ -17,6 +17,7 @@ mod print;
 mod reserved;
 mod scanner;
 
+pub use graph::too_many_left;
 pub use print::{print_hoa, print_rule_hoa};
 
 use crate::files::Automaton;

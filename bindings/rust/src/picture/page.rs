@@ -83,11 +83,12 @@ pub fn page(bytes: &[u8], names: &Names, title: &str) -> Result<String, Explaine
             ]
         });
     section(&mut html, "First words", &["element", "word"], words);
-    let _ = writeln!(
-        html,
-        "<h2>Classes</h2>\n<p>{} linked pairs in {} classes.</p>",
-        classes.counts.linked, classes.counts.classes
-    );
+    let linked = crate::words::count(classes.counts.linked, "linked pair");
+    let number = match classes.counts.classes {
+        1 => "1 class".to_string(),
+        number => format!("{number} classes"),
+    };
+    let _ = writeln!(html, "<h2>Classes</h2>\n<p>{linked} in {number}.</p>");
     html.push_str("<ol>\n");
     for class in classes.by_least() {
         let pairs: Vec<String> = class.iter().map(|(s, e)| format!("({s}, {e})")).collect();

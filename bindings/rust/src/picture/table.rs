@@ -54,10 +54,8 @@ pub(super) fn block_svg(
         let at = (MARGIN, down + 10.0 + 20.0 * place as f64);
         svg.text(at, "text-anchor=\"start\"", line);
     }
-    svg.finished(&format!(
-        "Product table of a rule with {} elements",
-        rule.elements
-    ))
+    let elements = crate::words::count(usize::from(rule.elements), "element");
+    svg.finished(&format!("Product table of a rule with {elements}"))
 }
 
 fn cell(svg: &mut Svg, (x, y): (f64, f64), product: u8, grade: u8) {

@@ -217,7 +217,7 @@ impl Names {
         if let Called::Propositions(own) = &self.0 {
             return match number() {
                 Some(number) => Ok(number),
-                None => read_valuation(own, token, tokens),
+                None => read_valuation(own, token, tokens, &self.known()),
             };
         }
         let named = match unquoted(token.word) {
@@ -229,8 +229,21 @@ impl Names {
         named.ok_or_else(|| {
             let word = shown(token.word);
             let message = format!("`{word}` is no letter's name and no number from 0 to 255");
-            TextError::new(token.place, message)
+            TextError::new(token.place, message + &self.known())
         })
+    }
+
+    /// What letters or propositions are called, for one who asked for another.
+    fn known(&self) -> String {
+        let listed = |of: &str, names: &[String]| {
+            let names: Vec<String> = names.iter().map(|own| written(own)).collect();
+            format!("; the {of} are {}", names.join(", "))
+        };
+        match (&self.0, self.as_letters()) {
+            (Called::Propositions(own), _) if !own.is_empty() => listed("propositions", own),
+            (_, Some(own)) => listed("letters", &own),
+            _ => String::new(),
+        }
     }
 
     /// Gives the next letter of a text a name, or none. Letters of propositions have none.
@@ -329,6 +342,7 @@ fn read_valuation(
     propositions: &[String],
     first: Token<'_>,
     tokens: &mut Tokens<'_>,
+    known: &str,
 ) -> Result<u8, TextError> {
     let (mut token, mut letter, mut seen) = (first, 0, 0);
     loop {
@@ -344,7 +358,7 @@ fn read_valuation(
         let Some(bit) = propositions.iter().position(|own| *own == name) else {
             let word = shown(&name);
             return Err(fault(format!(
-                "`{word}` is no proposition and no number from 0 to 255"
+                "`{word}` is no proposition and no number from 0 to 255{known}"
             )));
         };
         if seen >> bit & 1 == 1 {

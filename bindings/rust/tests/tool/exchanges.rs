@@ -143,9 +143,25 @@ fn useless_states_do_not_count() {
         printed.printed(0),
         "automaton states 6 letters 1 transitions 6\n"
     );
-    run_with(&["check", "-"], chain(7, 6).as_bytes()).said(2, "the file has 7 states, not 1 to 6");
-    run_with(&["check", "-"], chain(300, 299).as_bytes())
-        .said(2, "300 states are left, more than 6");
+    run_with(&["check", "-"], chain(7, 6).as_bytes()).said(2, "standard input: after trimming 7 states are left, more than 6 (refusal 2, input 1, place 0)");
+    run_with(&["check", "-"], chain(300, 299).as_bytes()).said(
+        2,
+        "line 1, column 1: after trimming 300 states are left, more than 6",
+    );
+    // One of the seven may be left out, but of an automaton file nothing is.
+    let bytes: Vec<u8> = [[7].as_slice(), &[1; 7], &[1, 0, 0]].concat();
+    run_with(&["check", "--as", "automaton", "-"], &bytes).said(
+        2,
+        "standard input: the file has 7 states, not 1 to 6 (refusal 2, input 1, place 0)",
+    );
+    let many = chain(4097, 4096);
+    run_with(&["check", "-"], many.as_bytes()).said(2, "there are 4097 states, more than 4096");
+    let idle = chain(4096, 0);
+    let printed = run_with(&["check", "-"], idle.as_bytes());
+    assert_eq!(
+        printed.printed(0),
+        "automaton states 1 letters 1 transitions 1\n"
+    );
 }
 
 /// What is no automaton is written too, with as many propositions as its letters need.

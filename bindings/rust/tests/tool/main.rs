@@ -19,6 +19,7 @@ mod damage;
 mod exchanges;
 mod following;
 mod forms;
+mod hints;
 mod marked;
 mod names;
 mod pictures;

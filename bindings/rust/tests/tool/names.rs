@@ -107,15 +107,15 @@ fn letters_as_valuations() {
     for (text, expected) in [
         (
             "e",
-            "line 1, column 1: `e` is no proposition and no number from 0 to 255",
+            "line 1, column 1: `e` is no proposition and no number from 0 to 255; the propositions are a, b, c, d",
         ),
         (
             "a & !e",
-            "line 1, column 6: `e` is no proposition and no number from 0 to 255",
+            "line 1, column 6: `e` is no proposition and no number from 0 to 255; the propositions are a, b, c, d",
         ),
         (
             "a & 1",
-            "line 1, column 5: `1` is no proposition and no number from 0 to 255",
+            "line 1, column 5: `1` is no proposition and no number from 0 to 255; the propositions are a, b, c, d",
         ),
         ("a & !a", "line 1, column 6: `a` stands twice in one letter"),
         (

@@ -194,7 +194,7 @@ fn nothing_is_accepted_where_no_state_is_initial() {
     );
     assert_eq!(
         compared.noted(0, &by_number),
-        "equal: both reduce to the same 1 elements\n"
+        "equal: both reduce to the same 1 element\n"
     );
 }
 

@@ -1,6 +1,7 @@
 //! The words behind a subcommand: options and arguments.
 
 use crate::command::{Command, Failure};
+use crate::nearest::nearest;
 use std::ffi::{OsStr, OsString};
 
 /// The arguments and options that a subcommand was given.
@@ -40,7 +41,7 @@ impl Arguments {
                     arguments.option(command, option, &mut words)?;
                 }
                 _ if !only_plain && shown.len() > 1 && shown.starts_with('-') => {
-                    return Err(arguments.usage(&format!("there is no option `{shown}`")));
+                    return Err(arguments.no_option(command, &shown));
                 }
                 _ => arguments.plain.push(word.clone()),
             }
@@ -64,7 +65,7 @@ impl Arguments {
             None => (option, None),
         };
         let Some(choice) = command.options.iter().find(|own| own.name == name) else {
-            return Err(self.usage(&format!("there is no option `--{name}`")));
+            return Err(self.no_option(command, &format!("--{name}")));
         };
         let value = match (choice.value, joined) {
             (None, None) => None,
@@ -82,6 +83,16 @@ impl Arguments {
         }
         self.options.push((choice.name, value));
         Ok(())
+    }
+
+    /// That there is no such option, and which is nearest.
+    fn no_option(&self, command: &Command, given: &str) -> Failure {
+        let names = command.options.iter().map(|own| own.name);
+        let nearest = match nearest(given.trim_start_matches('-'), names.chain(["help"])) {
+            Some(nearest) => format!("; the nearest is `--{nearest}`"),
+            None => String::new(),
+        };
+        self.usage(&format!("there is no option `{given}`{nearest}"))
     }
 
     /// An argument by its place; there are as many as the subcommand asks for.

@@ -1,6 +1,7 @@
 //! Help for each subcommand, and the man page, from the same words.
 
 use crate::command::{Answer, Command, Failure};
+use crate::nearest::nearest;
 use crate::{commands, output};
 use std::ffi::OsString;
 use std::fmt::Write;
@@ -9,7 +10,7 @@ const PURPOSE: &str = "ask questions about rules over endless event sequences";
 
 const FILES: &str = "A file is given by its name, or as - for standard input, which can be read once. What begins with the word \
 `duknavet` and a space is a text; with `HOA:`, an automaton in that format; with `never` and white space or a brace, a never claim; \
-with `u:` or `v:`, a lasso. Everything else is the bytes of a file. No bytes that pass the checks begin in these ways.";
+with `u:` or `v:`, a lasso; a byte order mark, blank lines and comments before that are passed over. Everything else is the bytes of a file. Bytes that pass the checks are never taken for a text.";
 
 const STATUS: [(&str, &str); 4] = [
     ("0", "yes, or done"),
@@ -29,8 +30,20 @@ pub fn print(words: &[OsString]) -> Result<Answer, Failure> {
     let name = first.to_string_lossy();
     match commands::named(&name) {
         Some(command) => output::print(&of(command)),
-        None => Err(Failure::Usage(format!("there is no subcommand `{name}`"))),
+        None => Err(no_subcommand(&name)),
     }
+}
+
+/// That there is no such subcommand, and which is nearest.
+pub fn no_subcommand(name: &str) -> Failure {
+    let others = ["--help", "--version", "--man"];
+    let known = commands::ALL.iter().map(|command| command.name);
+    let nearest = match nearest(name, known.chain(others)) {
+        Some(nearest) => format!("; the nearest is `{nearest}`"),
+        None => String::new(),
+    };
+    let message = format!("there is no subcommand `{name}`{nearest}; --help lists them");
+    Failure::Usage(message)
 }
 
 pub fn overview() -> String {

@@ -1,6 +1,7 @@
 //! Files that are handed in: bytes and texts, told apart by how they begin.
 
 use crate::command::Failure;
+use crate::{kinds, likeness};
 use duknavet::exchange;
 use duknavet::files::Lasso;
 use duknavet::text::{self, Kind, Names, Parsed, Place, TextError};
@@ -13,6 +14,9 @@ use std::sync::atomic::{AtomicBool, Ordering};
 
 /// The most bytes that are read of one file.
 const MOST: u64 = 4 << 20;
+
+/// How somebody goes on who has an automaton where a rule is wanted.
+const MAKES_A_RULE: &str = "`duknavet-tool automaton` makes a rule of one";
 
 /// What a file holds.
 #[derive(Clone, Copy, Debug, PartialEq, Eq)]
@@ -31,6 +35,8 @@ pub struct Source {
     pub bytes: Vec<u8>,
     pub form: Form,
     pub names: Names,
+    /// What the subcommand asked for, where it asked for one kind.
+    wanted: Option<Kind>,
     /// Where each byte stood in a text.
     places: Vec<Place>,
     /// What files of other tools say of the letters, a line each.
@@ -60,10 +66,36 @@ impl Source {
         let at = at.filter(|_| of_byte && !beside);
         let place = at.and_then(|at| self.places.get(at));
         let name = &self.name;
-        Failure::Refused(match place {
-            Some(place) => format!("{name}: {place}: {explained}"),
-            None => format!("{name}: {explained}"),
+        Failure::Refused(match (place, self.left(explained)) {
+            (_, Some(left)) => format!("{name}: {left}"),
+            (Some(place), _) => format!("{name}: {place}: {explained}"),
+            _ => format!("{name}: {explained}{}", self.hint()),
         })
+    }
+
+    /// That another tool's automaton has too many states, which only those are that are left of it.
+    fn left(&self, explained: &Explained) -> Option<Explained> {
+        let refused = explained.refused;
+        let count = (refused.refusal, refused.place) == (Refusal::CountOutOfRange, 0);
+        let foreign = matches!(self.form, Form::Hoa | Form::Never);
+        let states = usize::from(*self.bytes.first()?);
+        let words = exchange::too_many_left(states);
+        (foreign && count).then_some(Explained { refused, words })
+    }
+
+    /// What bytes that were refused may be instead, to be said behind the refusal.
+    pub fn hint(&self) -> String {
+        if self.form != Form::Bytes {
+            return String::new();
+        }
+        let rule = self.wanted == Some(Kind::Rule);
+        match likeness::words(&self.bytes) {
+            Some(words) => format!("; {words}"),
+            None if rule && kinds::check_automaton(&self.bytes).is_ok() => {
+                format!("; it is an automaton, and {MAKES_A_RULE}")
+            }
+            None => String::new(),
+        }
     }
 }
 
@@ -151,6 +183,7 @@ pub fn source_of(name: String, bytes: Vec<u8>) -> Result<Source, Failure> {
         bytes: parsed.bytes,
         form,
         names: parsed.names,
+        wanted: None,
         places: parsed.places,
         notes,
     })
@@ -165,14 +198,18 @@ pub fn expected(name: &OsStr, kind: Kind) -> Result<Source, Failure> {
         Form::Hoa | Form::Never => Kind::Automaton,
     };
     if found != kind {
-        return Err(Failure::Refused(format!(
-            "{}: expected {}, found {}",
-            source.name,
-            kind.article(),
-            found.article()
-        )));
+        let (name, wanted) = (&source.name, kind.article());
+        let hint = match (kind, found) {
+            (Kind::Rule, Kind::Automaton) => format!("; {MAKES_A_RULE}"),
+            _ => String::new(),
+        };
+        let message = format!("{name}: expected {wanted}, found {}{hint}", found.article());
+        return Err(Failure::Refused(message));
     }
-    Ok(source)
+    Ok(Source {
+        wanted: Some(kind),
+        ..source
+    })
 }
 
 pub fn rule(name: &OsStr) -> Result<Source, Failure> {

@@ -78,10 +78,11 @@ fn refused_as_both(source: &Source) -> Failure {
         Err(explained) => explained.to_string(),
     };
     Failure::Refused(format!(
-        "{}: as a rule: {}; as an automaton: {}",
+        "{}: as a rule: {}; as an automaton: {}{}",
         source.name,
         said(owned::check(&source.bytes)),
-        said(check_automaton(&source.bytes))
+        said(check_automaton(&source.bytes)),
+        source.hint()
     ))
 }
 

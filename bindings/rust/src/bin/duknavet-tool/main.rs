@@ -11,8 +11,10 @@ mod form;
 mod help;
 mod input;
 mod kinds;
+mod likeness;
 mod lines;
 mod meeting;
+mod nearest;
 mod output;
 mod requests;
 mod state;
@@ -54,8 +56,7 @@ fn run(words: &[OsString]) -> Result<Answer, Failure> {
         _ => {}
     }
     let Some(command) = commands::named(&name) else {
-        let message = format!("there is no subcommand `{name}`; --help lists them");
-        return Err(Failure::Usage(message));
+        return Err(help::no_subcommand(&name));
     };
     if rest.iter().any(|word| word == "--help" || word == "-h") {
         return output::print(&help::of(command));

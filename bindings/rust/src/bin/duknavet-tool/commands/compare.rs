@@ -39,10 +39,11 @@ fn run(arguments: &Arguments) -> Result<Answer, Failure> {
         })?;
     match comparison {
         Comparison::EqualReductions(reduction) => {
-            let elements = reduction.first().copied().unwrap_or(0);
-            output::write(
-                format!("equal: both reduce to the same {elements} elements\n").as_bytes(),
-            )?;
+            let elements = match reduction.first().copied().unwrap_or(0) {
+                1 => "1 element".to_string(),
+                elements => format!("{elements} elements"),
+            };
+            output::write(format!("equal: both reduce to the same {elements}\n").as_bytes())?;
             Ok(Answer::Yes)
         }
         Comparison::EqualGrades => {
