@@ -146,10 +146,13 @@ impl Apart {
     }
 }
 
-/// Names with a comma between them.
+/// Names with a comma between them; numbers stand for letters without a name.
 pub fn listed(names: &[String]) -> String {
-    let names: Vec<String> = names.iter().map(|name| written(name)).collect();
-    names.join(", ")
+    let shown = |name: &String| match name.parse::<u8>() {
+        Ok(number) => number.to_string(),
+        Err(_) => written(name),
+    };
+    names.iter().map(shown).collect::<Vec<_>>().join(", ")
 }
 
 /// How letters are called, in words.

@@ -53,7 +53,7 @@ pub fn compare(first: &[u8], second: &[u8]) -> Result<Comparison, (u8, Explained
         if small_first.bytes == small_second.bytes {
             return Ok(Comparison::EqualReductions(small_first.bytes));
         }
-        by_verdicts(&small_first, &small_second)
+        by_verdicts(&small_first, &small_second, |own, other| own != other)
     } else {
         let pairs = Pairs::reached(&small_first.parts, &small_second.parts);
         match pairs.values.len() {
@@ -71,13 +71,13 @@ pub fn compare(first: &[u8], second: &[u8]) -> Result<Comparison, (u8, Explained
 }
 
 /// A rule that gives the same grades, the reduction of a strong one.
-struct Smallest {
-    bytes: Vec<u8>,
-    parts: Rule,
+pub(super) struct Smallest {
+    pub bytes: Vec<u8>,
+    pub parts: Rule,
     strong: bool,
 }
 
-fn smallest(rule: &[u8]) -> Result<Smallest, Explained> {
+pub(super) fn smallest(rule: &[u8]) -> Result<Smallest, Explained> {
     let strong = owned::strong(rule)? == Strength::Strong;
     let bytes = match strong {
         true => owned::reduce(rule)?,
@@ -126,8 +126,12 @@ fn difference(first: &[u8], second: &[u8], lasso: Lasso) -> Result<Difference, (
     })
 }
 
-/// The shortest lasso, of those whose words are first words of pairs of values, to which two strong rules give different grades.
-fn by_verdicts(first: &Smallest, second: &Smallest) -> Result<Option<Lasso>, Explained> {
+/// The shortest lasso, of those whose words are first words of pairs of values, to which two strong rules give grades that are told apart.
+pub(super) fn by_verdicts(
+    first: &Smallest,
+    second: &Smallest,
+    apart: fn(u8, u8) -> bool,
+) -> Result<Option<Lasso>, Explained> {
     let (grades_a, grades_b) = (
         grades(&first.bytes, first.parts.elements)?,
         grades(&second.bytes, second.parts.elements)?,
@@ -142,7 +146,10 @@ fn by_verdicts(first: &Smallest, second: &Smallest) -> Result<Option<Lasso>, Exp
             }
             None => (NONE, NONE),
         };
-        grades_a[before_a][usize::from(a)] != grades_b[before_b][usize::from(b)]
+        apart(
+            grades_a[before_a][usize::from(a)],
+            grades_b[before_b][usize::from(b)],
+        )
     };
     let mut best: Option<(usize, Option<usize>, usize)> = None;
     let starts = || std::iter::once(None).chain((0..pairs.values.len()).map(Some));

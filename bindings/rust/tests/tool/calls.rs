@@ -128,7 +128,7 @@ fn included() {
         2,
         "within the marks: 1 of 3 bytes are there (refusal 1, input 2, place 3)",
     );
-    asked(NAMED.as_bytes()).said(2, "expected a marks section, found a rule");
+    asked(b"duknavet map 1\n0").said(2, "expected a marks section or a rule, found a map");
 }
 
 #[test]

@@ -51,6 +51,24 @@ pub fn either(name: &OsStr, arguments: &Arguments) -> Result<(Source, Kind), Fai
 
 /// What a source is: what its text says, or `--as`, or the checks.
 pub fn of_source(source: Source, arguments: &Arguments) -> Result<(Source, Kind), Failure> {
+    match stated(&source, arguments)?.or_else(|| kind_of(&source.bytes)) {
+        Some(kind) => Ok((source, kind)),
+        None => Err(refused_as_both(&source)),
+    }
+}
+
+/// What a source is: what its text says, or `--as`, or what is found of its bytes.
+pub fn of_source_or(
+    source: Source,
+    arguments: &Arguments,
+    found: fn(&[u8]) -> Kind,
+) -> Result<(Source, Kind), Failure> {
+    let kind = stated(&source, arguments)?.unwrap_or_else(|| found(&source.bytes));
+    Ok((source, kind))
+}
+
+/// What a text says that it is, or what `--as` says of bytes.
+fn stated(source: &Source, arguments: &Arguments) -> Result<Option<Kind>, Failure> {
     let wanted = arguments.one_of("as", &["rule", "automaton", "marks", "map"])?;
     let wanted = wanted.and_then(Kind::of_word);
     let found = match source.form {
@@ -64,11 +82,7 @@ pub fn of_source(source: Source, arguments: &Arguments) -> Result<(Source, Kind)
             let message = format!("{}: expected {wanted}, found {found}", source.name);
             Err(Failure::Refused(message))
         }
-        (Some(kind), _) | (None, Some(kind)) => Ok((source, kind)),
-        (None, None) => match kind_of(&source.bytes) {
-            Some(kind) => Ok((source, kind)),
-            None => Err(refused_as_both(&source)),
-        },
+        (found, wanted) => Ok(found.or(wanted)),
     }
 }
 

@@ -1,32 +1,57 @@
-//! Whether one marking of a table grades no lasso higher than another.
+//! Whether a rule grades no lasso higher than another marking of its table, or than another rule.
 
 use crate::arguments::Arguments;
 use crate::command::{Answer, Command, Failure};
-use crate::{input, output};
-use duknavet::files::{marks_of, Rule};
+use crate::input::{self, Source};
+use crate::kinds::{self, AS};
+use crate::meeting::{self, Side, BY_NUMBER};
+use crate::output;
+use duknavet::files::{marks_of, Lasso, Rule};
 use duknavet::owned;
-use duknavet::text::{print_lasso, Kind};
+use duknavet::text::{print_lasso, Kind, Names};
+use duknavet::witness::{included_in, Grades};
 
 pub const COMMAND: Command = Command {
     name: "included",
-    arguments: "RULE MARKS",
+    arguments: "FIRST SECOND",
     least: 2,
     most: 2,
-    purpose: "tell whether no lasso is graded higher by a rule's own marks than by a second marks section",
-    options: &[],
-    details: "Prints included, with status 0, or with status 1 a lasso that the rule's own marks grade higher, and its two grades. \
-The rule may be weak.",
+    purpose: "tell whether no lasso is graded higher by a rule than by a second marks section for its table, or by a second rule",
+    options: &[AS, BY_NUMBER],
+    details: "Prints included, with status 0, or with status 1 a lasso that the first grades higher, and its two grades. With a marks \
+section as SECOND the rule may be weak. Two rules are strong, and yes is said exactly if combine both of them compares equal to the first; \
+their letters meet as those of combine do. Bytes are a marks section where their length fits one, else a rule if they pass its checks.",
     run,
 };
 
 fn run(arguments: &Arguments) -> Result<Answer, Failure> {
     let rule = input::rule(arguments.plain(0))?;
-    let second = input::expected(arguments.plain(1), Kind::Marks)?;
+    let second = input::source(arguments.plain(1))?;
+    let (second, kind) = kinds::of_source_or(second, arguments, marks_or_rule)?;
+    match kind {
+        Kind::Marks => by_marks(&rule, &second),
+        Kind::Rule => by_rules(arguments, &rule, &second),
+        other => Err(Failure::Refused(format!(
+            "{}: expected a marks section or a rule, found {}",
+            second.name,
+            other.article()
+        ))),
+    }
+}
+
+/// What bytes are: a marks section where their length is that of one.
+fn marks_or_rule(bytes: &[u8]) -> Kind {
+    match marks_of(bytes).is_none() && owned::check(bytes).is_ok() {
+        true => Kind::Rule,
+        false => Kind::Marks,
+    }
+}
+
+fn by_marks(rule: &Source, second: &Source) -> Result<Answer, Failure> {
     let higher = owned::included(&rule.bytes, &second.bytes)
-        .map_err(|explained| input::refused_by_input(&rule, &second, &explained))?;
+        .map_err(|explained| input::refused_by_input(rule, second, &explained))?;
     let Some(lasso) = higher else {
-        output::write(b"included\n")?;
-        return Ok(Answer::Yes);
+        return included();
     };
     let grade = |bytes: &[u8]| {
         let member = owned::member(bytes, &lasso.u, &lasso.v);
@@ -36,8 +61,32 @@ fn run(arguments: &Arguments) -> Result<Answer, Failure> {
     };
     let parts = Rule::take_apart(&rule.bytes).zip(marks_of(&second.bytes));
     let other = parts.map(|(rule, marks)| Rule { marks, ..rule }.bytes());
-    let (by_first, by_second) = (grade(&rule.bytes)?, grade(&other.unwrap_or_default())?);
-    let shown = print_lasso(&lasso, &rule.names);
-    output::write(format!("{shown}\ngrades {by_first} {by_second}\n").as_bytes())?;
+    let grades = (grade(&rule.bytes)?, grade(&other.unwrap_or_default())?);
+    higher_by_first(&lasso, &rule.names, grades)
+}
+
+fn by_rules(arguments: &Arguments, rule: &Source, second: &Source) -> Result<Answer, Failure> {
+    let met = meeting::of_two(arguments, Side::of(rule), Side::of(second), [true, true])?;
+    let grades = included_in(&met.first, &met.second)
+        .map_err(|explained| input::refused_by_input(rule, second, &explained))?;
+    match grades {
+        Grades::NoneHigher => included(),
+        Grades::Higher(own) => {
+            higher_by_first(&own.lasso, &met.names, (own.first, own.second))
+        }
+        Grades::TooLarge(pairs) => Err(Failure::Refused(format!(
+            "words have {pairs} pairs of values in both, more than 64, and no lasso is found that the first grades higher"
+        ))),
+    }
+}
+
+fn included() -> Result<Answer, Failure> {
+    output::write(b"included\n")?;
+    Ok(Answer::Yes)
+}
+
+fn higher_by_first(lasso: &Lasso, names: &Names, grades: (u8, u8)) -> Result<Answer, Failure> {
+    let shown = print_lasso(lasso, names);
+    output::write(format!("{shown}\ngrades {} {}\n", grades.0, grades.1).as_bytes())?;
     Ok(Answer::No)
 }
