@@ -163,3 +163,37 @@ fn called(names: &Names) -> String {
         (None, own) => listed(&own.unwrap_or_default()),
     }
 }
+
+/// How letters are called, with their numbers where they are not: their names, or the propositions that they are valuations of.
+pub fn all_called(names: &Names, letters: usize) -> Vec<String> {
+    match names.as_propositions() {
+        Some(own) => own.to_vec(),
+        None => names
+            .as_letters()
+            .unwrap_or_else(|| (0..letters).map(|own| own.to_string()).collect()),
+    }
+}
+
+/// Letters, or the propositions that they are valuations of, in another order: how they are called then, and for each letter the one
+/// that it acts as. What is wrong with the order is told in words.
+pub fn in_order(
+    names: &Names,
+    letters: usize,
+    order: &[String],
+) -> Result<(Names, Vec<u8>), String> {
+    let own = all_called(names, letters);
+    let apart = by_name(names, order, &own).err();
+    if let Some(apart) = apart {
+        return Err(apart.in_words("the order", "the rule"));
+    }
+    if names.as_propositions().is_some() {
+        let ordered = Names::propositions(order)?;
+        return Ok((ordered, restricted(order, &own)));
+    }
+    let twice = (1..order.len()).find(|place| order[..*place].contains(&order[*place]));
+    match twice {
+        Some(place) => Err(format!("{} stands twice in the order", order[place])),
+        None if names.any() => Ok((Names::letters(order)?, places(order, &own))),
+        None => Ok((Names::none(), places(order, &own))),
+    }
+}

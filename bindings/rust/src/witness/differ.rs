@@ -74,7 +74,7 @@ pub fn compare(first: &[u8], second: &[u8]) -> Result<Comparison, (u8, Explained
 pub(super) struct Smallest {
     pub bytes: Vec<u8>,
     pub parts: Rule,
-    strong: bool,
+    pub strong: bool,
 }
 
 pub(super) fn smallest(rule: &[u8]) -> Result<Smallest, Explained> {

@@ -3,6 +3,7 @@
 
 mod differ;
 mod inclusion;
+mod other_order;
 mod pairs;
 mod shorten;
 mod unconfirmed;
@@ -10,6 +11,7 @@ mod weak;
 
 pub use differ::{compare, Comparison, Difference};
 pub use inclusion::{included_in, Grades};
+pub use other_order::equal_in_order;
 pub(crate) use pairs::pairs_of_values;
 pub use unconfirmed::{why_not_confirmed, ReductionFault};
 pub use weak::{why_weak, Weakness};

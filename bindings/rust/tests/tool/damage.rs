@@ -41,7 +41,7 @@ fn every_subcommand_survives() {
     ];
     let rule = Scrap::holding(W);
     let map = Scrap::holding(&[0, 1]);
-    let calls: [&[&str]; 28] = [
+    let calls: [&[&str]; 31] = [
         &["check", "-"],
         &["check", "--as", "automaton", "-"],
         &["summary", "-"],
@@ -54,6 +54,9 @@ fn every_subcommand_survives() {
         &["combine", "without", "-", rule.name(), "--to", "text"],
         &["included", rule.name(), "-"],
         &["reduce", "-", "--to", "text"],
+        &["reduce", "-", "--letters", "sorted"],
+        &["letters", "-", "--order", "1,0"],
+        &["letters", "-", "--add", "more=0"],
         &["confirm", "-", rule.name(), map.name()],
         &["confirm", rule.name(), "-", map.name()],
         &["confirm", rule.name(), rule.name(), "-"],

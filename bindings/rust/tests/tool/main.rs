@@ -21,6 +21,7 @@ mod following;
 mod forms;
 mod hints;
 mod inclusions;
+mod letters;
 mod marked;
 mod meeting;
 mod names;

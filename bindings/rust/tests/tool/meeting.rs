@@ -42,10 +42,9 @@ fn again(propositions: &str, of: usize) -> String {
 #[test]
 fn propositions_in_another_order() {
     let (a, b) = (again("2 \"a\" \"b\"", 0), again("2 \"b\" \"a\"", 0));
-    assert_eq!(
-        two(&["compare"], &a, &b).printed(1),
-        "u:  v: a & !b\ngrades 3 0\n"
-    );
+    let order = "equal in another order of letters: !a & b, a & !b of the second for a & !b, !a & b of the first";
+    let different = "u:  v: a & !b\ngrades 3 0\n";
+    assert_eq!(two(&["compare"], &a, &b).noted(1, order), different);
     let same = again("2 \"b\" \"a\"", 1);
     let equal = "equal: both reduce to the same 2 elements\n";
     assert_eq!(two(&["compare"], &a, &same).printed(0), equal);
@@ -70,7 +69,9 @@ fn a_rule_against_itself_in_another_order() {
 fn equal_bytes_with_names_exchanged() {
     let exchanged = exchanged();
     let compared = two(&["compare"], NAMED, &exchanged);
-    assert_eq!(compared.printed(1), "u:  v: open\ngrades 3 0\n");
+    let order =
+        "equal in another order of letters: shut, open of the second for open, shut of the first";
+    assert_eq!(compared.noted(1, order), "u:  v: open\ngrades 3 0\n");
     let (rule, reduced) = (
         Scrap::holding(NAMED.as_bytes()),
         Scrap::holding(exchanged.as_bytes()),

@@ -3,7 +3,7 @@
 use crate::program::{run, tool, Scrap};
 use crate::samples::{AUTOMATON, W};
 
-const COMMANDS: [&str; 21] = [
+const COMMANDS: [&str; 22] = [
     "check",
     "summary",
     "strong",
@@ -21,6 +21,7 @@ const COMMANDS: [&str; 21] = [
     "board",
     "stretch",
     "convert",
+    "letters",
     "show",
     "picture",
     "page",
@@ -86,6 +87,7 @@ fn full_disk() {
             "combine" => vec![name, "both", rule.name(), rule.name()],
             "included" | "follow" | "board" => continue,
             "automaton" => vec![name, automaton.name()],
+            "letters" => vec![name, rule.name(), "--name", "a,b"],
             "stretch" => vec![name, "v: 0", "0"],
             "compare" => vec![name, rule.name(), automaton.name()],
             "confirm" => vec![name, rule.name(), rule.name(), map.name()],

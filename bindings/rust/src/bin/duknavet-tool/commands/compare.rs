@@ -4,11 +4,11 @@ use crate::arguments::Arguments;
 use crate::command::{Answer, Command, Failure};
 use crate::input::Source;
 use crate::kinds::{self, AS};
-use crate::meeting::{self, Side, BY_NUMBER};
+use crate::meeting::{self, Met, Side, BY_NUMBER};
 use crate::output;
 use duknavet::owned;
 use duknavet::text::{print_lasso, Kind};
-use duknavet::witness::{compare, Comparison};
+use duknavet::witness::{compare, equal_in_order, Comparison};
 
 pub const COMMAND: Command = Command {
     name: "compare",
@@ -19,7 +19,9 @@ pub const COMMAND: Command = Command {
     options: &[AS, BY_NUMBER],
     details: "Prints equal, with status 0, where every lasso has the same grade by both: strong rules by the bytes of their \
 reductions, weak ones by inclusion both ways. Else, with status 1, a lasso of which no single letter can be left out, and its two \
-grades, each as the call member answers it. An automaton stands for its rule. Two rules of which one is weak are shown \
+grades, each as the call member answers it; where strong rules are equal in another order of letters, standard error says in which. \
+Letters meet by their names, in the order of FIRST, or by the propositions of both; where one file names none they go by their numbers. \
+An automaton stands for its rule. Two rules of which one is weak are shown \
 equal only as long as words have at most 64 pairs of values in both.",
     run,
 };
@@ -54,6 +56,7 @@ fn run(arguments: &Arguments) -> Result<Answer, Failure> {
             let lasso = print_lasso(&difference.lasso, &met.names);
             let (by_first, by_second) = (difference.first, difference.second);
             output::write(format!("{lasso}\ngrades {by_first} {by_second}\n").as_bytes())?;
+            tell_other_order(&met);
             Ok(Answer::No)
         }
         Comparison::OtherLetters(first, second) => Err(Failure::Refused(format!(
@@ -63,6 +66,21 @@ fn run(arguments: &Arguments) -> Result<Answer, Failure> {
             "one rule is weak, words have {pairs} pairs of values in both, more than 64, and no short lasso tells them apart"
         ))),
     }
+}
+
+/// Says in which order of the second's letters two rules that differ are equal, if there is one.
+fn tell_other_order(met: &Met) {
+    let Ok(Some(order)) = equal_in_order(&met.first, &met.second) else {
+        return;
+    };
+    let moved = (0..=u8::MAX).zip(order).filter(|(own, other)| own != other);
+    let moved: (Vec<String>, Vec<String>) = moved
+        .map(|(own, other)| (met.names.show(own), met.names.show(other)))
+        .unzip();
+    let (own, other) = (moved.0.join(", "), moved.1.join(", "));
+    output::complain(&format!(
+        "equal in another order of letters: {other} of the second for {own} of the first"
+    ));
 }
 
 fn side<'a>(source: &'a Source, rule: &'a [u8]) -> Side<'a> {

@@ -11,6 +11,7 @@ mod confirm;
 mod convert;
 mod follow;
 mod included;
+mod letters;
 mod member;
 mod page;
 mod picture;
@@ -42,6 +43,7 @@ pub const ALL: &[&Command] = &[
     &board::COMMAND,
     &stretch::COMMAND,
     &convert::COMMAND,
+    &letters::COMMAND,
     &show::COMMAND,
     &picture::COMMAND,
     &page::COMMAND,
