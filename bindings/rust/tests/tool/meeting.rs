@@ -257,10 +257,13 @@ fn text_in_order(rule: &[u8], names: &[&str], order: &[usize]) -> String {
 /// What `compare` prints of two rules with equal order of letters, and its status.
 fn compared(first: &[u8], second: &[u8], names: &Names) -> (i32, String) {
     match compare(first, second).expect("two rules") {
-        Comparison::EqualReductions(own) => (
-            0,
-            format!("equal: both reduce to the same {} elements\n", own[0]),
-        ),
+        Comparison::EqualReductions(own) => {
+            let elements = if own[0] == 1 { "element" } else { "elements" };
+            (
+                0,
+                format!("equal: both reduce to the same {} {elements}\n", own[0]),
+            )
+        }
         Comparison::EqualGrades => (0, "equal: neither grades a lasso higher\n".to_string()),
         Comparison::Different(own) => {
             let lasso = print_lasso(&own.lasso, names);
