@@ -1,10 +1,11 @@
 //! The text of an automaton: the propositions, if letters are their valuations; `states`, their count and a kind each; `letters`, their
 //! count and their names, all or none; `transitions`, their count and for each the state it leaves, its letter and the state it goes to.
 
+use super::counts::Section;
 use super::names::Names;
 use super::quotes::written;
 use super::read::{Kind, Parsed};
-use super::tokens::{TextError, Tokens};
+use super::tokens::{whole_number, TextError, Tokens};
 use crate::files::Automaton;
 use std::fmt::Write;
 
@@ -13,26 +14,17 @@ const KINDS: [&str; 4] = ["plain", "initial", "final", "both"];
 pub(super) fn read(tokens: &mut Tokens<'_>) -> Result<Parsed, TextError> {
     let mut parsed = Parsed::new();
     parsed.names.read_declaration(tokens, "states")?;
-    tokens.expect("states")?;
-    let states = parsed.byte(tokens, "the count of the states")?;
+    let states = read_states(tokens, &mut parsed)?;
     for state in 0..states {
         read_kind(tokens, &mut parsed, state)?;
     }
-    tokens.expect("letters")?;
-    let letters = parsed.letter_count(tokens)?;
-    let unnamed = |tokens: &Tokens<'_>| tokens.peek().is_none_or(|next| next.word == "transitions");
-    if !unnamed(tokens) {
-        for letter in 0..letters {
-            let wanted = format!("the name of letter {letter}");
-            if unnamed(tokens) {
-                return Err(tokens.fault(&wanted));
-            }
-            let name = tokens.next(&wanted)?;
-            parsed.names.add(letter, Some(name))?;
-        }
-    }
-    tokens.expect("transitions")?;
-    let count = parsed.wide_count(tokens, "the count of the transitions")?;
+    read_letters(tokens, &mut parsed)?;
+    let word = tokens.expect("transitions")?;
+    let section = Section::new(tokens, word, None, "transitions");
+    let count = match section.left_out_of_triples()? {
+        Some(transitions) => parsed.widely_counted(transitions, word)?,
+        None => parsed.wide_count(tokens, "the count of the transitions")?,
+    };
     for transition in 0..count {
         parsed.byte(
             tokens,
@@ -49,6 +41,49 @@ pub(super) fn read(tokens: &mut Tokens<'_>) -> Result<Parsed, TextError> {
         )?;
     }
     Ok(parsed)
+}
+
+/// Reads how many states there are: each has one word.
+fn read_states(tokens: &mut Tokens<'_>, parsed: &mut Parsed) -> Result<usize, TextError> {
+    let word = tokens.expect("states")?;
+    let section = Section::new(tokens, word, Some("letters"), "states");
+    let states = section.ahead.len();
+    let with = section
+        .first()
+        .is_some_and(|count| states == count.saturating_add(1));
+    match section.left_out(with, states > 0)? {
+        true => parsed.counted(states, word),
+        false => parsed.byte(tokens, "the count of the states"),
+    }
+}
+
+/// Reads how many letters there are, and their names, all or none. Where the count is left out they are as many as the names, or as the
+/// propositions have valuations.
+fn read_letters(tokens: &mut Tokens<'_>, parsed: &mut Parsed) -> Result<(), TextError> {
+    let word = tokens.expect("letters")?;
+    let named = tokens.before(Some("transitions"));
+    let number = named.first().and_then(|token| whole_number(token.word));
+    let (names, valuations) = (named.len(), parsed.names.count());
+    let place = tokens.peek().map_or(word, |token| token.place);
+    let (letters, place) = match (number, names, valuations) {
+        (None, 0, Some(valuations)) => (parsed.counted(valuations, word)?, word),
+        (None, 1.., None) => (parsed.counted(names, word)?, word),
+        _ => (parsed.byte(tokens, "the count of the letters")?, place),
+    };
+    parsed.names.expect_count(letters, place)?;
+    let ends = |tokens: &Tokens<'_>| tokens.before(Some("transitions")).is_empty();
+    if ends(tokens) {
+        return Ok(());
+    }
+    for letter in 0..letters {
+        let wanted = format!("the name of letter {letter}");
+        if ends(tokens) {
+            return Err(tokens.fault(&wanted));
+        }
+        let name = tokens.next(&wanted)?;
+        parsed.names.add(letter, Some(name))?;
+    }
+    Ok(())
 }
 
 fn read_kind(tokens: &mut Tokens<'_>, parsed: &mut Parsed, state: usize) -> Result<(), TextError> {

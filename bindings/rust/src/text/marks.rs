@@ -1,5 +1,6 @@
 //! The text of a marks section: `marks`, its count, and for each mark s, e and the grade, a number or a word.
 
+use super::counts::Section;
 use super::read::{Kind, Parsed};
 use super::tokens::{TextError, Tokens};
 use crate::files::Mark;
@@ -20,8 +21,12 @@ pub(super) fn read(tokens: &mut Tokens<'_>) -> Result<Parsed, TextError> {
 }
 
 pub(super) fn read_section(tokens: &mut Tokens<'_>, parsed: &mut Parsed) -> Result<(), TextError> {
-    tokens.expect("marks")?;
-    let count = parsed.wide_count(tokens, "the count of the marks")?;
+    let word = tokens.expect("marks")?;
+    let section = Section::new(tokens, word, None, "marks");
+    let count = match section.left_out_of_triples()? {
+        Some(marks) => parsed.widely_counted(marks, word)?,
+        None => parsed.wide_count(tokens, "the count of the marks")?,
+    };
     for mark in 0..count {
         parsed.byte(tokens, &format!("s of mark {mark}"))?;
         parsed.byte(tokens, &format!("e of mark {mark}"))?;

@@ -10,6 +10,7 @@
 //! their bytes are below 64, and the high byte is at most 16, while `du` is 100 and 117, and `u:` and `v:` have 58 behind a byte above 64.
 
 mod automaton;
+mod counts;
 mod lasso;
 mod map;
 mod marks;

@@ -82,14 +82,26 @@ impl Parsed {
         Ok(number)
     }
 
-    /// Reads how many letters there are: of propositions, as many as these have valuations.
-    pub(super) fn letter_count(&mut self, tokens: &mut Tokens<'_>) -> Result<usize, TextError> {
-        let place = tokens.peek().map(|token| token.place);
-        let letters = self.byte(tokens, "the count of the letters")?;
-        if let Some(place) = place {
-            self.names.expect_count(letters, place)?;
+    /// The count of a section that leaves it out; its place is that of the section's word.
+    pub(super) fn counted(&mut self, count: usize, word: Place) -> Result<usize, TextError> {
+        let byte = u8::try_from(count).map_err(|_| {
+            let message = format!("{count} entries, more than 255");
+            TextError::new(word, message)
+        });
+        self.push(byte?, word);
+        Ok(count)
+    }
+
+    /// The same for a count of two bytes.
+    pub(super) fn widely_counted(&mut self, count: usize, word: Place) -> Result<usize, TextError> {
+        let bytes = u16::try_from(count).map_err(|_| {
+            let message = format!("{count} entries, more than 65535");
+            TextError::new(word, message)
+        });
+        for byte in bytes?.to_le_bytes() {
+            self.push(byte, word);
         }
-        Ok(letters)
+        Ok(count)
     }
 
     /// Reads a count of two bytes.

@@ -94,6 +94,18 @@ impl<'a> Tokens<'a> {
         self.words.get(self.next).copied()
     }
 
+    /// The words that come before another, or all that are left.
+    pub fn before(&self, word: Option<&str>) -> &[Token<'a>] {
+        let rest = self.words.get(self.next..).unwrap_or(&[]);
+        let end = rest.iter().position(|token| Some(token.word) == word);
+        &rest[..end.unwrap_or(rest.len())]
+    }
+
+    /// The place just behind the text.
+    pub fn end_place(&self) -> Place {
+        self.end
+    }
+
     /// The next word if it is just this one.
     pub fn take(&mut self, word: &str) -> Option<Place> {
         let token = self.peek().filter(|token| token.word == word)?;

@@ -6,7 +6,7 @@ use crate::random::Random;
 use crate::samples::{rule, NAMED};
 use duknavet::files::{marks_bytes, marks_of, Automaton, Lasso, Mark, Rule};
 use duknavet::text::{kind, print_automaton, print_lasso, print_marks, print_rule};
-use duknavet::text::{read, read_lasso, Kind, Names};
+use duknavet::text::{read, read_lasso, Kind, Names, Place, TextError};
 
 /// The bytes that a text says, and that it is of a kind.
 fn bytes_of(text: &str, expected: Kind) -> Vec<u8> {
@@ -151,6 +151,115 @@ fn grades() {
     assert_eq!(parsed.bytes, [4, 0, 0, 0, 3, 0, 1, 2, 1, 1, 1, 2, 2, 3]);
 }
 
+/// A text without its counts, which stand in the lines of their words.
+fn without_counts(text: &str) -> String {
+    let words = [
+        "elements",
+        "letters",
+        "marks",
+        "states",
+        "transitions",
+        "propositions",
+    ];
+    let line = |line: &str| match line.split_once(' ') {
+        Some((word, rest)) if words.contains(&word) => {
+            let names = rest.split_once(' ').map_or("", |(_, names)| names);
+            format!("{word} {names}\n")
+        }
+        _ => format!("{line}\n"),
+    };
+    text.lines().map(line).collect()
+}
+
+/// Counts may be left out, and a text then says the same bytes, unless a number may be a count or an entry.
+#[test]
+fn counts_left_out() {
+    let mut random = Random::new(407);
+    let (mut same, mut refused) = (0, 0);
+    for round in 0..400 {
+        let rule = Rule::take_apart(&rule(&mut random, 12).bytes()).expect("a rule");
+        let names: Vec<String> = (0..rule.images.len())
+            .map(|own| format!("a{own}"))
+            .collect();
+        let names = match round % 2 {
+            0 => Names::letters(&names).expect("different names"),
+            _ => Names::none(),
+        };
+        let text = without_counts(&print_rule(&rule, &names));
+        match read(text.as_bytes()) {
+            Ok((_, parsed)) => {
+                assert_eq!(
+                    (parsed.bytes, parsed.names),
+                    (rule.bytes(), names),
+                    "{text}"
+                );
+                same += 1;
+            }
+            Err(error) => {
+                // As many letters as the first one's element says, and one more.
+                assert!(
+                    round % 2 == 1 && error.message.contains("may be the count of the letters"),
+                    "{error}"
+                );
+                assert_eq!(usize::from(rule.images[0]), rule.images.len() - 1);
+                refused += 1;
+            }
+        }
+    }
+    assert!(same > 300 && refused > 10, "{same} {refused}");
+    for _ in 0..200 {
+        let (states, letters) = (random.within(1, 6), random.within(1, 16));
+        let bytes = automata::automaton(&mut random, states, letters, 30).bytes();
+        let parts = Automaton::take_apart(&bytes).expect("an automaton");
+        let names: Vec<String> = (0..letters).map(|own| format!("a{own}")).collect();
+        let names = Names::letters(&names).expect("different names");
+        let text = without_counts(&print_automaton(&parts, &names));
+        let (_, parsed) = read(text.as_bytes()).expect(&text);
+        assert_eq!((parsed.bytes, parsed.names), (bytes, names), "{text}");
+    }
+    let valued = "duknavet automaton 1\npropositions a b\nstates\n both\nletters\ntransitions\n 0 a & !b 0\n 0 !a 0\n 0 3 0\n";
+    let (_, parsed) = read(valued.as_bytes()).expect("an automaton over propositions");
+    assert_eq!(parsed.bytes, [1, 3, 4, 3, 0, 0, 1, 0, 0, 0, 0, 0, 3, 0]);
+    let valued = "duknavet rule 1\npropositions a\nelements\n 0\nletters\n 1\n 0\nmarks\n";
+    let (_, parsed) = read(valued.as_bytes()).expect("a rule over a proposition");
+    assert_eq!(parsed.bytes, [1, 0, 2, 1, 0, 0, 0]);
+}
+
+/// A count in a later line is one where the text cannot be meant without it; a word at the very end may have lost its count.
+#[test]
+fn counts_in_other_lines() {
+    let bytes = |text: &str| read(format!("duknavet {text}").as_bytes()).map(|(_, own)| own.bytes);
+    let expected = Ok(vec![1, 0, 2, 0, 0, 1, 0, 0, 0, 3]);
+    assert_eq!(
+        bytes("rule 1 elements\n1\n0 letters 2\n0\n0\nmarks\n1\n0 0 3"),
+        expected
+    );
+    assert_eq!(bytes("rule 1 elements 1 0 letters\n2 a 0 b 0\nmarks\n0 0 3").map(|own| own.len()), Err(TextError {
+        place: Place { line: 2, column: 1 },
+        message: "`2` may be the count of the letters or belong to the first of them: the count stands in the line of its word".to_string(),
+    }));
+    assert_eq!(
+        bytes("rule 1 elements 1 0 letters a 0 b 0\nmarks\n0 0 3"),
+        expected
+    );
+    assert!(bytes("rule 1 elements 1 0 letters 1 0 marks").is_err());
+    assert_eq!(
+        bytes("rule 1 elements 1 0 letters 1 0 marks\n"),
+        Ok(vec![1, 0, 1, 0, 0, 0])
+    );
+    assert_eq!(
+        bytes("marks 1\nmarks\n0 0 3\n1 1 poor"),
+        Ok(vec![2, 0, 0, 0, 3, 1, 1, 1])
+    );
+    for cut in [
+        "rule 1\nelements\n 0 0 0\nletters 1 0\nmarks 0\n",
+        "marks 1\nmarks\n0 0",
+        "rule 1\nelements\nletters a 0\nmarks 0\n",
+    ] {
+        assert!(bytes(cut).is_err(), "{cut}");
+    }
+}
+
 #[test]
 fn errors_have_places() {
     let header = "duknavet rule 1\n";
@@ -163,7 +272,9 @@ fn errors_have_places() {
         ("elements 1 0 letters 2 up 0 up 0", "line 2, column 29: `up` is another letter's name already"),
         ("elements 1 0 letters 1 mark 0", "line 2, column 24: `mark` has another meaning and is no letter's name"),
         ("elements 1 0 letters 1 é+ 0", "line 2, column 24: `é+` is no name: a name is a letter or `_`, then letters, digits, `_` and `-`, or stands in quotes"),
-        ("elements 1 0 # é\n letters é 0", "line 3, column 10: expected the count of the letters, a number from 0 to 255, found `é`"),
+        ("elements 1 0 # é\n letters 1é 0", "line 3, column 10: `1é` is no name: a name is a letter or `_`, then letters, digits, `_` and `-`, or stands in quotes"),
+        ("elements 1 0 # é\n letters 256 0", "line 3, column 10: expected the count of the letters, a number from 0 to 255, found `256`"),
+        ("elements 1 0 # é\n letters é 0", "line 3, column 13: expected `marks`, found the end"),
         ("elements 1 -1", "line 2, column 12: expected the product 0·0, a number from 0 to 255, found `-1`"),
     ] {
         let error = read((header.to_string() + text).as_bytes()).expect_err(text);
