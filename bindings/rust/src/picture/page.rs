@@ -26,8 +26,13 @@ tr, figure { break-inside: avoid; } h2 { break-after: avoid; }
 /// The most rows and columns of the table in one picture.
 const BLOCK: u8 = 32;
 
-/// The page of a rule: table, letters, marks by s, then by e, with their grades, each element's first word, and the classes.
-pub fn page(bytes: &[u8], names: &Names, title: &str) -> Result<String, Explained> {
+/// The page of a rule: its description, table, letters, marks by s, then by e, with their grades, each element's first word, and the classes.
+pub fn page(
+    bytes: &[u8],
+    names: &Names,
+    title: &str,
+    description: &[String],
+) -> Result<String, Explained> {
     let rule = Rule::read(bytes).map_err(|refused| explain(refused, Asked::Rule(bytes)))?;
     let strong = owned::strong(bytes)? == Strength::Strong;
     let classes = owned::classes(bytes)?;
@@ -35,6 +40,13 @@ pub fn page(bytes: &[u8], names: &Names, title: &str) -> Result<String, Explaine
     let mut html = format!(
         "<!DOCTYPE html>\n<html lang=\"en\">\n<head>\n<meta charset=\"utf-8\">\n<title>{title}</title>\n<style>{STYLE}</style>\n</head>\n<body>\n<h1>{title}</h1>\n"
     );
+    if !description.is_empty() {
+        let lines: Vec<String> = description
+            .iter()
+            .map(|line| escaped(line.trim()))
+            .collect();
+        let _ = writeln!(html, "<p>{}</p>", lines.join("<br>\n"));
+    }
     let counts = [
         crate::words::count(usize::from(rule.elements), "element"),
         crate::words::count(rule.images.len(), "letter"),

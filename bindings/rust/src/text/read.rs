@@ -3,7 +3,7 @@
 use super::names::Names;
 use super::start::from_first_line;
 use super::tokens::{decode, Place, TextError, Tokens};
-use super::{automaton, map, marks, rule};
+use super::{automaton, description, map, marks, rule};
 
 /// What a text is of.
 #[derive(Clone, Copy, Debug, PartialEq, Eq, Hash)]
@@ -60,6 +60,8 @@ pub struct Parsed {
     pub places: Vec<Place>,
     /// The names that the text gives to letters.
     pub names: Names,
+    /// The lines of the comments right behind the first line, without their `#`.
+    pub description: Vec<String>,
 }
 
 impl Parsed {
@@ -68,6 +70,7 @@ impl Parsed {
             bytes: Vec::new(),
             places: Vec::new(),
             names: Names::none(),
+            description: Vec::new(),
         }
     }
 
@@ -150,9 +153,10 @@ fn header(tokens: &mut Tokens<'_>) -> Result<Kind, TextError> {
 
 /// The bytes that the text of a rule, an automaton, a marks section or a map says.
 pub fn read(bytes: &[u8]) -> Result<(Kind, Parsed), TextError> {
-    let mut tokens = Tokens::of(decode(bytes)?);
+    let text = decode(bytes)?;
+    let mut tokens = Tokens::of(text);
     let kind = header(&mut tokens)?;
-    let parsed = match kind {
+    let mut parsed = match kind {
         Kind::Rule => rule::read(&mut tokens)?,
         Kind::Automaton => automaton::read(&mut tokens)?,
         Kind::Marks => marks::read(&mut tokens)?,
@@ -164,6 +168,7 @@ pub fn read(bytes: &[u8]) -> Result<(Kind, Parsed), TextError> {
         }
     };
     tokens.end()?;
+    parsed.description = description::read(text);
     Ok((kind, parsed))
 }
 

@@ -96,7 +96,7 @@ fn complement() {
     let ran = run_with(&["complement", "-"], W);
     assert_eq!((ran.status, ran.out.as_slice()), (0, expected.as_slice()));
     let text = run_with(&["complement", "-"], NAMED.as_bytes());
-    let printed = "duknavet rule 1\nelements 2\n  0 0\n  0 1\nletters 2\n  open 0\n  shut 1\nmarks 2\n  0 1 proper\n  1 1 proper\n";
+    let printed = "duknavet rule 1\n# The flap opens again and again.\nelements 2\n  0 0\n  0 1\nletters 2\n  open 0\n  shut 1\nmarks 2\n  0 1 proper\n  1 1 proper\n";
     assert_eq!(text.printed(0), printed);
     let ran = run_with(&["complement", "-", "--to", "bytes"], NAMED.as_bytes());
     assert_eq!((ran.status, ran.out.as_slice()), (0, expected.as_slice()));

@@ -43,6 +43,9 @@ fn grades() {
 
 #[test]
 fn texts() {
+    // The flap's rule without its description.
+    let named_rule = NAMED.replace("# The flap opens again and again.\n", "");
+    let named_rule = named_rule.as_bytes();
     let printed = |first: &str, second: &str| {
         format!("duknavet rule 1\nelements 2\n  0 0\n  0 1\nletters 2\n  {first}\n  {second}\nmarks 1\n  0 0 proper\n")
     };
@@ -53,24 +56,24 @@ fn texts() {
         assert!(ran.err.ends_with(by_number), "{ran:?}");
         ran.text().to_string()
     };
-    assert_eq!(unnamed(asked("both", NAMED.as_bytes(), W)), named);
-    assert_eq!(unnamed(asked("both", W, NAMED.as_bytes())), named);
-    let both_named = asked("either", NAMED.as_bytes(), others.as_bytes());
+    assert_eq!(unnamed(asked("both", named_rule, W)), named);
+    assert_eq!(unnamed(asked("both", W, named_rule)), named);
+    let both_named = asked("either", named_rule, others.as_bytes());
     both_named.said(
         2,
         "standard input has up, down; --by-number goes by numbers\n",
     );
-    let both_named = asked("either", NAMED.as_bytes(), NAMED.as_bytes());
+    let both_named = asked("either", named_rule, named_rule);
     assert_eq!(both_named.printed(0), named);
     let no_names = plain.as_bytes();
-    assert_eq!(unnamed(asked("both", no_names, NAMED.as_bytes())), named);
+    assert_eq!(unnamed(asked("both", no_names, named_rule)), named);
     assert_eq!(asked("both", no_names, W).printed(0), plain);
     let to = |form: &str, first: &[u8]| {
         let first = Scrap::holding(first);
         run_with(&["combine", "--to", form, "both", first.name(), "-"], W)
     };
     assert_eq!(to("text", W).printed(0), plain);
-    let bytes = to("bytes", NAMED.as_bytes());
+    let bytes = to("bytes", named_rule);
     assert_eq!((bytes.status, bytes.out.as_slice()), (0, W));
     to("ink", W).said(3, "`--to` takes one of bytes, text");
 }

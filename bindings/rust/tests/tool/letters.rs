@@ -107,7 +107,7 @@ fn refused() {
             "--name",
             "a",
             W,
-            "standard input: there are 2 letters, but 1 names",
+            "standard input: a name is wanted for each of 2 letters, and 1 is given",
         ),
         ("--name", "a,a", W, "`a` is another letter's name already"),
         (

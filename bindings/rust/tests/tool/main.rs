@@ -16,6 +16,7 @@ mod claims;
 mod combinations;
 mod confirmations;
 mod damage;
+mod descriptions;
 mod exchanges;
 mod following;
 mod forms;

@@ -5,7 +5,8 @@ use crate::command::{Answer, Choice, Failure};
 use crate::input::Source;
 use crate::output;
 use duknavet::files::{marks_of, Automaton, Rule};
-use duknavet::text::{print_automaton, print_map, print_marks, print_rule, Kind, Names};
+use duknavet::text::{described, print_automaton, print_map, print_marks, print_rule};
+use duknavet::text::{Kind, Names};
 use std::ffi::OsStr;
 
 pub const TO: Choice = Choice {
@@ -15,30 +16,47 @@ pub const TO: Choice = Choice {
 };
 
 /// The text of bytes, if their sections have the lengths that their counts say.
-pub fn text_of(bytes: &[u8], kind: Kind, names: &Names) -> Option<String> {
-    match kind {
-        Kind::Rule => Some(print_rule(&Rule::take_apart(bytes)?, names)),
-        Kind::Automaton => Some(print_automaton(&Automaton::take_apart(bytes)?, names)),
-        Kind::Marks => Some(print_marks(&marks_of(bytes)?)),
-        Kind::Map => Some(print_map(bytes)),
-        Kind::Lasso => None,
+pub fn text_of(bytes: &[u8], kind: Kind, beyond: &Beyond<'_>) -> Option<String> {
+    let names = beyond.names;
+    let text = match kind {
+        Kind::Rule => print_rule(&Rule::take_apart(bytes)?, names),
+        Kind::Automaton => print_automaton(&Automaton::take_apart(bytes)?, names),
+        Kind::Marks => print_marks(&marks_of(bytes)?),
+        Kind::Map => print_map(bytes),
+        Kind::Lasso => return None,
+    };
+    Some(described(&text, beyond.description))
+}
+
+/// What a text has beyond the bytes.
+pub struct Beyond<'a> {
+    pub names: &'a Names,
+    pub description: &'a [String],
+}
+
+impl Beyond<'_> {
+    pub fn of(source: &Source) -> Beyond<'_> {
+        Beyond {
+            names: &source.names,
+            description: &source.description,
+        }
     }
 }
 
-/// Writes a rule that a call made of a source: its letters are those of the source, and so are their names.
+/// Writes a rule that a call made of a source: its letters are those of the source, and so are their names and the description.
 pub fn write_rule(arguments: &Arguments, source: &Source, bytes: &[u8]) -> Result<Answer, Failure> {
-    write_rule_named(arguments, source.is_text(), &source.names, bytes)
+    write_rule_with(arguments, source.is_text(), &Beyond::of(source), bytes)
 }
 
-/// Writes a rule with such names of letters: as a text or bytes as asked, else as the input was.
-pub fn write_rule_named(
+/// Writes a rule with what a text has beyond its bytes: as a text or bytes as asked, else as the input was.
+pub fn write_rule_with(
     arguments: &Arguments,
     from_text: bool,
-    names: &Names,
+    beyond: &Beyond<'_>,
     bytes: &[u8],
 ) -> Result<Answer, Failure> {
     let text = match to_text(arguments, from_text)? {
-        true => text_of(bytes, Kind::Rule, names),
+        true => text_of(bytes, Kind::Rule, beyond),
         false => None,
     };
     match text {

@@ -35,6 +35,8 @@ pub struct Source {
     pub bytes: Vec<u8>,
     pub form: Form,
     pub names: Names,
+    /// The comments right behind the first line of a text.
+    pub description: Vec<String>,
     /// What the subcommand asked for, where it asked for one kind.
     wanted: Option<Kind>,
     /// Where each byte stood in a text.
@@ -166,6 +168,7 @@ pub fn source_of(name: String, bytes: Vec<u8>) -> Result<Source, Failure> {
             bytes,
             places: Vec::new(),
             names: Names::none(),
+            description: Vec::new(),
         },
         Form::Text(_) => text::read(&bytes).map_err(fault)?.1,
         Form::Hoa | Form::Never => {
@@ -175,6 +178,7 @@ pub fn source_of(name: String, bytes: Vec<u8>) -> Result<Source, Failure> {
                 bytes: read.automaton.bytes(),
                 places: Vec::new(),
                 names: read.names,
+                description: Vec::new(),
             }
         }
     };
@@ -183,6 +187,7 @@ pub fn source_of(name: String, bytes: Vec<u8>) -> Result<Source, Failure> {
         bytes: parsed.bytes,
         form,
         names: parsed.names,
+        description: parsed.description,
         wanted: None,
         places: parsed.places,
         notes,

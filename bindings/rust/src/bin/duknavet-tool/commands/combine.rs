@@ -2,9 +2,10 @@
 
 use crate::arguments::Arguments;
 use crate::command::{Answer, Command, Failure};
-use crate::form::{self, TO};
+use crate::form::{self, Beyond, TO};
 use crate::input;
 use crate::meeting::{self, Side, BY_NUMBER};
+use duknavet::text::description_of_two;
 use duknavet::{owned, Operation};
 
 pub const COMMAND: Command = Command {
@@ -16,7 +17,7 @@ pub const COMMAND: Command = Command {
     options: &[TO, BY_NUMBER],
     details: "Each lasso has the lower of its two grades (both), the higher (either), or the lower of the first and of 3 less the second \
 (without). Letters meet by their names, in the order of FIRST, or by the propositions of both; where one file names none they go by \
-their numbers. The rule is written as a text where one of them is. Its elements are the pairs of values that words have in the two rules, and need not be the fewest: \
+their numbers. The rule is written as a text where one of them is, with the descriptions of both. Its elements are the pairs of values that words have in the two rules, and need not be the fewest: \
 reduce makes them so. Different numbers of letters are refused by 18, a weak rule by 12, more than 64 pairs of values by 19.",
     run,
 };
@@ -30,7 +31,17 @@ fn run(arguments: &Arguments) -> Result<Answer, Failure> {
     let written = owned::combine(&met.first, &met.second, operation)
         .map_err(|explained| input::refused_by_input(&first, &second, &explained))?;
     let from_text = first.is_text() || second.is_text();
-    form::write_rule_named(arguments, from_text, &met.names, &written)
+    let how = match operation {
+        Operation::Both => "both of",
+        Operation::Either => "either of",
+        Operation::Without => "the first without the second of",
+    };
+    let description = description_of_two(how, [&first.description, &second.description]);
+    let beyond = Beyond {
+        names: &met.names,
+        description: &description,
+    };
+    form::write_rule_with(arguments, from_text, &beyond, &written)
 }
 
 fn operation(arguments: &Arguments) -> Result<Operation, Failure> {

@@ -3,7 +3,7 @@
 use super::states::{least, LEAST};
 use crate::arguments::Arguments;
 use crate::command::{Answer, Choice, Command, Failure};
-use crate::form::text_of;
+use crate::form::{text_of, Beyond};
 use crate::input::{self, Source};
 use crate::kinds::{self, AS};
 use crate::output;
@@ -76,7 +76,7 @@ fn run(arguments: &Arguments) -> Result<Answer, Failure> {
 }
 
 fn text(source: &Source, kind: Kind) -> Result<Answer, Failure> {
-    let Some(text) = text_of(&source.bytes, kind, &source.names) else {
+    let Some(text) = text_of(&source.bytes, kind, &Beyond::of(source)) else {
         return Err(kinds::refusal(source, kind));
     };
     let notes = source.notes.iter().map(|note| format!("# {note}\n"));

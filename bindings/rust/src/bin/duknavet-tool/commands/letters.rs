@@ -2,7 +2,7 @@
 
 use crate::arguments::Arguments;
 use crate::command::{Answer, Choice, Command, Failure};
-use crate::form::{self, TO};
+use crate::form::{self, Beyond, TO};
 use crate::input;
 use crate::meeting::{acting, names_in};
 use duknavet::files::Rule;
@@ -69,12 +69,12 @@ fn run(arguments: &Arguments) -> Result<Answer, Failure> {
     let (names, acts_as) =
         changed.map_err(|words| Failure::Refused(format!("{}: {words}", source.name)))?;
     let from_text = source.is_text() || names.any();
-    form::write_rule_named(
-        arguments,
-        from_text,
-        &names,
-        &acting(&source.bytes, &acts_as),
-    )
+    let beyond = Beyond {
+        names: &names,
+        description: &source.description,
+    };
+    let rule = acting(&source.bytes, &acts_as);
+    form::write_rule_with(arguments, from_text, &beyond, &rule)
 }
 
 /// Letters that act as themselves.
@@ -86,8 +86,11 @@ fn named(letters: usize, list: &[String]) -> Result<Letters, String> {
     match list.len() == letters {
         true => Ok((Names::letters(list)?, same(letters))),
         false => Err(format!(
-            "there are {letters} letters, but {} names",
-            list.len()
+            "a name is wanted for each of {letters} letters, and {} given",
+            match list.len() {
+                1 => "1 is".to_string(),
+                names => format!("{names} are"),
+            }
         )),
     }
 }

@@ -16,7 +16,7 @@ pub const COMMAND: Command = Command {
         value: Some("TITLE"),
         meaning: "the heading; else the name of the file",
     }],
-    details: "The page has the table, the letters, the marks by s, then by e, with their grades, each element's first word, and the \
+    details: "The page has the description, the table, the letters, the marks by s, then by e, with their grades, each element's first word, and the \
 classes. It needs no other file and can be read in black and white.",
     run,
 };
@@ -24,7 +24,7 @@ classes. It needs no other file and can be read in black and white.",
 fn run(arguments: &Arguments) -> Result<Answer, Failure> {
     let rule = input::rule(arguments.plain(0))?;
     let title = arguments.value("title").unwrap_or(&rule.name);
-    let html =
-        page(&rule.bytes, &rule.names, title).map_err(|explained| rule.refused(&explained))?;
+    let html = page(&rule.bytes, &rule.names, title, &rule.description)
+        .map_err(|explained| rule.refused(&explained))?;
     output::print(&html)
 }

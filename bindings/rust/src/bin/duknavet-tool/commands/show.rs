@@ -18,7 +18,7 @@ pub const COMMAND: Command = Command {
     most: 1,
     purpose: "print a rule or an automaton as people read it",
     options: &[AS],
-    details: "Of a rule: the table with each element's first word, the letters, the marks by s, then by e, with their grades, and \
+    details: "Of a rule: its description, the table with each element's first word, the letters, the marks by s, then by e, with their grades, and \
 whether it is strong. Of an automaton: its states and where each letter leads from them.",
     run,
 };
@@ -42,7 +42,7 @@ fn rule_text(source: &Source) -> Result<String, Failure> {
         Strength::Strong => "strong",
         Strength::Weak => "weak",
     };
-    let mut text = format!("A {strength} rule.\n\n");
+    let mut text = format!("A {strength} rule.\n\n") + &description(source);
     table(&rule, &source.names, &mut text);
     text.push_str("\nLetters\n");
     for (letter, image) in (0..=u8::MAX).zip(&rule.images) {
@@ -65,6 +65,15 @@ fn rule_text(source: &Source) -> Result<String, Failure> {
         text.push_str("  none: every lasso has grade 0\n");
     }
     Ok(text)
+}
+
+/// The lines of a description and an empty one, if there is one.
+fn description(source: &Source) -> String {
+    let lines = source.description.iter().map(|line| format!(" {line}\n"));
+    match source.description.is_empty() {
+        true => String::new(),
+        false => lines.collect::<String>() + "\n",
+    }
 }
 
 /// The marks by s, then by e.
@@ -101,7 +110,7 @@ fn automaton_text(source: &Source) -> Result<String, Failure> {
     let Some(automaton) = Automaton::take_apart(&source.bytes) else {
         return Err(kinds::refusal(source, Kind::Automaton));
     };
-    let mut text = String::from("A Büchi automaton.\n\n");
+    let mut text = String::from("A Büchi automaton.\n\n") + &description(source);
     for note in &source.notes {
         let _ = writeln!(text, "  {note}");
     }
