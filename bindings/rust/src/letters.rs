@@ -11,7 +11,7 @@
 //! assert_eq!((met.first[6], met.second[6]), (2, 3));
 //! ```
 
-use crate::text::{written, Names, MOST_PROPOSITIONS};
+use crate::text::{listed, Names, MOST_PROPOSITIONS};
 
 /// The letters that two rules have together.
 #[derive(Clone, Debug, PartialEq, Eq)]
@@ -144,15 +144,6 @@ impl Apart {
             ),
         }
     }
-}
-
-/// Names with a comma between them; numbers stand for letters without a name.
-pub fn listed(names: &[String]) -> String {
-    let shown = |name: &String| match name.parse::<u8>() {
-        Ok(number) => number.to_string(),
-        Err(_) => written(name),
-    };
-    names.iter().map(shown).collect::<Vec<_>>().join(", ")
 }
 
 /// How letters are called, in words.

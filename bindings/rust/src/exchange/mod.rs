@@ -51,23 +51,15 @@ impl Foreign {
         if self.names.as_letters().is_some() {
             return Vec::new();
         }
-        let letters = 0..usize::from(self.automaton.letters);
-        let note =
-            |letter: usize| format!("letter {letter}: {}", valuation(letter, &self.propositions));
-        letters.map(note).collect()
-    }
-}
-
-/// A valuation as a conjunction.
-fn valuation(letter: usize, propositions: &[String]) -> String {
-    let literal = |(bit, name): (usize, &String)| match letter >> bit & 1 {
-        1 => name.clone(),
-        _ => format!("!{name}"),
-    };
-    let literals: Vec<String> = propositions.iter().enumerate().map(literal).collect();
-    match literals.is_empty() {
-        true => "any event".to_string(),
-        false => literals.join(" & "),
+        let called = Names::propositions(&self.propositions).unwrap_or_default();
+        let note = |letter: u8| {
+            let shown = called.of(letter);
+            format!(
+                "letter {letter}: {}",
+                shown.as_deref().unwrap_or("any event")
+            )
+        };
+        (0..self.automaton.letters).map(note).collect()
     }
 }
 

@@ -6,7 +6,7 @@
 
 use super::hoa::LETTERS;
 use crate::files::Automaton;
-use crate::text::{quoted, Names};
+use crate::text::{in_quotes, Names};
 use crate::{RuleAutomaton, StateKind};
 use std::fmt::Write;
 
@@ -105,11 +105,6 @@ fn propositions(letters: u8, names: &Names) -> Vec<String> {
     let top = usize::from(letters.max(1) - 1).checked_ilog2();
     let bits = top.map_or(0, |top| top + 1);
     (0..bits).map(|bit| format!("b{bit}")).collect()
-}
-
-fn in_quotes(names: &[String]) -> String {
-    let names = names.iter().map(|own| format!(" {}", quoted(own)));
-    names.collect()
 }
 
 fn label(letter: u8, bits: usize) -> String {

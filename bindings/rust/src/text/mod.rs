@@ -21,6 +21,7 @@ mod read;
 mod rule;
 mod start;
 mod tokens;
+mod valuations;
 
 pub use automaton::print_automaton;
 pub use description::{described, description_of_two};
@@ -28,7 +29,8 @@ pub use lasso::{print_lasso, print_word, read_lasso, read_letter};
 pub use map::print_map;
 pub use marks::{grade_word, print_marks};
 pub use names::{Names, MOST_PROPOSITIONS};
-pub(crate) use quotes::{quoted, written};
+pub(crate) use quotes::in_quotes;
+pub use quotes::listed;
 pub use read::{kind, read, Kind, Parsed};
 pub use rule::print_rule;
 pub(crate) use start::from_first_line;

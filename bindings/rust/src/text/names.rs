@@ -1,7 +1,8 @@
 //! How letters are called: not at all, by names, or as valuations of propositions.
 
-use super::quotes::{is_plain, is_reserved, quoted, unquoted, written, PLAIN};
+use super::quotes::{in_quotes, is_plain, is_reserved, listed, unquoted, written, PLAIN};
 use super::tokens::{shown, whole_number, Place, TextError, Token, Tokens};
+use super::valuations;
 use crate::words::count;
 
 /// The most propositions: letters are 16 at most.
@@ -105,7 +106,7 @@ impl Names {
     /// What a letter is called, as it is printed; none where it has no name and there are no propositions.
     pub fn of(&self, letter: u8) -> Option<String> {
         match &self.0 {
-            Called::Propositions(own) => valuation(own, letter),
+            Called::Propositions(own) => valuations::written_out(own, letter),
             _ => self.written(letter),
         }
     }
@@ -141,16 +142,9 @@ impl Names {
     /// One line, without its end, that [`of_line`](Names::of_line) reads: `letters` or `propositions` and each name in quotes, or
     /// nothing where letters are not called.
     pub fn line(&self) -> String {
-        let line = |word: &str, names: &[String]| {
-            let names: String = names
-                .iter()
-                .map(|own| format!(" {}", quoted(own)))
-                .collect();
-            format!("{word}{names}")
-        };
         match (&self.as_letters(), &self.0) {
-            (Some(names), _) => line("letters", names),
-            (_, Called::Propositions(own)) => line("propositions", own),
+            (Some(names), _) => format!("letters{}", in_quotes(names)),
+            (_, Called::Propositions(own)) => format!("propositions{}", in_quotes(own)),
             _ => String::new(),
         }
     }
@@ -180,8 +174,7 @@ impl Names {
         let Called::Propositions(own) = &self.0 else {
             return String::new();
         };
-        let names: String = own.iter().map(|own| format!(" {}", quoted(own))).collect();
-        format!("propositions {}{names}\n", own.len())
+        format!("propositions {}{}\n", own.len(), in_quotes(own))
     }
 
     /// Reads what may stand behind the first line of a text: `propositions`, their count, which may be left out, and their names.
@@ -217,7 +210,7 @@ impl Names {
         if let Called::Propositions(own) = &self.0 {
             return match number() {
                 Some(number) => Ok(number),
-                None => read_valuation(own, token, tokens, &self.known()),
+                None => valuations::read(own, token, tokens, &self.known()),
             };
         }
         let named = match unquoted(token.word) {
@@ -235,13 +228,11 @@ impl Names {
 
     /// What letters or propositions are called, for one who asked for another.
     fn known(&self) -> String {
-        let listed = |of: &str, names: &[String]| {
-            let names: Vec<String> = names.iter().map(|own| written(own)).collect();
-            format!("; the {of} are {}", names.join(", "))
-        };
         match (&self.0, self.as_letters()) {
-            (Called::Propositions(own), _) if !own.is_empty() => listed("propositions", own),
-            (_, Some(own)) => listed("letters", &own),
+            (Called::Propositions(own), _) if !own.is_empty() => {
+                format!("; the propositions are {}", listed(own))
+            }
+            (_, Some(own)) => format!("; the letters are {}", listed(&own)),
             _ => String::new(),
         }
     }
@@ -315,7 +306,8 @@ fn usable<'a>(
     if name.chars().any(char::is_control) {
         return Err(format!("`{word}` has a character that cannot be printed"));
     }
-    if of == "letter" && whole_number(name).is_some() {
+    let digits = !name.is_empty() && name.bytes().all(|byte| byte.is_ascii_digit());
+    if of == "letter" && digits {
         return Err(format!(
             "`{word}` is a number and the name of no other letter"
         ));
@@ -323,55 +315,5 @@ fn usable<'a>(
     match others.any(|own| own == name) {
         true => Err(format!("`{word}` is another {of}'s name already")),
         false => Ok(()),
-    }
-}
-
-/// A letter as a conjunction that has every proposition; none where there are none, or where it is no valuation.
-fn valuation(propositions: &[String], letter: u8) -> Option<String> {
-    let literal = |(bit, name): (usize, &String)| match letter >> bit & 1 {
-        1 => written(name),
-        _ => format!("!{}", written(name)),
-    };
-    let fits = !propositions.is_empty() && usize::from(letter) < 1 << propositions.len();
-    let literals: Vec<String> = propositions.iter().enumerate().map(literal).collect();
-    fits.then(|| literals.join(" & "))
-}
-
-/// Reads a conjunction of propositions and negated ones, whose first word was taken.
-fn read_valuation(
-    propositions: &[String],
-    first: Token<'_>,
-    tokens: &mut Tokens<'_>,
-    known: &str,
-) -> Result<u8, TextError> {
-    let (mut token, mut letter, mut seen) = (first, 0, 0);
-    loop {
-        let holds = token.word != "!";
-        if !holds {
-            token = tokens.next("a proposition")?;
-        }
-        let fault = |message: String| TextError::new(token.place, message);
-        let name = match unquoted(token.word) {
-            Some(name) => name.map_err(|message| fault(message.to_string()))?,
-            None => token.word.to_string(),
-        };
-        let Some(bit) = propositions.iter().position(|own| *own == name) else {
-            let word = shown(&name);
-            return Err(fault(format!(
-                "`{word}` is no proposition and no number from 0 to 255{known}"
-            )));
-        };
-        if seen >> bit & 1 == 1 {
-            return Err(fault(format!(
-                "`{}` stands twice in one letter",
-                shown(&name)
-            )));
-        }
-        seen |= 1 << bit;
-        letter |= u8::from(holds) << bit;
-        if tokens.take("&").is_none() {
-            return Ok(letter);
-        }
-        token = tokens.next("a proposition")?;
     }
 }

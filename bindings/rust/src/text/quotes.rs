@@ -36,12 +36,27 @@ pub(super) fn is_plain(word: &str) -> bool {
 }
 
 /// A name in double quotes.
-pub(crate) fn quoted(name: &str) -> String {
+fn quoted(name: &str) -> String {
     format!("\"{}\"", name.replace('\\', "\\\\").replace('"', "\\\""))
 }
 
+/// Names in double quotes, a blank before each.
+pub(crate) fn in_quotes(names: &[String]) -> String {
+    let names = names.iter().map(|name| format!(" {}", quoted(name)));
+    names.collect()
+}
+
+/// Names with a comma between them, for messages; numbers stand for letters without a name.
+pub fn listed(names: &[String]) -> String {
+    let shown = |name: &String| match name.parse::<u8>() {
+        Ok(number) => number.to_string(),
+        Err(_) => written(name),
+    };
+    names.iter().map(shown).collect::<Vec<_>>().join(", ")
+}
+
 /// A name as it is printed where plain names may stand.
-pub(crate) fn written(name: &str) -> String {
+pub(super) fn written(name: &str) -> String {
     match is_plain(name) && !is_reserved(name) {
         true => name.to_string(),
         false => quoted(name),

@@ -125,18 +125,20 @@ fn an_event_of_a_board_by_name() {
     );
 }
 
-/// Spin reads `a || b && c` as `(a || b) && c`, and its claims for the two name their propositions in different orders.
+/// What Spin 6.5 writes for `a || b && c` and for `(a || b) && c`, which it reads alike: the claims name their propositions in different orders.
 #[test]
 fn claims_that_name_propositions_in_another_order() {
     let claim = |condition: &str| {
-        format!("never {{ T0: do :: {condition} -> goto accept :: 1 -> goto T0 od; accept: do :: 1 -> goto T0 od; }}\n")
+        format!("never  {{\naccept_init:\nT0_init:\n\tdo\n\t:: atomic {{ ({condition}) -> assert(!({condition})) }}\n\tod;\naccept_all:\n\tskip\n}}\n")
     };
-    let (one, two_) = (claim("((a) || (b)) && (c)"), claim("(c) && ((a) || (b))"));
+    let one = claim("(((a) && (c)) || ((b) && (c)))");
+    let other = claim("(a || b) && (c)");
     let equal = "equal: both reduce to the same 2 elements\n";
-    assert_eq!(two(&["compare"], &one, &two_).printed(0), equal);
-    let other = claim("(c) && (a)");
-    let compared = two(&["compare"], &one, &other);
-    assert_eq!(compared.printed(1), "u:  v: !a & b & c\ngrades 3 0\n");
+    assert_eq!(two(&["compare"], &one, &other).printed(0), equal);
+    assert_eq!(two(&["compare"], &other, &one).printed(0), equal);
+    let different = claim("(a) && (c)");
+    let compared = two(&["compare"], &one, &different);
+    assert_eq!(compared.printed(1), "u:  v: !a & c & b\ngrades 3 0\n");
 }
 
 /// (a, b) and (b, c) give (a, b, c), and letter 6 acts as letter 2 in the first and 3 in the second.

@@ -221,6 +221,9 @@ fn numbers_as_names() {
     let parts = Automaton::take_apart(&parsed.bytes).expect("an automaton");
     assert_eq!(print_automaton(&parts, &parsed.names), automaton);
     let three = Names::propositions(&["p", "q r", "0"]).expect("three names");
+    assert_eq!(read_letter("0", &three), Ok(0));
+    assert_eq!(read_letter("\"0\" & p", &three), Ok(5));
+    assert!(read_letter("p & 0", &three).is_err());
     assert_eq!(three.line(), "propositions \"p\" \"q r\" \"0\"");
     assert_eq!(Names::of_line(&three.line()), Ok(three));
     for damaged in [

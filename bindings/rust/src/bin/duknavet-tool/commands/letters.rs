@@ -8,7 +8,7 @@ use crate::meeting::{acting, names_in};
 use duknavet::files::Rule;
 use duknavet::letters::{all_called, in_order};
 use duknavet::owned;
-use duknavet::text::Names;
+use duknavet::text::{listed, Names};
 
 pub const COMMAND: Command = Command {
     name: "letters",
@@ -104,8 +104,7 @@ fn sides(words: &str) -> Result<(&str, &str), String> {
 
 fn place(names: &[String], name: &str) -> Result<usize, String> {
     let place = names.iter().position(|own| own == name);
-    let all = || duknavet::letters::listed(names);
-    place.ok_or_else(|| format!("there is no `{name}`, only {}", all()))
+    place.ok_or_else(|| format!("there is no `{name}`, only {}", listed(names)))
 }
 
 fn renamed(names: &Names, letters: usize, list: &[String]) -> Result<Letters, String> {

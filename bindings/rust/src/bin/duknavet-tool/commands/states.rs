@@ -36,7 +36,7 @@ pub const COMMAND: Command = Command {
         Choice {
             name: "letter",
             value: Some("LETTER"),
-            meaning: "only where this letter leads, a number or a name",
+            meaning: "only where this letter leads: a number, a name, or as in a & !b",
         },
     ],
     details: "A state is (s, e), e an idempotent and s an element or none. Initial are the pairs that the rule marks with the least grade \

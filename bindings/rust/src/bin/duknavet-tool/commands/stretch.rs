@@ -14,7 +14,7 @@ pub const COMMAND: Command = Command {
     options: &[Choice {
         name: "rule",
         value: Some("RULE"),
-        meaning: "a text whose names of letters LASSO uses",
+        meaning: "a text whose names of letters, or propositions, LASSO uses",
     }],
     details: "Positions count from 0; past u the place in v is the position less the length of u, modulo the length of v. Prints \
 the letters in a line, which is empty where v has no letter, or u or v more than 4224.",
