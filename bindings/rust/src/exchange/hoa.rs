@@ -4,7 +4,8 @@ use super::condition::{self, holds, Signs, Valuations};
 use super::graph::Graph;
 use super::hoa_body::read_body;
 use super::scanner::Scanner;
-use crate::text::{Place, TextError};
+use crate::text::{Names, Place, TextError};
+use crate::words::count;
 use std::collections::BTreeMap;
 
 const SIGNS: Signs = Signs { and: "&", or: "|" };
@@ -45,12 +46,12 @@ pub struct Header {
     named: Vec<(usize, Place)>,
     acceptance: Option<Acceptance>,
     /// How many of the valuations are letters, where the file says it, and their names, if they have any.
-    letters: Option<(usize, Vec<String>, Place)>,
+    letters: Option<(usize, Names, Place)>,
 }
 
 /// What was read: the states and transitions, the propositions, and how many valuations are letters and their names, where the file
 /// says it.
-pub type Read = (Graph, Vec<String>, Option<(usize, Vec<String>)>);
+pub type Read = (Graph, Vec<String>, Option<(usize, Names)>);
 
 pub fn read(text: &str) -> Result<Read, TextError> {
     let mut scanner = Scanner::new(text);
@@ -211,27 +212,28 @@ fn read_propositions(scanner: &mut Scanner, place: Place) -> Result<Vec<String>,
             return Err(TextError::new(place, message));
         }
         propositions.push(name);
+        let usable = Names::propositions(&propositions);
+        usable.map_err(|message| TextError::new(place, message))?;
     }
     Ok(propositions)
 }
 
 /// How many letters there are, and a name for each or for none.
-fn read_letters(
-    scanner: &mut Scanner,
-    place: Place,
-) -> Result<(usize, Vec<String>, Place), TextError> {
+fn read_letters(scanner: &mut Scanner, place: Place) -> Result<(usize, Names, Place), TextError> {
     let letters = scanner.number("the count of the letters")?;
     let mut names = Vec::new();
     while scanner.peek() == Some('"') {
         names.push(scanner.string()?);
     }
-    match names.is_empty() || names.len() == letters {
-        true => Ok((letters, names, place)),
-        false => {
-            let message = format!("{letters} letters, but {} names", names.len());
-            Err(TextError::new(place, message))
-        }
-    }
+    let called = match names.is_empty() || names.len() == letters {
+        true => Names::letters(&names),
+        false => Err(format!(
+            "{letters} letters, but {}",
+            count(names.len(), "name")
+        )),
+    };
+    let called = called.map_err(|message| TextError::new(place, message))?;
+    Ok((letters, called, place))
 }
 
 /// Büchi acceptance, which may stand in parentheses.

@@ -64,13 +64,12 @@ impl Foreign {
 }
 
 /// How letters are called, by the propositions or by the names that the file gives to letters.
-fn names_of(propositions: &[String], letters: Option<Vec<String>>) -> Result<Names, TextError> {
-    let names = match letters {
-        None => Names::propositions(propositions),
-        Some(names) => Names::letters(&names),
-    };
+fn names_of(propositions: &[String], letters: Option<Names>) -> Result<Names, TextError> {
     let start = Place { line: 1, column: 1 };
-    names.map_err(|message| TextError::new(start, message))
+    match letters {
+        Some(names) => Ok(names),
+        None => Names::propositions(propositions).map_err(|message| TextError::new(start, message)),
+    }
 }
 
 /// The format that bytes begin as: `HOA:`, or `never` and white space or a brace; a byte order mark, blank lines and comments may

@@ -177,6 +177,72 @@ fn propositions_of_both() {
     }
 }
 
+/// Propositions stay through everything that is made of an automaton, and a reduction may know more of them than its rule.
+#[test]
+fn propositions_live_on() {
+    let made = |words: &[&str], input: &str| {
+        let ran = run_with(words, input.as_bytes());
+        ran.printed(0).to_string()
+    };
+    let declared = "\npropositions 2 \"a\" \"x > 0\"\n";
+    let rule = made(&["automaton", "-"], &again("2 \"a\" \"x > 0\"", 1));
+    assert!(rule.contains(declared), "{rule}");
+    for words in [
+        &["reduce", "-"][..],
+        &["complement", "-"],
+        &["letters", "-", "--order", "a,x > 0"],
+        &["convert", "-", "--to", "text"],
+    ] {
+        assert!(made(words, &rule).contains(declared), "{words:?}");
+    }
+    let file = Scrap::holding(rule.as_bytes());
+    let both = made(&["combine", "both", file.name(), "-"], &rule);
+    assert!(both.contains(declared), "{both}");
+    let small = made(&["reduce", "-"], &rule);
+    let hoa = made(&["convert", "-", "--to", "hoa"], &small);
+    assert!(hoa.contains("\nAP: 2 \"a\" \"x > 0\"\n"), "{hoa}");
+    let equal = "equal: both reduce to the same 2 elements\n";
+    assert_eq!(made(&["compare", file.name(), "-"], &hoa), equal);
+    let shown = made(&["show", "-"], &small);
+    assert!(
+        shown.contains("\n  2 !a & \"x > 0\" stands for 1\n"),
+        "{shown}"
+    );
+    let page = made(&["page", "-"], &small);
+    assert!(
+        page.contains("<td>!a &amp; &quot;x &gt; 0&quot;</td>"),
+        "{page}"
+    );
+    let states = made(
+        &["states", "-", "--state", "1,1", "--letter", "\"x > 0\""],
+        &small,
+    );
+    assert!(states.contains("\n  !a & \"x > 0\" to "), "{states}");
+    // A rule over one proposition, and its reduction over that one and another, in any order.
+    let one = made(&["automaton", "-"], &again("1 \"x > 0\"", 0));
+    let (one, map, small) = (
+        Scrap::holding(one.as_bytes()),
+        Scrap::free(),
+        Scrap::holding(small.as_bytes()),
+    );
+    run(&["reduce", one.name(), "--map", map.name()]).printed(0);
+    assert_eq!(
+        run(&["confirm", one.name(), small.name(), map.name()]).printed(0),
+        "yes\n"
+    );
+    let other = made(
+        &["letters", "-", "--rename", "a=x > 0,x > 0=a"],
+        &std::fs::read_to_string(small.name()).expect("a file"),
+    );
+    let other = Scrap::holding(other.as_bytes());
+    let said =
+        "no: letter \"x > 0\" & !a stands for 1, which goes to 1, and in the reduced rule for 0\n";
+    assert_eq!(
+        run(&["confirm", one.name(), other.name(), map.name()]).printed(1),
+        said
+    );
+}
+
 #[test]
 fn letters_that_do_not_meet() {
     let halt = NAMED.replace("shut", "halt");
@@ -221,6 +287,75 @@ fn letters_that_do_not_meet() {
     run_with(&["compare", plain.name(), "-"], three.as_bytes())
         .said(2, "the first has 2 letters and the second 3");
     run_with(&["combine", "both", plain.name(), "-"], three.as_bytes()).said(2, "refusal 18");
+}
+
+/// A word over all propositions, and the same word with those literals only that a file knows.
+fn restricted(word: &[u8], all: &[&str], known: &[&str]) -> String {
+    let letter = |letter: &u8| {
+        let bits = all
+            .iter()
+            .enumerate()
+            .filter(|(_, name)| known.contains(name));
+        let literals = bits.map(|(bit, name)| match letter >> bit & 1 {
+            1 => format!("\"{name}\""),
+            _ => format!("!\"{name}\""),
+        });
+        literals.collect::<Vec<_>>().join(" & ")
+    };
+    word.iter().map(letter).collect::<Vec<_>>().join("  ")
+}
+
+/// Rules over some of four propositions, in any order: each lasso over all of them has the higher of the grades that the two files give
+/// to what they know of it.
+#[test]
+fn random_propositions() {
+    let mut random = Random::new(3804);
+    let mut combined = 0;
+    while combined < 60 {
+        let mut drawn = || {
+            let count = random.within(1, 3);
+            let names = random.shuffled(&["p", "x > 0", "q", "mark"])[..count].to_vec();
+            let morphism = morphisms::any(&mut random, 6);
+            let acts_as = random.word(1 << count, morphism.letters());
+            let marks = marks::closed(&mut random, &morphism);
+            let rule = Rule::take_apart(&morphism.with(marks).bytes()).expect("a rule");
+            let rule = rule.with_letters(&acts_as).expect("its own letters");
+            let text = print_rule(
+                &rule,
+                &Names::propositions(&names).expect("different names"),
+            );
+            (rule.bytes(), names, Scrap::holding(text.as_bytes()))
+        };
+        let ((first, own, one), (second, other, two)) = (drawn(), drawn());
+        // Not every choice of letters has every element for a value.
+        if owned::complement(&first).is_err() || owned::complement(&second).is_err() {
+            continue;
+        }
+        let ran = run(&["combine", "either", one.name(), two.name()]);
+        if ran.status == 2 {
+            assert!(ran.err.contains("refusal 19"), "{ran:?}");
+            continue;
+        }
+        combined += 1;
+        let either = Scrap::holding(ran.printed(0).as_bytes());
+        let new = other.iter().copied().filter(|name| !own.contains(name));
+        let all: Vec<&str> = own.iter().copied().chain(new).collect();
+        for _ in 0..4 {
+            let lengths = (random.below(3), random.within(1, 3));
+            let (u, v) = (
+                random.word(lengths.0, 1 << all.len()),
+                random.word(lengths.1, 1 << all.len()),
+            );
+            let grade = |file: &Scrap, known: &[&str]| {
+                let (u, v) = (restricted(&u, &all, known), restricted(&v, &all, known));
+                run(&["member", file.name(), &format!("u: {u}  v: {v}")]).out[6]
+            };
+            assert_eq!(
+                grade(&either, &all),
+                grade(&one, &own).max(grade(&two, &other))
+            );
+        }
+    }
 }
 
 const NAMES: [&str; 16] = [

@@ -1,5 +1,6 @@
 //! How letters are called in texts: by names, in quotes where they are not plain, or as valuations of propositions.
 
+use crate::program::run_with;
 use crate::random::Random;
 use crate::samples::NAMED;
 use duknavet::files::{Automaton, Lasso, Rule};
@@ -235,4 +236,70 @@ fn numbers_as_names() {
     ] {
         assert!(Names::of_line(damaged).is_err(), "{damaged}");
     }
+}
+
+/// Names and propositions through the Hanoi format and back.
+#[test]
+fn through_the_hanoi_format() {
+    let text = |letters: &str, names: &str| {
+        format!("duknavet automaton 1\n{names}states 2\n  initial\n  final\nletters {letters}\ntransitions 2\n  0 1 1\n  1 0 1\n")
+    };
+    for (automaton, header) in [
+        (
+            text("4", "propositions 2 \"x > 0\" \"p\"\n"),
+            "\nAP: 2 \"x > 0\" \"p\"\nacc-name:",
+        ),
+        (
+            text("4", "propositions 2 \"a \\\"b\\\" \\\\\" \"\"\n"),
+            "\nAP: 2 \"a \\\"b\\\" \\\\\" \"\"\nacc-name:",
+        ),
+        (
+            text("2\n  open \"shut, tight\"", "")
+                .replace("0 1 1", "0 \"shut, tight\" 1")
+                .replace("1 0 1", "1 open 1"),
+            "\nAP: 1 \"b0\"\nduknavet-letters: 2 \"open\" \"shut, tight\"\nacc-name:",
+        ),
+        (
+            text("3\n  open \"1\" \"2\"", "").replace("1 0 1", "1 open 1"),
+            "\nAP: 2 \"b0\" \"b1\"\nduknavet-letters: 3 \"open\" \"1\" \"2\"\nacc-name:",
+        ),
+        (
+            text("3", ""),
+            "\nAP: 2 \"b0\" \"b1\"\nduknavet-letters: 3\nacc-name:",
+        ),
+    ] {
+        let hoa = run_with(&["convert", "--to", "hoa", "-"], automaton.as_bytes());
+        assert!(hoa.printed(0).contains(header), "{}", hoa.text());
+        let again = run_with(&["convert", "--to", "text", "-"], hoa.printed(0).as_bytes());
+        let again: String = again
+            .printed(0)
+            .split_inclusive('\n')
+            .filter(|line| !line.starts_with('#'))
+            .collect();
+        assert_eq!(again, automaton);
+    }
+    let hoa = |line: &str| {
+        format!("HOA: v1\nStart: 0\nAP: 1 \"b0\"\n{line}\nAcceptance: 0 t\n--BODY--\nState: 0 [t] 0\n--END--\n")
+    };
+    for (line, said) in [
+        (
+            "duknavet-letters: 2 \"a\"",
+            "line 4, column 1: 2 letters, but 1 name\n",
+        ),
+        (
+            "duknavet-letters: 2 \"a\" \"a\"",
+            "line 4, column 1: `a` is another letter's name already",
+        ),
+        (
+            "duknavet-letters: 2 \"1\" \"0\"",
+            "line 4, column 1: `1` is a number and the name of no other letter",
+        ),
+    ] {
+        run_with(&["check", "-"], hoa(line).as_bytes()).said(2, said);
+    }
+    let control = hoa("").replace("b0", "a\nb");
+    run_with(&["check", "-"], control.as_bytes()).said(
+        2,
+        "line 3, column 7: `a\\nb` has a character that cannot be printed",
+    );
 }
