@@ -1,4 +1,5 @@
-//! How the letters of two rules meet: by their names, by the propositions that they are valuations of, or by their numbers.
+//! How the letters of two rules meet: by their names, by the propositions that they are valuations of, or by their
+//! numbers.
 //!
 //! ```
 //! use duknavet::letters::meet;
@@ -45,8 +46,8 @@ pub enum Apart {
     TooMany(Vec<String>),
 }
 
-/// The letters that two rules have together, in the order of the first; none where one of them does not call its letters, so that they go
-/// by their numbers.
+/// The letters that two rules have together, in the order of the first; none where one of them does not call its
+/// letters, so that they go by their numbers.
 pub fn meet(first: &Names, second: &Names) -> Result<Option<Common>, Apart> {
     if let (Some(own), Some(other)) = (first.as_propositions(), second.as_propositions()) {
         return by_proposition(own, other).map(Some);
@@ -155,7 +156,8 @@ fn called(names: &Names) -> String {
     }
 }
 
-/// How letters are called, with their numbers where they are not: their names, or the propositions that they are valuations of.
+/// How letters are called, with their numbers where they are not: their names, or the propositions that they are
+/// valuations of.
 pub fn all_called(names: &Names, letters: usize) -> Vec<String> {
     match names.as_propositions() {
         Some(own) => own.to_vec(),
@@ -165,8 +167,8 @@ pub fn all_called(names: &Names, letters: usize) -> Vec<String> {
     }
 }
 
-/// Letters, or the propositions that they are valuations of, in another order: how they are called then, and for each letter the one
-/// that it acts as. What is wrong with the order is told in words.
+/// Letters, or the propositions that they are valuations of, in another order: how they are called then, and for
+/// each letter the one that it acts as. What is wrong with the order is told in words.
 pub fn in_order(
     names: &Names,
     letters: usize,

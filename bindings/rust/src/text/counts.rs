@@ -1,4 +1,5 @@
-//! Counts, which may be left out: a number in the line of its word is the count, and where there is none the entries tell how many they are.
+//! Counts, which may be left out: a number in the line of its word is the count, and where there is none the
+//! entries tell how many they are.
 //!
 //! A count may also stand in a later line, as long as what follows cannot be meant without it.
 
@@ -46,7 +47,8 @@ impl<'a> Section<'a> {
             .count()
     }
 
-    /// How many triples stand in the section, where their count is left out; a valuation is one entry, however many propositions it has.
+    /// How many triples stand in the section, where their count is left out; a valuation is one entry, however many
+    /// propositions it has.
     pub fn left_out_of_triples(&self) -> Result<Option<usize>, TextError> {
         let words = |word: &str| self.ahead.iter().filter(|token| token.word == word).count();
         let joined = words("!") + 2 * words("&");

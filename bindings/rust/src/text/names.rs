@@ -10,9 +10,10 @@ pub const MOST_PROPOSITIONS: usize = 4;
 
 /// How the letters of a rule or an automaton are called.
 ///
-/// Letters that have names are called by them, and where only some have, the others have their number for a name. Letters that are
-/// valuations of propositions are called by these: letter j is the one in which proposition i holds exactly if bit i of j is 1, so that
-/// p propositions have 2^p letters. Whatever they are called, numbers stand for letters too.
+/// Letters that have names are called by them, and where only some have, the others have their number for a name.
+/// Letters that are valuations of propositions are called by these: letter j is the one in which proposition i
+/// holds exactly if bit i of j is 1, so that p propositions have 2^p letters. Whatever they are called, numbers
+/// stand for letters too.
 #[derive(Clone, Debug, Default, PartialEq, Eq, Hash)]
 pub struct Names(Called);
 
@@ -47,7 +48,8 @@ impl Names {
         Ok(Names::of_letters(own))
     }
 
-    /// Letters that are valuations of propositions, the first that of the lowest bit. What is wrong with them is told in words.
+    /// Letters that are valuations of propositions, the first that of the lowest bit. What is wrong with them is
+    /// told in words.
     pub fn propositions<S: AsRef<str>>(names: &[S]) -> Result<Names, String> {
         if names.len() > MOST_PROPOSITIONS {
             let count = names.len();
@@ -139,8 +141,8 @@ impl Names {
         }
     }
 
-    /// One line, without its end, that [`of_line`](Names::of_line) reads: `letters` or `propositions` and each name in quotes, or
-    /// nothing where letters are not called.
+    /// One line, without its end, that [`of_line`](Names::of_line) reads: `letters` or `propositions` and each name
+    /// in quotes, or nothing where letters are not called.
     pub fn line(&self) -> String {
         match (&self.as_letters(), &self.0) {
             (Some(names), _) => format!("letters{}", in_quotes(names)),
@@ -177,7 +179,8 @@ impl Names {
         format!("propositions {}{}\n", own.len(), in_quotes(own))
     }
 
-    /// Reads what may stand behind the first line of a text: `propositions`, their count, which may be left out, and their names.
+    /// Reads what may stand behind the first line of a text: `propositions`, their count, which may be left out,
+    /// and their names.
     pub(super) fn read_declaration(
         &mut self,
         tokens: &mut Tokens<'_>,

@@ -1,4 +1,5 @@
-//! Names as texts write them: a plain one as it is, every other in double quotes, with a backslash before a quote or a backslash.
+//! Names as texts write them: a plain one as it is, every other in double quotes, with a backslash before a quote
+//! or a backslash.
 
 /// Words with a meaning of their own, in a text or in a line that follows a rule.
 const RESERVED: [&str; 12] = [
@@ -24,8 +25,8 @@ pub(super) fn is_reserved(word: &str) -> bool {
     RESERVED.contains(&word)
 }
 
-/// Whether a word has the form of a plain name. Of what is beyond ASCII everything passes that can be seen: many scripts write one letter
-/// with several characters.
+/// Whether a word has the form of a plain name. Of what is beyond ASCII everything passes that can be seen: many
+/// scripts write one letter with several characters.
 pub(super) fn is_plain(word: &str) -> bool {
     let seen = |own: char| !own.is_ascii() && !own.is_whitespace() && !own.is_control();
     let first = |own: char| own.is_ascii_alphabetic() || own == '_' || seen(own);

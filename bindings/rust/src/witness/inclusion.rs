@@ -1,7 +1,8 @@
 //! Whether one strong rule grades no lasso higher than another, and else a lasso that it does.
 //!
-//! Yes is said where the rule of the lower grades, `combine` both, has the reduction of the first. A lasso for no is one where these two
-//! differ. Where words have more pairs of values than a rule has room for, there is no such rule, and only no can be shown.
+//! Yes is said where the rule of the lower grades, `combine` both, has the reduction of the first. A lasso for no
+//! is one where these two differ. Where words have more pairs of values than a rule has room for, there is no such
+//! rule, and only no can be shown.
 
 use super::differ::{by_verdicts, compare, smallest, Comparison, Difference};
 use super::pairs::pairs_of_values;
@@ -18,7 +19,8 @@ pub enum Grades {
     NoneHigher,
     /// A lasso that the first rule grades higher.
     Higher(Difference),
-    /// Words have more than 64 pairs of values in both together, and no lasso of the words of these is graded higher.
+    /// Words have more than 64 pairs of values in both together, and no lasso of the words of these is graded
+    /// higher.
     TooLarge(usize),
 }
 

@@ -1,7 +1,8 @@
 //! Whether two rules are equal once the letters of one are put in another order.
 //!
-//! Equal strong rules have one reduction, and its elements are the values of words. So an order is found by giving letters to letters one
-//! after the other, as long as the values of the words of these go together one to one. What is found is checked by `compare`.
+//! Equal strong rules have one reduction, and its elements are the values of words. So an order is found by giving
+//! letters to letters one after the other, as long as the values of the words of these go together one to one. What
+//! is found is checked by `compare`.
 
 use super::differ::{compare, smallest, Comparison};
 use crate::files::Rule;
@@ -10,8 +11,8 @@ use crate::words::Explained;
 /// The most letters that are tried, one for another, before the search gives up.
 const TRIED: usize = 4_000;
 
-/// For each letter of the first strong rule a letter of the second, so that with this order they are equal. None where there is none, where
-/// it was not found in bounded time, or where one of the rules is weak.
+/// For each letter of the first strong rule a letter of the second, so that with this order they are equal. None
+/// where there is none, where it was not found in bounded time, or where one of the rules is weak.
 pub fn equal_in_order(first: &[u8], second: &[u8]) -> Result<Option<Vec<u8>>, Explained> {
     let (own, other) = (smallest(first)?, smallest(second)?);
     let sizes = |rule: &Rule| (rule.elements, rule.images.len(), rule.marks.len());

@@ -1,8 +1,8 @@
 //! The letters of a board: the order in which its rules have them.
 //!
-//! It is that of the first rule that calls its letters, or what the command line fixes, and stands until the board is empty. A rule that
-//! enters is put in that order. New propositions come behind those that are there, and then the rules present get them too: their
-//! elements stay, so that what they heard stands.
+//! It is that of the first rule that calls its letters, or what the command line fixes, and stands until the board
+//! is empty. A rule that enters is put in that order. New propositions come behind those that are there, and then
+//! the rules present get them too: their elements stay, so that what they heard stands.
 
 use crate::meeting::acting;
 use crate::output;
@@ -31,8 +31,8 @@ impl Order {
         }
     }
 
-    /// The board with its letters and a rule that may enter it in the same order, and how the letters are called then. The rule passed
-    /// its checks as it stands.
+    /// The board with its letters and a rule that may enter it in the same order, and how the letters are called
+    /// then. The rule passed its checks as it stands.
     pub fn meeting(
         &self,
         board: &RuleBoard,

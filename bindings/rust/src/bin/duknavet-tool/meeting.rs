@@ -1,6 +1,7 @@
 //! How the letters of two files meet, for every subcommand that takes two rules.
 //!
-//! Each file is checked as it stands before its letters are put in another order, so that the place of a refusal is a place of the file.
+//! Each file is checked as it stands before its letters are put in another order, so that the place of a refusal is
+//! a place of the file.
 
 use crate::arguments::Arguments;
 use crate::command::{Choice, Failure};
@@ -73,7 +74,8 @@ fn together(first: Side<'_>, second: Side<'_>, common: Common) -> Met {
     }
 }
 
-/// A rule with other letters, each acting as one of its own; as it is where it has not all of these, which a call then refuses.
+/// A rule with other letters, each acting as one of its own; as it is where it has not all of these, which a call
+/// then refuses.
 pub fn acting(rule: &[u8], acts_as: &[u8]) -> Vec<u8> {
     let parts = Rule::take_apart(rule).and_then(|own| own.with_letters(acts_as));
     parts.map_or_else(|| rule.to_vec(), |own| own.bytes())
@@ -87,7 +89,8 @@ fn by_number(first: Side<'_>, second: Side<'_>, names: Names) -> Met {
     }
 }
 
-/// What letters by number are called: as the one file calls them that does, and where both do, only what they agree on.
+/// What letters by number are called: as the one file calls them that does, and where both do, only what they agree
+/// on.
 fn agreed(first: &Names, second: &Names) -> Names {
     match (first.any(), second.any()) {
         (true, true) if first != second => Names::none(),

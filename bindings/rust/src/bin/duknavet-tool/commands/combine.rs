@@ -15,10 +15,12 @@ pub const COMMAND: Command = Command {
     most: 3,
     purpose: "make one rule of two strong ones over as many letters",
     options: &[TO, BY_NUMBER],
-    details: "Each lasso has the lower of its two grades (both), the higher (either), or the lower of the first and of 3 less the second \
-(without). Letters meet by their names, in the order of FIRST, or by the propositions of both; where one file names none they go by \
-their numbers. The rule is written as a text where one of them is, with the descriptions of both. Its elements are the pairs of values that words have in the two rules, and need not be the fewest: \
-reduce makes them so. Different numbers of letters are refused by 18, a weak rule by 12, more than 64 pairs of values by 19.",
+    details: "Each lasso has the lower of its two grades (both), the higher (either), or the lower of the first and of \
+3 less the second (without). Letters meet by their names, in the order of FIRST, or by the propositions \
+of both; where one file names none they go by their numbers. The rule is written as a text where one of \
+them is, with the descriptions of both. Its elements are the pairs of values that words have in the two \
+rules, and need not be the fewest: reduce makes them so. Different numbers of letters are refused by 18, \
+a weak rule by 12, more than 64 pairs of values by 19.",
     run,
 };
 

@@ -17,12 +17,13 @@ pub const COMMAND: Command = Command {
     most: 2,
     purpose: "compare two rules or automata over the same letters, and give a lasso that tells them apart",
     options: &[AS, BY_NUMBER],
-    details: "Prints equal, with status 0, where every lasso has the same grade by both: strong rules by the bytes of their \
-reductions, weak ones by inclusion both ways. Else, with status 1, a lasso of which no single letter can be left out, and its two \
-grades, each as the call member answers it; where strong rules are equal in another order of letters, standard error says in which. \
-Letters meet by their names, in the order of FIRST, or by the propositions of both; where one file names none they go by their numbers. \
-An automaton stands for its rule. Two rules of which one is weak are shown \
-equal only as long as words have at most 64 pairs of values in both.",
+    details: "Prints equal, with status 0, where every lasso has the same grade by both: strong rules by the bytes of \
+their reductions, weak ones by inclusion both ways. Else, with status 1, a lasso of which no single \
+letter can be left out, and its two grades, each as the call member answers it; where strong rules are \
+equal in another order of letters, standard error says in which. Letters meet by their names, in the \
+order of FIRST, or by the propositions of both; where one file names none they go by their numbers. An \
+automaton stands for its rule. Two rules of which one is weak are shown equal only as long as words have \
+at most 64 pairs of values in both.",
     run,
 };
 

@@ -27,10 +27,12 @@ pub const COMMAND: Command = Command {
         },
         LEAST,
     ],
-    details: "Bytes, the text that is written for them and the bytes of that text are the same to the last byte. What does not pass the \
-checks is converted too, as long as its sections have the lengths that its counts say: a text can be mended by hand. Names of letters, \
-propositions and a description stand in texts, and of the Hanoi format names and propositions do. Letter i of an automaton in the Hanoi format, or of a never claim, is the valuation whose bit j is proposition j. A rule in that format is \
-its own automaton, as states lists it, for the lassos of the least grade or more.",
+    details: "Bytes, the text that is written for them and the bytes of that text are the same to the last byte. What \
+does not pass the checks is converted too, as long as its sections have the lengths that its counts say: \
+a text can be mended by hand. Names of letters, propositions and a description stand in texts, and of \
+the Hanoi format names and propositions do. Letter i of an automaton in the Hanoi format, or of a never \
+claim, is the valuation whose bit j is proposition j. A rule in that format is its own automaton, as \
+states lists it, for the lassos of the least grade or more.",
     run,
 };
 

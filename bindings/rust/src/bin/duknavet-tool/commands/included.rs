@@ -18,9 +18,10 @@ pub const COMMAND: Command = Command {
     most: 2,
     purpose: "tell whether no lasso is graded higher by a rule than by a second marks section for its table, or by a second rule",
     options: &[AS, BY_NUMBER],
-    details: "Prints included, with status 0, or with status 1 a lasso that the first grades higher, and its two grades. With a marks \
-section as SECOND the rule may be weak. Two rules are strong, and yes is said exactly if combine both of them compares equal to the first; \
-their letters meet as those of combine do. Bytes are a marks section where their length fits one, else a rule if they pass its checks.",
+    details: "Prints included, with status 0, or with status 1 a lasso that the first grades higher, and its two \
+grades. With a marks section as SECOND the rule may be weak. Two rules are strong, and yes is said \
+exactly if combine both of them compares equal to the first; their letters meet as those of combine do. \
+Bytes are a marks section where their length fits one, else a rule if they pass its checks.",
     run,
 };
 

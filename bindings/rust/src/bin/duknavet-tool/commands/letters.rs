@@ -39,9 +39,10 @@ pub const COMMAND: Command = Command {
         },
         TO,
     ],
-    details: "One of --name, --order, --rename and --add is given. Two rules whose letters have different names are not compared or combined: \
-this mends it. A letter without a name has its number for one. Grades stay as they are: each lasso has the grade of the lasso that its \
-letters act as. The rule is written as a text where its letters are called in any way, else as RULE is.",
+    details: "One of --name, --order, --rename and --add is given. Two rules whose letters have different names are \
+not compared or combined: this mends it. A letter without a name has its number for one. Grades stay as \
+they are: each lasso has the grade of the lasso that its letters act as. The rule is written as a text \
+where its letters are called in any way, else as RULE is.",
     run,
 };
 

@@ -16,9 +16,10 @@ pub const COMMAND: Command = Command {
         value: Some("GRADE"),
         meaning: "the least grade that is a yes, 1 to 3; else 1",
     }],
-    details: "LASSO is the lasso itself, as in 'u: 1 0  v: 0', or a file that has it; letters are numbers, or names where RULE is a \
-text that names them, or conjunctions such as a & !b where it has propositions, of which what is left out is false. Prints the grade, 0 to 3, and the turns of v. Status 0 where the grade is 1 or more, 1 where it is 0. The rule may \
-be weak.",
+    details: "LASSO is the lasso itself, as in 'u: 1 0  v: 0', or a file that has it; letters are numbers, or names \
+where RULE is a text that names them, or conjunctions such as a & !b where it has propositions, of which \
+what is left out is false. Prints the grade, 0 to 3, and the turns of v. Status 0 where the grade is 1 \
+or more, 1 where it is 0. The rule may be weak.",
     run,
 };
 

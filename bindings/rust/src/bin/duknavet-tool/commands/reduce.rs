@@ -30,9 +30,9 @@ pub const COMMAND: Command = Command {
         },
     ],
     details: "Two rules are written alike, byte for byte, exactly if they give every lasso the same grade, letters by \
-their numbers; with --letters sorted, by their names. A weak rule is refused by \
-12: strong says why it is weak. A map is written in the form of the rule that is written: a byte, or in a text a number, for each \
-element; confirm takes it.",
+their numbers; with --letters sorted, by their names. A weak rule is refused by 12: strong says why it \
+is weak. A map is written in the form of the rule that is written: a byte, or in a text a number, for \
+each element; confirm takes it.",
     run,
 };
 
