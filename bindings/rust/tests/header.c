@@ -1,5 +1,6 @@
-/* Each exported function called through the header, on rule W of document 01, its mark with grade 3; for the other grades on W with
- * three marks, for more turns than one on sums modulo 2. */
+/* Each exported function called through the header, on a rule where letter 0 comes without end, W; for the other grades on W with three
+ * marks, for more turns than one on sums modulo 2. Then every refusal, the size of each buffer, numbers that take more than one byte or
+ * two, and the reading of rules whose products are not the same both ways. */
 #include <stdio.h>
 #include <string.h>
 
@@ -22,6 +23,178 @@ static int is_result(uint64_t answer, size_t a, size_t b, size_t c)
 {
     return duknavet_refusal_of(answer) == DUKNAVET_RESULT && duknavet_field(answer, 0) == a &&
            duknavet_field(answer, 1) == b && duknavet_field(answer, 2) == c;
+}
+
+static int is_refused(uint64_t answer, enum duknavet_refusal refusal, int number, unsigned input, uint64_t place)
+{
+    return (int)refusal == number && duknavet_refusal_of(answer) == refusal && duknavet_input_of(answer) == input &&
+           duknavet_place_of(answer) == place;
+}
+
+static const uint8_t w[] = {2, 0, 0, 0, 1, 2, 0, 1, 1, 0, 0, 0, 3};
+static const uint8_t two_sums[] = {2, 0, 1, 1, 0, 2, 1, 0, 1, 0, 0, 0, 2};
+static uint8_t large[DUKNAVET_RULE + 1], longest_word[DUKNAVET_WORD + 2];
+
+static uint64_t strong(const uint8_t *rule, size_t length)
+{
+    return duknavet_strong(rule, length, scratch, sizeof scratch);
+}
+
+/* The refusal of a rule that is W with one byte changed. */
+static uint64_t changed(size_t at, uint8_t byte)
+{
+    static uint8_t rule[sizeof w];
+    memcpy(rule, w, sizeof w);
+    rule[at] = byte;
+    return strong(rule, sizeof w);
+}
+
+/* The products a * b = a of so many elements, a letter for each up to 16, and as many marks, of grade 3; how many bytes that is. */
+static size_t left_zeros(size_t n, size_t marks)
+{
+    size_t letters = n < 16 ? n : 16, at, length = 0;
+    large[length++] = (uint8_t)n;
+    for (at = 0; at < n * n; at++)
+        large[length++] = (uint8_t)(at / n);
+    large[length++] = (uint8_t)letters;
+    for (at = 0; at < letters; at++)
+        large[length++] = (uint8_t)at;
+    large[length++] = (uint8_t)(marks % 256);
+    large[length++] = (uint8_t)(marks / 256);
+    for (at = 0; at < marks; at++) {
+        large[length++] = (uint8_t)(at / n);
+        large[length++] = (uint8_t)(at % n);
+        large[length++] = 3;
+    }
+    return length;
+}
+
+/* Each refusal, by its name and its number, with the input and the place that it has. */
+static void refusals(void)
+{
+    static const uint8_t trailing[] = {2, 0, 0, 0, 1, 2, 0, 1, 1, 0, 0, 0, 3, 9};
+    static const uint8_t unreachable[] = {2, 0, 0, 0, 1, 1, 0, 0, 0};
+    static const uint8_t not_associative[] = {2, 1, 0, 0, 0, 2, 0, 1, 0, 0};
+    static const uint8_t twice[] = {2, 0, 0, 0, 1, 2, 0, 1, 2, 0, 0, 0, 3, 0, 0, 2};
+    static const uint8_t one[] = {1, 0, 1, 0, 0, 0};
+    static uint8_t first[100], second[100];
+    /* A cycle of five states, and two of them exchanged: all 120 permutations. */
+    static const uint8_t permutations[] = {5, 3, 0, 0, 0, 0, 2, 10, 0, 0, 0, 1, 1, 0, 2, 2, 0, 3, 3, 0, 4, 4,
+                                           0, 0, 0, 1, 1, 1, 1, 0, 2, 1, 2, 3, 1, 3, 4, 1, 4};
+    size_t n, at;
+    uint64_t answer;
+
+    expect("1", is_refused(strong(w, 12), DUKNAVET_TRUNCATED, 1, 1, 12));
+    expect("2", is_refused(changed(5, 17), DUKNAVET_COUNT_OUT_OF_RANGE, 2, 1, 5));
+    expect("3", is_refused(changed(12, 4), DUKNAVET_ENTRY_OUT_OF_RANGE, 3, 1, 12));
+    expect("4", is_refused(strong(trailing, sizeof trailing), DUKNAVET_TRAILING_BYTES, 4, 1, 13));
+    expect("5", is_refused(strong(not_associative, sizeof not_associative), DUKNAVET_NOT_ASSOCIATIVE, 5, 1, 1));
+    expect("6", is_refused(strong(unreachable, sizeof unreachable), DUKNAVET_UNREACHABLE, 6, 1, 1));
+    expect("7", is_refused(changed(10, 1), DUKNAVET_NOT_LINKED, 7, 1, 10));
+    expect("8", is_refused(strong(twice, sizeof twice), DUKNAVET_DUPLICATE, 8, 1, 13));
+    memset(longest_word, 0, sizeof longest_word);
+    longest_word[7] = 2;
+    answer = duknavet_member(w, sizeof w, longest_word, 8, longest_word, 1, scratch, sizeof scratch);
+    expect("10", is_refused(answer, DUKNAVET_UNKNOWN_LETTER, 10, 1, 7));
+    answer = duknavet_member(w, sizeof w, longest_word, 1, longest_word, 0, scratch, sizeof scratch);
+    expect("11", is_refused(answer, DUKNAVET_WORD_LENGTH, 11, 2, 0));
+    answer = duknavet_complement(two_sums, sizeof two_sums, out, sizeof out, scratch, sizeof scratch);
+    expect("12", is_refused(answer, DUKNAVET_NOT_STRONG, 12, 1, 0));
+    expect("13", is_refused(duknavet_strong(w, sizeof w, scratch, 1), DUKNAVET_BUFFER_TOO_SHORT, 13, 1, 0));
+    answer = duknavet_automaton_rule(permutations, sizeof permutations, out, sizeof out, scratch, sizeof scratch);
+    expect("14", is_refused(answer, DUKNAVET_TOO_MANY_MATRICES, 14, 1, 0));
+    memset(points, 0, sizeof points);
+    answer = duknavet_keep(w, sizeof w, 0, 1, 8, points, sizeof points, scratch, sizeof scratch);
+    expect("15", is_refused(answer, DUKNAVET_NAME_OUT_OF_RANGE, 15, 1, 0));
+    answer = duknavet_return(w, sizeof w, 0, 1, 7, points, sizeof points, scratch, sizeof scratch);
+    expect("16", is_refused(answer, DUKNAVET_NAME_NEVER_KEPT, 16, 1, 0));
+    answer = duknavet_state_kind(two_sums, sizeof two_sums, 0, 1, 1, scratch, sizeof scratch);
+    expect("17", is_refused(answer, DUKNAVET_NO_SUCH_STATE, 17, 1, 0));
+    answer = duknavet_either(w, sizeof w, one, sizeof one, out, sizeof out, scratch, sizeof scratch);
+    expect("18", is_refused(answer, DUKNAVET_LETTERS_DIFFER, 18, 1, 0));
+    /* Sums modulo 8 and modulo 9 have 72 pairs of values. */
+    for (n = 8; n <= 9; n++) {
+        uint8_t *file = n == 8 ? first : second;
+        file[0] = (uint8_t)n;
+        for (at = 0; at < n * n; at++)
+            file[1 + at] = (uint8_t)((at / n + at % n) % n);
+        file[1 + n * n] = 1;
+        file[2 + n * n] = 1;
+    }
+    answer = duknavet_both(first, 1 + 64 + 4, second, 1 + 81 + 4, out, sizeof out, scratch, sizeof scratch);
+    expect("19", is_refused(answer, DUKNAVET_TOO_MANY_PAIRS, 19, 1, 0));
+    answer = duknavet_reduce_rounds(w, sizeof w, DUKNAVET_MOST_ROUNDS + 1, blocks, sizeof blocks, scratch, sizeof scratch);
+    expect("20", is_refused(answer, DUKNAVET_LIMIT_OUT_OF_RANGE, 20, 1, 0) && DUKNAVET_MOST_ROUNDS == 64);
+    duknavet_board_empty(board, sizeof board);
+    answer = duknavet_board_enter(board, sizeof board, 8, w, sizeof w, files, sizeof files, scratch, sizeof scratch);
+    expect("21", is_refused(answer, DUKNAVET_NAME_NOT_FREE, 21, 1, 0));
+    answer = duknavet_board_leave(board, sizeof board, 7, files, sizeof files, scratch, sizeof scratch);
+    expect("22", is_refused(answer, DUKNAVET_NAME_NOT_PRESENT, 22, 1, 0));
+    /* Of a board the input is a name, up to 7. */
+    answer = duknavet_board_enter(board, sizeof board, 7, w, 12, files, sizeof files, scratch, sizeof scratch);
+    expect("input 7", is_refused(answer, DUKNAVET_TRUNCATED, 1, 7, 12));
+    answer = duknavet_board_enter(board, sizeof board, 4, two_sums, sizeof two_sums, files, sizeof files, scratch, sizeof scratch);
+    expect("input 4", is_refused(answer, DUKNAVET_NOT_STRONG, 12, 4, 0));
+    expect("no refusal", DUKNAVET_RESULT == 0 && duknavet_refusal_of(strong(w, sizeof w)) == DUKNAVET_RESULT);
+}
+
+/* Each buffer passes with its size, and is too short with a byte less. */
+static void sizes(void)
+{
+    static const uint8_t no_marks[] = {0, 0};
+    int less;
+    for (less = 0; less < 2; less++) {
+        size_t l = (size_t)less;
+        enum duknavet_refusal expected = less ? DUKNAVET_BUFFER_TOO_SHORT : DUKNAVET_RESULT;
+        size_t s = sizeof scratch;
+        duknavet_board_empty(board, sizeof board);
+        memset(points, 0, sizeof points);
+        expect("scratch", duknavet_refusal_of(duknavet_strong(w, sizeof w, scratch, DUKNAVET_SCRATCH - l)) == expected);
+        expect("rule", duknavet_refusal_of(duknavet_complement(w, sizeof w, out, DUKNAVET_RULE - l, scratch, s)) == expected);
+        expect("classes", duknavet_refusal_of(duknavet_classes(w, sizeof w, classes, DUKNAVET_CLASSES - l, scratch, s)) == expected);
+        expect("u", duknavet_refusal_of(duknavet_included(w, sizeof w, no_marks, 2, u, DUKNAVET_U - l, v, sizeof v, scratch, s)) == expected);
+        expect("v", duknavet_refusal_of(duknavet_included(w, sizeof w, no_marks, 2, u, sizeof u, v, DUKNAVET_V - l, scratch, s)) == expected);
+        expect("points", duknavet_refusal_of(duknavet_keep(w, sizeof w, 0, 1, 0, points, DUKNAVET_POINTS - l, scratch, s)) == expected);
+        expect("map", duknavet_refusal_of(duknavet_reduce(w, sizeof w, out, sizeof out, map, DUKNAVET_MAP - l, scratch, s)) == expected);
+        expect("blocks", duknavet_refusal_of(duknavet_reduce_rounds(w, sizeof w, 0, blocks, DUKNAVET_BLOCKS - l, scratch, s)) == expected);
+        expect("successors", duknavet_refusal_of(duknavet_successors(w, sizeof w, 0, 0, 0, out, DUKNAVET_SUCCESSORS - l, scratch, s)) == expected);
+        expect("board", duknavet_refusal_of(duknavet_board_empty(board, DUKNAVET_BOARD - l)) == expected);
+        expect("files", duknavet_refusal_of(duknavet_board_mark(board, sizeof board, files, DUKNAVET_FILES - l, scratch, s)) == expected);
+    }
+    memset(longest_word, 0, sizeof longest_word);
+    expect("longest u", is_result(duknavet_member(w, sizeof w, longest_word, DUKNAVET_WORD, longest_word, 1, scratch, sizeof scratch), 3, 1, 0));
+    expect("longest v", is_result(duknavet_member(w, sizeof w, longest_word, 0, longest_word, DUKNAVET_WORD, scratch, sizeof scratch), 3, 1, 0));
+    expect("too long", is_refused(duknavet_member(w, sizeof w, longest_word, DUKNAVET_WORD + 1, longest_word, 1, scratch, sizeof scratch),
+                                  DUKNAVET_WORD_LENGTH, 11, 1, 0));
+    duknavet_classes(w, sizeof w, classes, sizeof classes, scratch, sizeof scratch);
+    expect("not linked", classes[4] + 256 * classes[5] == DUKNAVET_NOT_LINKED_PAIR && classes[6] + 256 * classes[7] == 3);
+}
+
+/* Answers and counts above 255, and a place above 65,535. */
+static void large_numbers(void)
+{
+    size_t length = left_zeros(16, 256);
+    uint64_t answer = strong(large, length);
+    expect("256 marks", is_result(answer, 1, 0, 0) && duknavet_rule_marks(large) == 256 && duknavet_rule_length(large) == length);
+    expect("a late mark", duknavet_rule_mark(large, 255).s == 15 && duknavet_rule_mark(large, 254).e == 14);
+    answer = duknavet_classes(large, length, classes, sizeof classes, scratch, sizeof scratch);
+    expect("256 pairs", is_result(answer, 256, 16, 240));
+    answer = duknavet_complement(large, length, out, sizeof out, scratch, sizeof scratch);
+    expect("276 bytes", is_result(answer, 276, 0, 0));
+    length = left_zeros(64, 0);
+    large[1 + 40 * 64 + 5] = 7;
+    expect("place", is_refused(strong(large, length), DUKNAVET_NOT_ASSOCIATIVE, 5, 1, 163845));
+}
+
+/* Elements 0, 1, 2 of letter 0 alone and then words that end in letter 1 or 0: a product and a value depend on the order. */
+static void reading(void)
+{
+    static const uint8_t ordered[] = {3, 0, 1, 2, 2, 1, 2, 2, 1, 2, 2, 0, 1, 2, 0, 1, 1, 3, 2, 2, 3};
+    static const uint8_t word[] = {0, 1, 0, 0};
+    expect("order", is_result(strong(ordered, sizeof ordered), 1, 0, 0));
+    expect("products by rows", duknavet_rule_product(ordered, 0, 1) == 1 && duknavet_rule_product(ordered, 1, 0) == 2);
+    expect("value from the left", duknavet_rule_value(ordered, word, 2) == 1 && duknavet_rule_value(ordered, word + 1, 2) == 2 &&
+                                      duknavet_rule_value(ordered, word, 4) == 2 && duknavet_rule_value(ordered, word + 2, 2) == 0);
 }
 
 int main(void)
@@ -154,5 +327,9 @@ int main(void)
                                                           sizeof three_grades - duknavet_rule_marks_at(three_grades), u, sizeof u, v,
                                                           sizeof v, scratch, sizeof scratch), 1, 0, 0));
     expect("values", duknavet_rule_value(rule, letter, 2) == 0 && duknavet_rule_value(rule, letter + 1, 1) == 1);
+    refusals();
+    sizes();
+    large_numbers();
+    reading();
     return failures != 0;
 }

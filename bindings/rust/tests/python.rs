@@ -1,24 +1,15 @@
-//! The Python module over the archive as a shared object. Where there is no Python 3 or no C compiler this says so and checks nothing.
+//! The Python module over the archive as a shared object.
 
 mod archive;
 
-use archive::archive;
+use archive::{archive, needed};
 use std::path::Path;
 use std::process::Command;
 
-fn there_is(program: &str) -> bool {
-    let found = Command::new(program).arg("--version").output().is_ok();
-    if !found {
-        println!("there is no {program}: the Python module was not tried");
-    }
-    found
-}
-
 #[test]
 fn module() {
-    if !there_is("python3") || !there_is("cc") {
-        return;
-    }
+    needed("python3");
+    needed("cc");
     let python = Path::new(env!("CARGO_MANIFEST_DIR")).join("../python");
     let name = format!("libduknavet-{}.so", std::process::id());
     let object = Path::new(env!("CARGO_TARGET_TMPDIR")).join(name);

@@ -1,7 +1,8 @@
-//! Where the archive is that a test links.
+//! Where the archive is that a test links, and what it needs beside it.
 
 use std::env;
 use std::path::{Path, PathBuf};
+use std::process::Command;
 
 pub fn archive() -> PathBuf {
     let package = Path::new(env!("CARGO_MANIFEST_DIR"));
@@ -10,4 +11,14 @@ pub fn archive() -> PathBuf {
         None => package.join("../../target/staticlib"),
     }
     .join("libexports.a")
+}
+
+/// That a program is installed. A test that needs it fails where it is not: one that passed would have checked nothing.
+#[allow(dead_code)]
+pub fn needed(program: &str) {
+    let found = Command::new(program).arg("--version").output();
+    assert!(
+        found.is_ok(),
+        "there is no {program}, which this test needs"
+    );
 }
