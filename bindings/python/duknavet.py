@@ -331,11 +331,11 @@ class Monitor:
 
     def keep(self, name: int) -> None:
         """Keeps this moment under a name, 0 to 7."""
-        self._move("keep", name, self._points)
+        self._move("keep", _size(name, "a name"), self._points)
 
     def return_to(self, name: int) -> None:
         """Goes back to the moment that was kept under a name."""
-        self._move("return", name, self._points)
+        self._move("return", _size(name, "a name"), self._points)
 
     def verdict(self) -> Graded:
         """The grade if the events since the last mark come for ever, and the turns of that cycle."""

@@ -2,6 +2,7 @@
 
 import ctypes
 import doctest
+import inspect
 import os
 import random
 import re
@@ -17,6 +18,9 @@ TWICE = bytes([4, 0, 1, 2, 3, 1, 2, 3, 3, 2, 3, 3, 3, 3, 3, 3, 3, 2, 0, 1, 1, 0,
 AUTOMATON = bytes([2, 1, 2, 2, 4, 0, 0, 0, 1, 0, 1, 0, 1, 0, 1, 1, 1, 0])
 
 
+HEADER = os.path.join(os.path.dirname(os.path.abspath(__file__)), "..", "..", "include", "duknavet.h")
+
+
 def word(*letters):
     return bytes(letters)
 
@@ -25,6 +29,25 @@ def remainders(m, *images, marks=()):
     """The file of a rule whose products are sums modulo m, with the letters' elements modulo m too."""
     products = [[(a + b) % m for b in range(m)] for a in range(m)]
     return Rule(products, [image % m for image in images], list(marks)).to_bytes()
+
+
+def left_zeros(n, marks=()):
+    """The file of a rule whose products are a * b = a, with a letter for each element up to 16."""
+    return Rule([[a] * n for a in range(n)], list(range(min(n, 16))), list(marks)).to_bytes()
+
+
+def unions(sets, marks=()):
+    """The file of a rule whose elements are the sets of some letters that are not empty, by number less 1, and whose products are unions."""
+    count = (1 << sets) - 1
+    products = [[((a + 1) | (b + 1)) - 1 for b in range(count)] for a in range(count)]
+    return Rule(products, [(1 << letter) - 1 for letter in range(sets)], list(marks)).to_bytes()
+
+
+def exactly(times):
+    """The file of a rule that counts letter 1 up to one more than so often, and gives grade 3 where it comes just so often."""
+    last = times + 1
+    products = [[min(a + b, last) for b in range(last + 1)] for a in range(last + 1)]
+    return Rule(products, [0, 1], [Mark(times, 0, 3)]).to_bytes()
 
 
 class Calls(unittest.TestCase):
@@ -52,6 +75,31 @@ class Calls(unittest.TestCase):
         found = duknavet.classes(Z)
         self.assertEqual(found.least, [0, None, 0, None])
         self.assertEqual((found.linked, found.classes, found.joins), (2, 1, 1))
+        found = duknavet.classes(remainders(3, 1))
+        self.assertEqual((found.linked, found.classes, found.joins), (3, 1, 2))
+
+    def test_large_numbers(self):
+        """Each field of an answer above 255, and a place above 65,535."""
+        self.assertEqual(duknavet.classes(unions(6))[1:], (665, 665, 0))
+        # One element after each letter of all 4 that come first, whatever follows; 12 letters and what each of the 4 makes of them.
+        actors, others = range(4), range(4, 16)
+        named = {(actor,): actor for actor in actors}
+        for other in others:
+            for way in [(other,)] + [(actor, other) for actor in actors]:
+                named[way] = len(named)
+
+        def product(a, b):
+            if len(a) == 2 or a[0] >= 4:
+                return a
+            return a if b[0] < 4 and len(b) == 1 else (a[0], b[-1])
+
+        products = [[named[product(a, b)] for b in named] for a in named]
+        images = [named[(letter,)] for letter in range(16)]
+        file = Rule(products, images, []).to_bytes()
+        self.assertEqual(duknavet.classes(file)[1:], (3856, 124, 3732))
+        broken = bytearray(left_zeros(64))
+        broken[1 + 40 * 64 + 5] = 7
+        self.refused(5, 1, 163845, duknavet.strong, broken)
 
     def test_written_rules(self):
         self.assertEqual(duknavet.complement(W), bytes([2, 0, 0, 0, 1, 2, 0, 1, 2, 0, 0, 1, 3, 1, 1, 3]))
@@ -110,6 +158,14 @@ class Calls(unittest.TestCase):
         self.assertEqual(duknavet.reduce_rounds(TWICE, 0), Rounds(0, False, [0, 1, 2, 1]))
         self.assertEqual(duknavet.reduce_rounds(TWICE, 1), Rounds(1, True, [0, 1, 2, 3]))
         self.assertEqual(duknavet.reduce_rounds(TWICE), Rounds(1, True, [0, 1, 2, 3]))
+        # Finished is not whether a round was done, and without a limit all are.
+        self.assertEqual(duknavet.reduce_rounds(W), Rounds(0, True, [0, 1]))
+        found = duknavet.reduce_rounds(exactly(5), 2)
+        self.assertEqual((found.rounds, found.finished), (2, False))
+        found = duknavet.reduce_rounds(exactly(40))
+        self.assertEqual((found.finished, found.blocks), (True, list(range(42))))
+        self.assertGreater(found.rounds, 30)
+        self.assertEqual(inspect.signature(duknavet.reduce_rounds).parameters["limit"].default, 64)
         self.refused(20, 1, 0, duknavet.reduce_rounds, TWICE, 65)
         self.refused(12, 1, 0, duknavet.reduce_rounds, Z)
         self.refused(1, 1, 24, duknavet.reduce_rounds, TWICE[:24])
@@ -120,6 +176,7 @@ class Calls(unittest.TestCase):
         self.assertEqual(duknavet.state_kind(W, 0, 0), INITIAL)
         self.assertEqual(duknavet.state_kind(W, 0, 1), PLAIN)
         self.assertEqual(duknavet.state_kind(W, NONE, 1), FINAL)
+        self.assertEqual([duknavet.state_kind(THREE_GRADES, s, e) for s, e in ((0, 0), (0, 1), (1, 1))], [INITIAL] * 3)
         self.assertEqual([duknavet.state_kind(THREE_GRADES, 0, 1, least) for least in (1, 2, 3)], [INITIAL, INITIAL, PLAIN])
         self.refused(17, 1, 0, duknavet.state_kind, Z, 0, 1)
         self.refused(3, 1, 0, duknavet.state_kind, Z, 0, 1, 0)
@@ -137,6 +194,11 @@ class Calls(unittest.TestCase):
         self.assertRaises(ValueError, duknavet.successors, W, 0, 0, 256)
 
     def test_kinds_of_refusals(self):
+        with open(HEADER) as file:
+            named = re.findall(r"^    DUKNAVET_(\w+) = (\d+)", file.read(), re.MULTILINE)
+        kinds = {int(number): name.title().replace("_", "") for name, number in named if name != "RESULT"}
+        self.assertEqual(duknavet.KINDS, kinds)
+        self.assertEqual(sorted(kinds), [number for number in range(1, 23) if number != 9])
         found = {number: kind for number, kind in duknavet.KINDS.items() if number > 14}
         points = {15: "NameOutOfRange", 16: "NameNeverKept"}
         later = {17: "NoSuchState", 18: "LettersDiffer", 19: "TooManyPairs", 20: "LimitOutOfRange"}
@@ -150,6 +212,9 @@ class Calls(unittest.TestCase):
         self.assertIsNone(duknavet.included(W, bytes([1, 0, 0, 0, 3])))
         self.assertEqual(duknavet.included(THREE_GRADES, bytes([1, 0, 0, 0, 3])), (word(0), word(1)))
         self.refused(7, 2, 2, duknavet.included, W, bytes([1, 0, 1, 0, 3]))
+        # u and v have lengths of their own.
+        thirds = remainders(3, 1, marks=[Mark(1, 0, 3)])
+        self.assertEqual(duknavet.included(thirds, bytes(2)), (word(0), word(0, 0, 0)))
 
     def test_monitor(self):
         monitor = Monitor(W)
@@ -167,6 +232,12 @@ class Calls(unittest.TestCase):
         monitor.return_to(3)
         self.assertEqual((monitor.before, monitor.since), (duknavet.NONE, 1))
         self.assertRaises(ValueError, monitor.event, 256)
+        # A name that does not fit is none that does.
+        for name in (-1, 1 << 64, (1 << 64) + 3, 5 - (1 << 64)):
+            self.assertRaises(ValueError, monitor.keep, name)
+            self.assertRaises(ValueError, monitor.return_to, name)
+        self.refused(15, 1, 0, monitor.keep, (1 << 64) - 1)
+        self.refused(16, 1, 0, monitor.return_to, 5)
 
     def test_rules(self):
         rule = Rule.from_bytes(THREE_GRADES)
@@ -175,11 +246,17 @@ class Calls(unittest.TestCase):
         self.assertEqual(rule.marks[1], Mark(0, 1, 2))
         self.assertEqual(rule.to_bytes(), THREE_GRADES)
         self.refused(4, 1, 13, Rule.from_bytes, W + b"\0")
+        # A count has two bytes, and no room for one mark more than they write.
+        many = [Mark(0, 0, 3)] * 65535
+        self.assertEqual(Rule([[0]], [0], many).to_bytes()[4:9], bytes([255, 255, 0, 0, 3]))
+        self.assertRaises(ValueError, Rule([[0]], [0], many + many[:1]).to_bytes)
+        pairs = [Mark(s, e, 2) for s in range(16) for e in range(16)]
+        self.assertEqual(Rule.from_bytes(left_zeros(16, pairs)).marks, pairs)
 
     def test_signatures_of_the_header(self):
         """Without types ctypes would hand numbers over, and take answers, as ints."""
         types = {"*": ctypes.c_char_p, "size_t": ctypes.c_size_t, "uint8_t": ctypes.c_uint8}
-        with open(os.path.join(os.path.dirname(os.path.abspath(__file__)), "..", "..", "include", "duknavet.h")) as file:
+        with open(HEADER) as file:
             declared = re.findall(r"^uint64_t (duknavet_\w+)\(([^)]*)\);", file.read(), re.MULTILINE)
         self.assertGreater(len(declared), 19)
         for name, arguments in declared:
