@@ -241,6 +241,51 @@ mod tests {
         }
     }
 
+    /// What a refusal says of itself, with a, b and c of a place that has three different ones.
+    #[test]
+    fn refusals_without_inputs() {
+        let expected = [
+            (1, "the bytes end inside a count or a section"),
+            (2, "a count lies outside its range"),
+            (
+                3,
+                "an entry, a grade or a monitor's value is out of its range",
+            ),
+            (4, "bytes follow the last section"),
+            (5, "(40·7)·5 is not 40·(7·5)"),
+            (6, "element 164293 is no word's value"),
+            (7, "a marked pair is not linked"),
+            (8, "a marked pair or a transition stands twice"),
+            (10, "the rule does not have this letter"),
+            (
+                11,
+                "a word has too many letters, or none where there must be one",
+            ),
+            (12, "the rule is weak"),
+            (13, "a lent buffer is too short"),
+            (14, "the automaton has more than 64 matrices"),
+            (15, "the name of a point is above 7"),
+            (16, "the name was never kept"),
+            (17, "there is no such state"),
+            (18, "the rules have different numbers of letters"),
+            (19, "the rules have more than 64 pairs of values"),
+            (20, "the limit of rounds is above 64"),
+            (21, "the name is above 7 or taken"),
+            (22, "no rule is present under the name"),
+        ];
+        let numbers: Vec<u8> = (0..=255)
+            .filter(|own| Refusal::from_number(*own).is_some())
+            .collect();
+        assert_eq!(numbers, expected.map(|(number, _)| number));
+        for (number, words) in expected {
+            let place = 40 * 4096 + 7 * 64 + 5;
+            let packed = (place << 16) + 0x0200 + u64::from(number);
+            let refused = unpack(packed).expect_err("a refusal").to_string();
+            let expected = format!("{words} (refusal {number}, input 2, place 164293)");
+            assert_eq!(refused, expected);
+        }
+    }
+
     #[test]
     fn answers_are_unpacked() {
         assert_eq!(unpack(0x0003_0002_0001_0000), Ok([1, 2, 3]));
@@ -250,6 +295,12 @@ mod tests {
             place: 4223,
         };
         assert_eq!(unpack(0x0000_0000_107f_020a), Err(refused));
+        let refused = Refused {
+            refusal: Refusal::Truncated,
+            input: 1,
+            place: (1 << 48) - 1,
+        };
+        assert_eq!(unpack(0xffff_ffff_ffff_0101), Err(refused));
         let refused = Refused {
             refusal: Refusal::NotStrong,
             input: 7,
