@@ -1,6 +1,7 @@
 //! Tests over the sources of the repository: they read the files of `crates/` and call nothing.
 
 mod copies;
+mod edits;
 mod faces;
 mod floors;
 mod imports;
