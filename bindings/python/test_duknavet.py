@@ -81,7 +81,7 @@ class Calls(unittest.TestCase):
     def test_large_numbers(self):
         """Each field of an answer above 255, and a place above 65,535."""
         self.assertEqual(duknavet.classes(unions(6))[1:], (665, 665, 0))
-        # One element after each letter of all 4 that come first, whatever follows; 12 letters and what each of the 4 makes of them.
+        # 4 letters that among themselves leave the first as it is; 12 others, and what each of the 4 makes of them, which no product changes.
         actors, others = range(4), range(4, 16)
         named = {(actor,): actor for actor in actors}
         for other in others:

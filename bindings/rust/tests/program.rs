@@ -1,4 +1,4 @@
-//! The program `duknavet`, run on files: its line for rules of every kind, for the longest, and for each refusal.
+//! The program `duknavet`, run on files: its line for rules of every kind, for long ones, and for each refusal.
 
 #[allow(dead_code)]
 #[path = "comparison/definitions/mod.rs"]
@@ -117,10 +117,9 @@ fn weak_rules() {
     assert_eq!(printed(&sums), line);
 }
 
-/// The longest file that passes the checks. An element that no product changes, s·t = s for all t, is linked with every idempotent, and every
-/// other only with such as are no such element. If all 64 were such elements, no word would have a value that is not a letter's; with fewer than 4
-/// others, 16 letters do not make 64 elements of which each is idempotent. So 4 letters whose products among themselves leave the first as it is,
-/// and 12 others with what each of the 4 makes of them, have the most linked pairs: 60 times 64, and 4 times 4.
+/// The longest file known that passes the checks. With 64 elements all 4,096 pairs are linked only if s·t = s for all s and t, and then no word
+/// has a value that is not a letter's. Here that is so of all s but 4, letters whose products among themselves leave the first as it is; the other
+/// 12 letters, and what each of the 4 makes of them, are the elements that no product changes: 60 times 64 and 4 times 4 linked pairs.
 fn longest() -> Vec<u8> {
     // (i, b) is element 4 + 5 b + i for the letter b itself, i = 0, or after the letter i - 1.
     let product = |a: u8, b: u8| match (a < 4, b < 4) {
