@@ -48,8 +48,11 @@ pub fn read(text: &str) -> Result<(Graph, Vec<String>), TextError> {
     name(&mut scanner);
     scanner.expect("{")?;
     let mut claim = Claim::default();
-    while !scanner.take("}") {
+    loop {
         claim.read_state(&mut scanner)?;
+        if scanner.take("}") {
+            break;
+        }
     }
     scanner.end("expected the end of the claim")?;
     not_defined(&blanked)?;

@@ -153,6 +153,10 @@ fn other_forms() {
         ),
         ("never { T0: if fi }", "line 1, column 16: expected `::`"),
         (
+            "never { }",
+            "line 1, column 9: expected a label with a colon",
+        ),
+        (
             "never { T0:: do :: p od }",
             "line 1, column 9: expected a label with a colon",
         ),
