@@ -93,7 +93,8 @@ fn samples() {
     );
 }
 
-/// Sums modulo 4, and whether letter 0 came: an element is twice the sum, and one more if it did not. Grade 3 where it comes without end.
+/// Sums modulo 4, and whether letter 0 came: an element is twice the sum, and one more if it did not. Grade 3 where it
+/// comes without end.
 #[test]
 fn seven_different_numbers() {
     let product = |a: u8, b: u8| 2 * ((a / 2 + b / 2) % 4) + (a & b & 1);
@@ -117,9 +118,10 @@ fn weak_rules() {
     assert_eq!(printed(&sums), line);
 }
 
-/// The longest file known that passes the checks. With 64 elements all 4,096 pairs are linked only if s·t = s for all s and t, and then no word
-/// has a value that is not a letter's. Here that is so of all s but 4, letters whose products among themselves leave the first as it is; the other
-/// 12 letters, and what each of the 4 makes of them, are the elements that no product changes: 60 times 64 and 4 times 4 linked pairs.
+/// The longest file known that passes the checks. With 64 elements all 4,096 pairs are linked only if s·t = s for all s and
+/// t, and then no word has a value that is not a letter's. Here that is so of all s but 4, letters whose products among
+/// themselves leave the first as it is; the other 12 letters, and what each of the 4 makes of them, are the elements that no
+/// product changes: 60 times 64 and 4 times 4 linked pairs.
 fn longest() -> Vec<u8> {
     // (i, b) is element 4 + 5 b + i for the letter b itself, i = 0, or after the letter i - 1.
     let product = |a: u8, b: u8| match (a < 4, b < 4) {

@@ -4,8 +4,8 @@
 //! that hold, in the order in which the file declares them, or for a never claim first names them: letter 0 has none, letter 1 the
 //! first alone. States that no run that accepts can meet are left out before anybody asks how many there are.
 //!
-//! No bytes of a file that passes the checks begin as these texts do, whatever stands before: of such a file only the low byte of a
-//! count of marks or transitions is 64 or more, and `HO` and `ne` are two such bytes.
+//! No bytes of a file that passes the checks begin as these texts do, whatever stands before: of such a file only the low
+//! byte of a count of marks or transitions is 64 or more, and `HO` and `ne` are two such bytes.
 
 mod condition;
 mod graph;
@@ -72,8 +72,8 @@ fn names_of(propositions: &[String], letters: Option<Names>) -> Result<Names, Te
     }
 }
 
-/// The format that bytes begin as: `HOA:`, or `never` and white space or a brace; a byte order mark, blank lines and comments may
-/// stand before.
+/// The format that bytes begin as: `HOA:`, or `never` and white space or a brace; a byte order mark, blank lines and
+/// comments may stand before.
 pub fn format(bytes: &[u8]) -> Option<Format> {
     let bytes = crate::text::from_first_line(bytes);
     if bytes.starts_with(b"HOA:") {

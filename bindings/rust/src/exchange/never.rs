@@ -1,7 +1,8 @@
 //! Spin's never claims: labelled states, each `if .. fi`, `do .. od`, `skip` or `false`, whose choices go to labels.
 //!
-//! The first state is initial, and a label that begins with `accept` makes its state final. A claim that ends, as `atomic { .. -> assert(..)
-//! }` ends it, has seen enough: everything that follows is accepted. `else` holds where no other choice of its `if` or `do` does.
+//! The first state is initial, and a label that begins with `accept` makes its state final. A claim that ends, as
+//! `atomic { .. -> assert(..) }` ends it, has seen enough: everything that follows is accepted. `else` holds where no other
+//! choice of its `if` or `do` does.
 
 use super::condition::{self, holds, Signs, Valuations};
 use super::graph::{Edge, Graph};

@@ -101,7 +101,8 @@ impl Reader<'_> {
         Ok(true)
     }
 
-    /// Passes over the rest of a line; a backslash before its end joins the next one to it. What takes more than a character is handed over.
+    /// Passes over the rest of a line; a backslash before its end joins the next one to it. `longer` passes over what takes
+    /// more than a character.
     fn pass_line(
         &mut self,
         mut longer: impl FnMut(&mut Self) -> Result<bool, TextError>,

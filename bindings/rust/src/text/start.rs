@@ -6,8 +6,9 @@ pub(crate) fn without_mark(bytes: &[u8]) -> &[u8] {
     bytes.strip_prefix(MARK).unwrap_or(bytes)
 }
 
-/// The bytes from the first line on that is not blank and no comment. A line that begins with `#` or `//` is a comment, with the next
-/// line where it ends in a backslash, as a definition in a claim may; and so is what stands between `/*` and `*/`.
+/// The bytes from the first line on that is not blank and no comment. A line that begins with `#` or `//` is a comment,
+/// with the next line where it ends in a backslash, as a definition in a claim may; and so is what stands between `/*` and
+/// `*/`.
 pub(crate) fn from_first_line(bytes: &[u8]) -> &[u8] {
     let mut rest = without_mark(bytes);
     loop {

@@ -1,5 +1,5 @@
-//! The wrong programs that docs/CALLS.md names are edits that the gate tries, and every file beside them is an edit too: one that ends
-//! otherwise would be tried by nobody.
+//! The wrong programs that docs/CALLS.md names are edits that the gate tries, and every file beside them is an edit too: one
+//! that ends otherwise would be tried by nobody.
 
 use std::collections::BTreeSet;
 use std::fs;

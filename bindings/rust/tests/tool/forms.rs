@@ -78,7 +78,8 @@ fn what_begins_otherwise_is_bytes() {
     run_with(&["summary", "-"], b"duknavet").said(2, words);
 }
 
-/// A byte order mark, blank lines and comments are passed over where the first line of a text follows, and places count without the mark.
+/// A byte order mark, blank lines and comments are passed over where the first line of a text follows, and places count
+/// without the mark.
 #[test]
 fn what_may_stand_before_a_text() {
     let lasso = Scrap::holding("\u{feff}\n# a week\nu: 0  v: 1\n".as_bytes());

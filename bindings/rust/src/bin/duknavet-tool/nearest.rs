@@ -1,6 +1,6 @@
 //! The word of a list that a mistyped one is nearest to.
 
-/// The nearest word, if at most half of the longer one's characters would have to change; of several, the first in the list.
+/// The nearest word, if at most half of the longer one's characters would have to change; of several, the first.
 pub fn nearest<'a>(word: &str, words: impl Iterator<Item = &'a str>) -> Option<&'a str> {
     let typed: Vec<char> = word.chars().collect();
     let near = words.filter_map(|own| {
@@ -14,7 +14,7 @@ pub fn nearest<'a>(word: &str, words: impl Iterator<Item = &'a str>) -> Option<&
     near.min_by_key(|(changes, _)| *changes).map(|(_, own)| own)
 }
 
-/// How many characters must be added, left out, replaced, or exchanged with their neighbour, to come from one word to another.
+/// How many characters must be added, left out, replaced, or exchanged with their neighbour to come from word to word.
 fn changes(from: &[char], to: &[char]) -> usize {
     let mut before: Vec<usize> = Vec::new();
     let mut row: Vec<usize> = (0..=to.len()).collect();
