@@ -5,7 +5,7 @@
 //! first alone. States that no run that accepts can meet are left out before anybody asks how many there are.
 //!
 //! No bytes of a file that passes the checks begin as these texts do, whatever stands before: of such a file only the low
-//! byte of a count of marks or transitions is 64 or more, and `HO` and `ne` are two such bytes.
+//! byte of a count of marks or transitions is above 64, and `HO` and `ne` are two such bytes.
 
 mod condition;
 mod graph;

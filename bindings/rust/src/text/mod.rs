@@ -5,9 +5,10 @@
 //! whose entries are out of range reads well, and the call that gets its bytes refuses them. What a text has beyond the bytes is how
 //! letters are called, by names or as valuations of propositions, and a description: the comments right behind its first line.
 //!
-//! A byte order mark, blank lines and comments may stand before the first line of a text. No bytes of a rule, an automaton, a marks
-//! section or a map to a rule that pass the checks are a text all the same: but for the low byte of a count of marks or transitions all
-//! their bytes are below 64, and the high byte is at most 16, while `du` is 100 and 117, and `u:` and `v:` have 58 behind a byte above 64.
+//! A byte order mark, blank lines and comments may stand before the first line of a text. No bytes of a rule, an automaton, a
+//! marks section or a map to a rule that pass the checks are a text all the same: but for the low byte of a count of marks or
+//! transitions all their bytes are at most 64, and the high byte is at most 16, while `du` is 100 and 117, and `u:` and `v:`
+//! have 58 behind a byte above 64.
 
 mod automaton;
 mod counts;
