@@ -16,6 +16,14 @@ fn texts_without_a_first_line() {
             "it looks like the text of an automaton without its first line, `duknavet automaton 1`",
         ),
         (
+            "# one\n\nelements 1 0",
+            "it looks like the text of a rule without its first line, `duknavet rule 1`",
+        ),
+        (
+            "propositions 1 \"a\"\nelements 1 0",
+            "it looks like a text without its first line, such as `duknavet rule 1`",
+        ),
+        (
             "marks 0",
             "it looks like the text of a marks section without its first line, `duknavet marks 1`",
         ),

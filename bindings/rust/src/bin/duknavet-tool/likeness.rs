@@ -15,7 +15,8 @@ pub fn words(bytes: &[u8]) -> Option<&'static str> {
 }
 
 fn of_text(text: &str) -> &'static str {
-    let first = text.split_whitespace().next().unwrap_or("");
+    let mut lines = text.lines().filter(|line| !line.starts_with('#'));
+    let first = lines.find_map(|line| line.split_whitespace().next());
     let headers = [
         (
             "elements",
@@ -29,8 +30,12 @@ fn of_text(text: &str) -> &'static str {
             "marks",
             "it looks like the text of a marks section without its first line, `duknavet marks 1`",
         ),
+        (
+            "propositions",
+            "it looks like a text without its first line, such as `duknavet rule 1`",
+        ),
     ];
-    if let Some((_, words)) = headers.iter().find(|(word, _)| *word == first) {
+    if let Some((_, words)) = headers.iter().find(|(word, _)| Some(*word) == first) {
         return words;
     }
     if text.contains("--BODY--") {
