@@ -74,10 +74,8 @@ fn wrong_use() {
 /// A write that fails is noticed, whatever is written.
 #[test]
 fn full_disk() {
-    let Ok(full) = std::fs::OpenOptions::new().write(true).open("/dev/full") else {
-        println!("there is no /dev/full: failing writes were not tried");
-        return;
-    };
+    let full = std::fs::OpenOptions::new().write(true).open("/dev/full");
+    let full = full.expect("this test needs /dev/full");
     let rule = Scrap::holding(W);
     let automaton = Scrap::holding(AUTOMATON);
     let map = Scrap::holding(&[0, 1]);
