@@ -2,22 +2,24 @@
 //!
 //! It parses, prints and asks; every verdict is a call's. A subcommand is a file of `commands/` and a line of its list.
 
+#![deny(unsafe_code)]
+
 mod arguments;
 mod board_letters;
 mod board_state;
 mod command;
 mod commands;
 mod form;
+mod former;
 mod help;
 mod input;
 mod kinds;
 mod likeness;
-mod lines;
 mod meeting;
+mod monitor_state;
 mod nearest;
 mod output;
-mod requests;
-mod state;
+mod station;
 
 use arguments::Arguments;
 use command::{Answer, Failure};

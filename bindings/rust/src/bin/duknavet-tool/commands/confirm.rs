@@ -2,10 +2,12 @@
 
 use crate::arguments::Arguments;
 use crate::command::{Answer, Command, Failure};
+use crate::input::{self, Source};
 use crate::meeting::{self, Side, BY_NUMBER};
-use crate::{input, output};
-use duknavet::text::Kind;
+use crate::output;
+use duknavet::text::{Kind, Names};
 use duknavet::witness::why_not_confirmed;
+use duknavet::words::Explained;
 use duknavet::{owned, Confirmation};
 
 pub const COMMAND: Command = Command {
@@ -27,16 +29,39 @@ fn run(arguments: &Arguments) -> Result<Answer, Failure> {
     let rule = input::rule(arguments.plain(0))?;
     let reduced = input::rule(arguments.plain(1))?;
     let map = input::expected(arguments.plain(2), Kind::Map)?;
-    let sides = (Side::of(&rule), Side::of(&reduced));
+    let answer = confirmed(arguments, &rule, &reduced, &map.bytes)?;
+    let (line, answer) = match answer {
+        Ok(()) => ("yes\n".to_string(), Answer::Yes),
+        Err(no) => (format!("{no}\n"), Answer::No),
+    };
+    output::write(line.as_bytes())?;
+    Ok(answer)
+}
+
+/// Whether a rule was reduced right; else the no, with what is wrong.
+pub fn confirmed(
+    arguments: &Arguments,
+    rule: &Source,
+    reduced: &Source,
+    map: &[u8],
+) -> Result<Result<(), String>, Failure> {
+    let sides = (Side::of(rule), Side::of(reduced));
     let met = meeting::of_two(arguments, sides.0, sides.1, [true, false])?;
-    let (first, second) = (&met.first, &met.second);
-    let refused = |explained| input::refused_by_input(&rule, &reduced, &explained);
-    if owned::confirm(first, second, &map.bytes).map_err(refused)? == Confirmation::Yes {
-        output::write(b"yes\n")?;
-        return Ok(Answer::Yes);
+    confirmed_over(&met.names, &met.first, &met.second, map)
+        .map_err(|explained| input::refused_by_input(rule, reduced, &explained))
+}
+
+/// The same for two rules whose letters are the same, and are called so.
+pub fn confirmed_over(
+    names: &Names,
+    rule: &[u8],
+    reduced: &[u8],
+    map: &[u8],
+) -> Result<Result<(), String>, Explained> {
+    if owned::confirm(rule, reduced, map)? == Confirmation::Yes {
+        return Ok(Ok(()));
     }
-    let fault = why_not_confirmed(first, second, &map.bytes).map_err(refused)?;
-    let why = fault.map(|fault| format!(": {}", fault.in_words(&met.names)));
-    output::write(format!("no{}\n", why.unwrap_or_default()).as_bytes())?;
-    Ok(Answer::No)
+    let fault = why_not_confirmed(rule, reduced, map)?;
+    let why = fault.map(|fault| format!(": {}", fault.in_words(names)));
+    Ok(Err(format!("no{}", why.unwrap_or_default())))
 }
