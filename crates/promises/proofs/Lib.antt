@@ -3,7 +3,10 @@ pub mod AutomatonReadings
 pub mod CombinedGrades
 pub mod CombineOrder
 pub mod ReduceOrder
+pub mod Histories
+pub mod HistoryGrades
 pub mod Logs
+pub mod MonitorValues
 pub mod OneAdvance
 pub mod OneCombine
 pub mod OneComplement

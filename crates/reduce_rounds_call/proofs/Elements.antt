@@ -18,9 +18,7 @@ use Rattle.minimality.proofs.GradeOutcomes.{grading, grading-lassos}
 use Rattle.minimality.proofs.ReducedElements.{stable-elements}
 use Rattle.formats.specs.RuleFile.{elementsOf, morphismOf, markingOf}
 use Rattle.formats.specs.Calls.{checkedChecks}
-use Rattle.rule_check.specs.GoodRule.{GoodRule}
-use Rattle.rule_check.proofs.CheckedRule.{graded-marks, strong-of}
-use Rattle.rule_check.proofs.Calls.{called-good}
+use Rattle.formats.proofs.GoodRule.{graded-marks, strong-of, GoodRule, called-good}
 use Rattle.promises.specs.declared.Partition.the-variants.{Blocks}
 use Rattle.promises.specs.Weak.{weakCheck}
 use Rattle.promises.specs.Reduce.{ruleOf}

@@ -18,8 +18,7 @@ use Rattle.theory.specs.Pairs.{LinkedPairs, Classes, LeastExponent}
 use Rattle.formats.specs.RuleFile.{elementsOf, lettersOf, morphismOf}
 use Rattle.formats.specs.RuleChecks.{ruleChecks}
 use Rattle.formats.specs.Calls.{checkedChecks}
-use Rattle.rule_check.proofs.Calls.{called-good}
-use Rattle.rule_check.proofs.CheckedRule.{graded-marks}
+use Rattle.formats.proofs.GoodRule.{graded-marks, called-good}
 use Rattle.theory.proofs.Gradings.{graded-small, lassos-small}
 use Rattle.formats.specs.ReadBack.{WrittenRule}
 use Rattle.formats.proofs.Listed.{select-listed}

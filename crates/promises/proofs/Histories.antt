@@ -11,12 +11,12 @@ use Rattle.theory.proofs.Words.{over-append}
 use Rattle.theory.proofs.Values.{Inside, inside-none, inside-element, join-none, join-inside, value-inside, value-append}
 use Rattle.formats.specs.RuleFile.{elementsOf, lettersOf, morphismOf}
 use Rattle.formats.specs.Calls.{checkedChecks}
-use Rattle.rule_check.proofs.Calls.{called-good}
+use Rattle.formats.proofs.GoodRule.{called-good}
 use Rattle.promises.specs.declared.Monitor.{Monitor}
 use Rattle.promises.specs.Moves.{afterEvent, afterMark, eventChecks}
 use Rattle.promises.specs.Monitor.{noValue, valueOf, numberFor, freshMonitor, monitorChecks}
 use Rattle.promises.specs.Histories.{Action, event, mark, sinceWord, beforeWord, Run, begun, moved-by-event, moved-by-mark, moved-in-place, event-refused, mark-refused, refused-in-place, Follows}
-use Rattle.monitor_state.proofs.Numbers.{value-none, value-element, number-of-value}
+use Rattle.promises.proofs.MonitorValues.{value-none, value-element, number-of-value}
 
 -- a value of a rule with at most 64 elements is that of its number
 pub value-of-number : {m : Morphism} {x : Value} → m .size ≤ 64 → Inside m x → valueOf (numberFor x) ≡ x

@@ -8,13 +8,13 @@ use native.Mathlib.Nat.{zero-add}
 use lib.Arith.{digits-lt}
 use lib.ListN.{length, getD}
 use Rattle.answer.specs.Checks.{passed, FirstFailure}
-use Rattle.rule_table.specs.Table.{Table}
+use Rattle.formats.proofs.Tables.{Table}
 use Rattle.formats.specs.Table.{productAt, imageAt}
 use Rattle.formats.specs.Sections.{InRange}
 use Rattle.formats.specs.RuleFile.{elementsOf, lettersAt, lettersOf, marksAt, marksOf, ruleEnd, markStart, markCycle, markGrade}
 use Rattle.formats.specs.RuleChecks.{layoutChecks}
 use Rattle.formats.proofs.RuleSections.{elements-good, letters-good, marks-good}
 use Rattle.formats.proofs.MarkEntries as marks
 
 module _ (bytes : List ℕ) (all : FirstFailure (layoutChecks 1 bytes) passed) where
   pub size-small : elementsOf bytes ≤ 64

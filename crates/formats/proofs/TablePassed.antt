@@ -7,11 +7,9 @@ use Rattle.answer.proofs.Order.{passes-head, passes-tail}
 use Rattle.finite.proofs.Numbers.{strong}
 use Rattle.theory.specs.Rules.{Morphism, Lawful, AllReached}
 use Rattle.theory.proofs.ShortWords.{unreached-or-all, word-of-dec}
 use Rattle.formats.specs.TableChecks.{Associates, TripleBefore, by-a, by-b, by-c}
-use Rattle.rule_table.specs.Answers.{FirstTriple}
-use Rattle.formats.proofs.Tables.{AllAssociate}
-use Rattle.rule_table.proofs.Facts.{first-triple-place}
+use Rattle.formats.proofs.Tables.{AllAssociate, FirstTriple, first-triple-place}
 use Rattle.formats.specs.RuleChecks.{tableChecks}
 
 -- where no triple is the first that does not associate, each associates if those before it do
 module _ {m : Morphism} (none : (a b c : ℕ) → FirstTriple m a b c → ⊥) where

@@ -11,15 +11,15 @@ use Rattle.theory.specs.Grades.{Graded}
 use Rattle.theory.specs.Pairs.{TurnsOf}
 use Rattle.theory.proofs.Values.{value-some}
 use Rattle.formats.specs.RuleFile.{lettersOf, morphismOf, markingOf}
 use Rattle.promises.specs.declared.Monitor.{Monitor}
 use Rattle.promises.specs.Monitor.{valueOf, monitorChecks}
 use Rattle.promises.specs.Histories.{Action, event, sinceWord, beforeWord, Run}
 use Rattle.promises.specs.Logs.{Stored, Log}
 use Rattle.promises.proofs.Logs.{log-run}
-use Rattle.monitor_state.proofs.Numbers.{value-element}
-use Rattle.monitor_histories.proofs.Histories.{run-follows}
+use Rattle.promises.proofs.MonitorValues.{value-element}
+use Rattle.promises.proofs.Histories.{run-follows}
 use Rattle.promises.specs.declared.MonitorVerdict.the-variants.{Decided}
 use Rattle.promises.specs.Verdict.{verdictChecks, VerdictPromise}
 
 module _ {bytes : List ℕ} {f : Monitor} {history : List Action} (run : Run bytes f history) where
   -- the monitor has the values of the history's words, and letters came since the last mark

@@ -13,11 +13,19 @@ use Rattle.finite.proofs.Numbers.{le-or-lt}
 use Rattle.theory.specs.Rules.{Morphism, level}
 use Rattle.theory.specs.Pairs.{Linked, LinkedOnly}
 use Rattle.theory.proofs.Closure.{linked-test, linked-intro, linked-elim}
 use Rattle.formats.specs.Sections.{twoBytes, InRange}
 use Rattle.formats.specs.RuleFile.{markStart, markCycle, markGrade, marksIn}
 use Rattle.formats.specs.RuleChecks.{markChecks}
 use Rattle.formats.proofs.Grades.{is-mark-elim, grade-mark, grade-at-most}
-use Rattle.rule_marks.proofs.MarkOrder.{GoodMark, GoodMarks}
+
+-- the i-th mark is linked, and no earlier one is the same pair
+pub record GoodMark (m : Morphism) (bytes : List ℕ) (at i : ℕ) : Type 0 where
+  pub linked : Linked m (markStart bytes at i) (markCycle bytes at i)
+  pub fresh : (j : ℕ) → j < i → markStart bytes at j ≡ markStart bytes at i → markCycle bytes at j ≡ markCycle bytes at i → ⊥
+
+-- the first i marks are good
+pub record GoodMarks (m : Morphism) (bytes : List ℕ) (at i : ℕ) : Type 0 where
+  pub good : (j : ℕ) → j < i → GoodMark m bytes at j
 
 module _ {m : Morphism} {bytes : List ℕ} {at : ℕ} where
   -- a mark that passes 7 and 8 is linked and new
