@@ -46,7 +46,7 @@ module _ (input : ℕ) (bytes : List ℕ) (all : FirstFailure (ruleChecks input 
   -- its sections pass, as those of a first input
   pub layout-passed : FirstFailure (layoutChecks 1 bytes) passed
   unfolding ruleChecks
-  layout-passed = rule-in-any input bytes (passed-first _ _ all) 1
+  layout-passed = rule-in-any input bytes (passed-first (layoutChecks input bytes) (contentChecks input bytes) all) 1
 
   content-passed : FirstFailure (contentChecks input bytes) passed
   unfolding ruleChecks

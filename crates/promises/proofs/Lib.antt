@@ -5,6 +5,7 @@ pub mod CombineOrder
 pub mod ReduceOrder
 pub mod Histories
 pub mod HistoryGrades
+pub mod Limits
 pub mod Logs
 pub mod MonitorValues
 pub mod OneAdvance
@@ -33,3 +34,9 @@ pub mod OneConfirmation
 pub mod Confirmed
 pub mod ConfirmOrder
 pub mod NotConfirmed
+pub mod ComplementOrder
+pub mod InclusionOrder
+pub mod MemberOrder
+pub mod MonitorOrder
+pub mod StrengthOrder
+pub mod IncludedBytes

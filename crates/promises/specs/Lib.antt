@@ -23,3 +23,4 @@ pub mod Combine
 pub mod Confirm
 pub mod Advance
 pub mod FilePart
+pub mod InclusionTheorem
