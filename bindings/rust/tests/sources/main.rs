@@ -4,6 +4,7 @@ mod copies;
 mod faces;
 mod floors;
 mod imports;
+mod pages;
 mod reading;
 mod sizes;
 mod walk;
