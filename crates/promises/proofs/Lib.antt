@@ -40,3 +40,9 @@ pub mod MemberOrder
 pub mod MonitorOrder
 pub mod StrengthOrder
 pub mod IncludedBytes
+pub mod OneAnswers
+pub mod ConfirmTheorem
+pub mod PointsTheorem
+pub mod RoundElements
+pub mod RoundsTheorem
+pub mod SmallestTheorem

@@ -24,3 +24,9 @@ pub mod Confirm
 pub mod Advance
 pub mod FilePart
 pub mod InclusionTheorem
+pub mod OneAnswers
+pub mod ConfirmTheorem
+pub mod PointsTheorem
+pub mod PrintTheorem
+pub mod RoundsTheorem
+pub mod SmallestTheorem

@@ -7,4 +7,5 @@ mod imports;
 mod pages;
 mod reading;
 mod sizes;
+mod theorems;
 mod walk;

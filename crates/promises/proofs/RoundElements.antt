@@ -3,7 +3,7 @@
 use Prim.Native.Nat.{ℕ, _<_}
 use mathlib.Core.Path.{_≡_, refl, sym, ap, _∙_}
 use mathlib.Core.Logic.{_↔_}
-use mathlib.Core.Bool.{true}
+use mathlib.Core.Bool.{Bool, true}
 use mathlib.Core.List.{List, [], _∷_}
 use native.Mathlib.Omega.{arith}
 use lib.ListN.{length, drop, getD, List·getD-append}
@@ -33,9 +33,15 @@ elements-carry agree k = record {
   reached = k .reached;
 }
 
+-- the rule of an answer that is no refusal passed its checks
+pub partition-good : {bytes before after entry exit : List ℕ} {limit rounds : ℕ} {finished : Bool} → RoundsPromise bytes limit before after entry exit (Blocks rounds finished)
+    → GoodRule bytes
+partition-good {bytes} {entry = entry} {limit = limit} p =
+    called-good 1 bytes entry (passed-first (checkedChecks 1 bytes entry) (limitCheck limit ∷ weakCheck 1 bytes ∷ []) (passes-tail (p .refusal)))
+
 module _ {bytes before after entry exit : List ℕ} {limit rounds : ℕ} (p : RoundsPromise bytes limit before after entry exit (Blocks rounds true)) where
   good : GoodRule bytes
-  good = called-good 1 bytes entry (passed-first (checkedChecks 1 bytes entry) (limitCheck limit ∷ weakCheck 1 bytes ∷ []) (passes-tail (p .refusal)))
+  good = partition-good p
 
   strong : StrongMarking (morphismOf bytes) (markingOf bytes)
   strong =
