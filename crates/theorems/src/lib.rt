@@ -12,6 +12,7 @@ ghost use Rattle.answer.specs.NumbersTheorem.{NumbersTheorem};
 ghost use Rattle.automaton_call.specs.ReadyTheorem.{ReadyTheorem};
 ghost use Rattle.promises.specs.ConfirmTheorem.{ConfirmTheorem};
 ghost use Rattle.board_histories.specs.Histories.{BoardTheorem};
+ghost use Rattle.unpacking.specs.BoardTheorem.{ExportedBoardTheorem, ExportedBoardOneAnswers};
 
 // Each call leaves one answer and one of every lent byte; of `included` only the lasso is open.
 fn one_answers_theorem()
@@ -71,4 +72,14 @@ fn confirmed_theorem()
 // Document 02, Job 14.
 fn board_theorem()
     ensures { λ r. ⌜ BoardTheorem ⌝ }
+{}
+
+// The same of the bytes and the numbers of the exported calls,
+fn exported_board_theorem()
+    ensures { λ r. ⌜ ExportedBoardTheorem ⌝ }
+{}
+
+// each of which leaves one number and one of every lent byte.
+fn exported_board_one_answers_theorem()
+    ensures { λ r. ⌜ ExportedBoardOneAnswers ⌝ }
 {}

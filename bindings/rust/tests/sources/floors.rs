@@ -35,8 +35,8 @@ const FLOORS_OF_EXPORTS: [&str; 13] = [
     "exports",
 ];
 
-/// The two more for the theorems: the board's promises, and what holds after many of its calls.
-const FLOORS_OF_THEOREMS: [&str; 8] = [
+/// Those for the theorems, with what holds after many calls of the board, by value and in bytes.
+const FLOORS_OF_THEOREMS: [&str; 15] = [
     "theory",
     "buchi",
     "formats",
@@ -45,6 +45,13 @@ const FLOORS_OF_THEOREMS: [&str; 8] = [
     "answer",
     "board_promises",
     "board_histories",
+    "board_state",
+    "packing",
+    "packing_counts",
+    "packing_decisions",
+    "packing_monitors",
+    "exports",
+    "unpacking",
 ];
 
 /// The theorem that is said of the engine: two ways to the rule of an automaton are no promise of a call, and leave the same.
