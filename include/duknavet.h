@@ -19,7 +19,8 @@
  *   - A refusal has its input in byte 1 and its place from bit 16 on.
  *   - A result has three fields of 16 bits, from bits 16, 32 and 48 on: duknavet_field(answer, 0), .. 1, .. 2. Fields that a
  *     function does not name are 0.
- *   - No place and no value is cut off, for inputs of any length: it is proved that the number tells the whole answer
+ *   - No place and no value is cut off, for inputs of any length: it is proved that the number tells the whole answer. Of a call on a board it
+ *     tells the lowest grade or the refusal; the board itself stands in its bytes
  *     (crates/unpacking/proofs/NothingLost; the functions below read a number as unpack in crates/packing/specs/Packing does).
  *
  * Words
@@ -104,7 +105,8 @@ static inline enum duknavet_refusal duknavet_refusal_of(uint64_t answer)
     return (enum duknavet_refusal)(answer & 255);
 }
 
-/* The input that a refusal lies in: 2 for the second marks section, the second rule and the word v, otherwise 1. */
+/* The input that a refusal lies in. Of a call on a board: the name, 0 to 7, of the rule that it lies in, present or entering; 1 for refusals 13,
+ * 21 and 22. Of every other call: 2 for the second marks section, the second rule and the word v, otherwise 1. */
 static inline unsigned duknavet_input_of(uint64_t answer)
 {
     return (unsigned)((answer >> 8) & 255);

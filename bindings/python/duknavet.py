@@ -63,7 +63,8 @@ KINDS = {
 class Refused(Exception):
     """A refused call: the number of the first check that fails, the input that it lies in, and the place there.
 
-    The input is 2 for a second marks section, a second rule and the word v, otherwise 1.
+    The input of a call on a board is the name, 0 to 7, of the rule that the refusal lies in, and 1 for 13, 21 and 22; of every other call
+    it is 2 for a second marks section, a second rule and the word v, otherwise 1.
     """
 
     def __init__(self, number: int, input: int, place: int):

@@ -6,6 +6,7 @@ use native.Mathlib.Omega.{arith}
 use Rattle.answer.specs.declared.Refusal.{Refusal}
 use Rattle.answer.specs.declared.Refusal.the-variants.{Truncated, CountOutOfRange, EntryOutOfRange, TrailingBytes, NotAssociative, Unreachable, NotLinked, Duplicate, UnknownLetter, WordLength, NotStrong, BufferTooShort, TooManyMatrices, NameOutOfRange, NameNeverKept, NoSuchState, LettersDiffer, TooManyPairs, LimitOutOfRange, NameNotFree, NameNotPresent}
 use Rattle.answer.specs.Refusals.{numberOf}
+use Rattle.answer.specs.NumbersTheorem.{NumbersTheorem}
 
 -- the place of a number in a list, the last refusal where the list ends
 unfoldable at : List Refusal → ℕ → Refusal
@@ -68,3 +69,6 @@ nine-unused TooManyPairs e = omega (arith, e)
 nine-unused LimitOutOfRange e = omega (arith, e)
 nine-unused NameNotFree e = omega (arith, e)
 nine-unused NameNotPresent e = omega (arith, e)
+
+pub numbers-theorem : NumbersTheorem
+numbers-theorem = record { no-nine = nine-unused; one-refusal = same-number }

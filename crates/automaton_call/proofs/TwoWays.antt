@@ -11,6 +11,7 @@ use Rattle.promises.specs.Automaton.{RulePromise}
 use Rattle.promises.specs.declared.Translated.{Translated}
 use Rattle.promises.proofs.OneTranslation.{one-answer, one-scratch}
 use Rattle.automaton_translation.specs.Promise.{MadePromise, SameOutcome}
+use Rattle.automaton_call.specs.ReadyTheorem.{ReadyTheorem}
 use Rattle.automaton_call.proofs.Calling.{rule-promised}
 
 pub two-calls : {bytes out out-exit out-exit′ entry exit exit′ : List ℕ} (answer answer′ : Translated) → RulePromise bytes out out-exit entry exit answer
@@ -22,3 +23,8 @@ pub two-ways : (bytes out entry : List ℕ) → ruleSize ≤ length out → {n k
     → MadePromise bytes out out-exit′ mid exit′ answer′ → SameOutcome answer answer′ out-exit out-exit′ exit exit′
 two-ways bytes out entry long p answer answer′ ready general =
     two-calls answer answer′ (rule-promised bytes out entry long p ready) (rule-promised bytes out entry long p general)
+
+pub ready-theorem : ReadyTheorem
+ready-theorem = record {
+  two-ways = λ bytes out entry mid n k t long p out-exit out-exit′ exit exit′ answer answer′ ready general. two-ways bytes out entry long p answer answer′ ready general;
+}

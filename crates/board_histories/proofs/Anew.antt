@@ -11,11 +11,11 @@ use Rattle.theory.specs.Grades.{Graded, LassosGraded}
 use Rattle.theory.proofs.Values.{element-apart, value-element as word-element, value-some}
 use Rattle.theory.proofs.Gradings.{strong-lassos, has-grade, graded-small}
 use Rattle.formats.specs.RuleFile.{lettersOf, morphismOf, markingOf}
-use Rattle.rule_check.proofs.CheckedRule.{graded-marks}
+use Rattle.formats.proofs.GoodRule.{graded-marks}
 use Rattle.promises.specs.Monitor.{noValue, valueOf}
 use Rattle.promises.specs.Histories.{Action, sinceWord, beforeWord}
 use Rattle.promises.specs.Advance.{noGrade}
-use Rattle.monitor_state.proofs.Numbers.{value-none, value-element}
+use Rattle.promises.proofs.MonitorValues.{value-none, value-element}
 use Rattle.board_promises.specs.declared.Board.{Board}
 use Rattle.board_promises.specs.Boards.{namesCount, monitorAt, Counting, SomeCounting}
 use Rattle.board_histories.specs.Histories.{Deed, Standing, nobody, stands, standing, CountsAnew, GradeAnew}

@@ -14,8 +14,7 @@ use Rattle.answer.proofs.Order.{passed-first, passed-last, passes-head, passes-
 use Rattle.theory.specs.Grades.{StrongMarking}
 use Rattle.formats.specs.RuleFile.{lettersOf, morphismOf, markingOf}
 use Rattle.formats.specs.RuleChecks.{ruleChecks}
-use Rattle.rule_check.specs.GoodRule.{GoodRule}
-use Rattle.rule_check.proofs.CheckedRule.{good-rule, strong-of}
+use Rattle.formats.proofs.GoodRule.{good-rule, strong-of, GoodRule}
 use Rattle.promises.specs.Weak.{weakCheck}
 use Rattle.promises.specs.Moves.{LoneUnknownLetterAt}
 use Rattle.board_promises.specs.declared.Board.{Board}

@@ -7,7 +7,7 @@ use mathlib.Core.List.{List}
 use native.Mathlib.Omega.{arith}
 use Rattle.theory.specs.Grades.{StrongMarking, LassosGraded}
 use Rattle.formats.specs.RuleFile.{morphismOf, markingOf}
-use Rattle.rule_check.specs.GoodRule.{GoodRule}
+use Rattle.formats.proofs.GoodRule.{GoodRule}
 use Rattle.promises.specs.declared.Monitor.{Monitor}
 use Rattle.promises.specs.Monitor.{noValue, valueOf}
 use Rattle.promises.specs.Histories.{Action, Follows}

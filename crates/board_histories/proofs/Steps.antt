@@ -19,7 +19,7 @@ use Rattle.promises.specs.declared.Step.the-variants.{Event, Mark}
 use Rattle.promises.specs.Monitor.{freshMonitor}
 use Rattle.promises.specs.Advance.{afterStep}
 use Rattle.promises.specs.Histories.{Action, event, mark, Follows}
-use Rattle.monitor_histories.proofs.Histories.{fresh-follows, after-event, after-mark}
+use Rattle.promises.proofs.Histories.{fresh-follows, after-event, after-mark}
 use Rattle.board_promises.specs.declared.Board.{Board}
 use Rattle.board_promises.specs.declared.Notice.the-variants.{Done}
 use Rattle.board_promises.specs.Boards.{namesCount, emptyBoard, fileAt, presentAt, monitorAt, withEntered, withLeft, movedBelow, Counting}

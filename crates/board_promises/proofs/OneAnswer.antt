@@ -23,6 +23,7 @@ use Rattle.board_promises.specs.declared.Notice.the-variants.{Done, Refu
 use Rattle.board_promises.specs.declared.Posted.{Posted}
 use Rattle.board_promises.specs.Boards.{namesCount, fileAt, presentAt, monitorAt, withLowest, withEntered, withLeft, movedBelow, LowestGrade}
 use Rattle.board_promises.specs.Checks.{NotFreeAt, NotPresentAt, nameChecks, namesChecks, letterChecks, lettersChecks, enterChecks, leaveChecks, eventChecks, markChecks}
+use Rattle.board_promises.specs.OneAnswers.{BoardOneAnswers}
 use Rattle.board_promises.specs.Promises.{noticeVerdict, HandsBack, filesAfterEnter, EnterPromise, LeavePromise, EventPromise, MarkPromise}
 
 -- each check of the calls fails at one place at most
@@ -136,3 +137,11 @@ module _ {b : Board} {files entry exit exit′ : List ℕ} {r r′ : Posted} whe
 
     pub one-enter-scratch : exit ≡ exit′
     one-enter-scratch = p .scratch ∙ sym (q .scratch)
+
+pub board-one-answers : BoardOneAnswers
+board-one-answers = record {
+  enter = λ b name file files entry. record { one = λ x y r r′ p q. (one-enter p q, λ i. (one-enter-files p q i, one-enter-scratch p q i)) };
+  leave = λ b name files entry. record { one = λ x y r r′ p q. (one-leave p q, one-leave-scratch p q) };
+  event = λ b letter files entry. record { one = λ x y r r′ p q. (one-event p q, one-event-scratch p q) };
+  mark = λ b files entry. record { one = λ x y r r′ p q. (one-mark p q, one-mark-scratch p q) };
+}

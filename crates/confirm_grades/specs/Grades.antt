@@ -10,7 +10,7 @@ use Rattle.theory.specs.Rules.{Morphism, Lawful}
 use Rattle.theory.proofs.Strength.{settled-start, settled-cycle}
 use Rattle.formats.specs.Table.{morphismAt}
 use Rattle.formats.specs.RuleChecks.{scratchSize}
-use Rattle.rule_table.specs.Table.{Table}
+use Rattle.formats.proofs.Tables.{Table}
 use Rattle.scratch.specs.Map.{searchEnd, marksFrom}
 use Rattle.reduce_first_round.specs.Map.{outcomeAt}
 

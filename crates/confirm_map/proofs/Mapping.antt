@@ -12,7 +12,7 @@ use Rattle.finite.specs.Each.{EachBelow}
 use Rattle.finite.proofs.Tells.{told-yes, told-no, tells-same}
 use Rattle.theory.specs.Rules.{Morphism}
 use Rattle.theory.specs.Maps.{MapsOnto}
-use Rattle.rule_table.specs.Table.{Table}
+use Rattle.formats.proofs.Tables.{Table}
 use Rattle.confirm_map.specs.Mapping.{TakenTo, ProductCarried, ImageCarried, MapNeeds}
 
 -- a search for an element that goes to t

@@ -7,7 +7,7 @@ ghost use Prim.Native.Nat.{_<_};
 ghost use lib.ListN.{length, getD};
 ghost use Rattle.finite.specs.Tells.{Tells};
 ghost use Rattle.theory.specs.Maps.{MapsOnto};
-ghost use Rattle.rule_table.specs.Table.{Table};
+ghost use Rattle.formats.proofs.Tables.{Table};
 ghost use Rattle.formats.specs.Table.{morphismAt};
 ghost use Rattle.finite.specs.Each.{EachBelow};
 ghost use Rattle.confirm_map.specs.Mapping.{mapOf, TakenTo, ProductCarried, ImageCarried, MapNeeds};

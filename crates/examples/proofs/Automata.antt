@@ -28,8 +28,7 @@ use Rattle.formats.proofs.Sections.{good-passes}
 use Rattle.formats.specs.RuleFile.{morphismOf}
 use Rattle.formats.proofs.Buffers.{buffer-long}
 use Rattle.formats.specs.RuleChecks.{ruleSize, scratchSize}
-use Rattle.rule_check.specs.GoodRule.{GoodRule}
-use Rattle.rule_check.proofs.CheckedRule.{good-rule, graded-marks}
+use Rattle.formats.proofs.GoodRule.{good-rule, graded-marks, GoodRule}
 use Rattle.formats.specs.AutomatonFile.{statesOf, kindAt, isInitial, isFinal, lettersAt, lettersOf, transitionsAt, transitionsOf, transitionAt, fromOf, letterOf, toOf, isTransition, hasTransition, automatonEnd, tripleBound, statesSection, lettersSection, transitionsSection}
 use Rattle.formats.specs.Calls.{scratchLeft}
 use Rattle.formats.specs.AutomatonChecks.{automatonChecks, readChecks}

@@ -20,7 +20,7 @@ use Rattle.examples.specs.Files.{W, W-all, one-element, Z, Z₀, not-ass
 use Rattle.promises.specs.Printed.{Prints}
 use Rattle.promises.specs.Reduce.{mapSize}
 use Rattle.promises.proofs.Printing.{other-print}
-use Rattle.rule_check.proofs.CheckedRule.{graded-marks}
+use Rattle.formats.proofs.GoodRule.{graded-marks}
 use Rattle.theory.proofs.Computing.{lasso-elim, graded-is}
 use Rattle.examples.specs.Examples.{ChecksTo, GradesLasso, RefusesLasso, ConjugateToMark, NotClosed, MarksLinked, ReducesTo, HandsBack, ReducesToBytes, AutomatonReducesTo}
 use Rattle.examples.proofs.Reading.{reading}

@@ -19,7 +19,8 @@ use Rattle.formats.specs.Sections.{Section, InRange, countBytes, countAt}
 use Rattle.formats.proofs.Sections.{SectionGood, good-passes}
 use Rattle.formats.specs.RuleFile.{elementsOf, lettersAt, marksAt, marksOf, ruleEnd, morphismOf, markStart, markCycle, elementsSection, lettersSection, marksSection}
 use Rattle.formats.specs.RuleChecks.{tableChecks, markChecks, ruleChecks}
-use Rattle.rule_marks.proofs.MarkOrder.{GoodMark, marks-pass}
+use Rattle.rule_marks.proofs.MarkOrder.{marks-pass}
+use Rattle.formats.proofs.MarksPassed.{GoodMark}
 use Rattle.formats.proofs.OneVerdict.{rule-single}
 use Rattle.examples.specs.Examples.{ChecksTo}
 

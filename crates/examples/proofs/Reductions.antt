@@ -11,12 +11,11 @@ use Rattle.theory.proofs.Gradings.{GradedMarks}
 use Rattle.finite.proofs.Highest.{highest}
 use Rattle.theory.proofs.ClosureGrades.{closure-grade}
 use Rattle.minimality.proofs.GradeOutcomes.{grading}
-use Rattle.rule_check.proofs.CheckedRule.{graded-marks}
+use Rattle.formats.proofs.GoodRule.{graded-marks, GoodRule}
 use Rattle.minimality.proofs.Listed.{passing}
 use Rattle.minimality.proofs.Blocks.{tabFrom, leastOf, sameTest, productsTest, keptTest, firstBlocks, nextBlocks}
 use Rattle.minimality.proofs.Settle.{unchanged, settleFrom, settle}
 use Rattle.minimality.proofs.ReduceModel.{heads, headsOf, finalBlocks, reduced-size, reduce-model-right}
-use Rattle.rule_check.specs.GoodRule.{GoodRule}
 use Rattle.promises.specs.Reduce.{ruleOf}
 use Rattle.theory.proofs.SameGrades.{same-self, reductions-size}
 use Rattle.formats.specs.RuleFile.{morphismOf, markingOf}

@@ -14,8 +14,7 @@ use Rattle.theory.proofs.TableTests.{counts-by, all-pairs-elim, conjugate-elim}
 use Rattle.theory.proofs.Computing.{lasso-elim, graded-is}
 use Rattle.formats.specs.RuleFile.{morphismOf, markingOf}
 use Rattle.formats.specs.RuleChecks.{ruleChecks}
-use Rattle.rule_check.specs.GoodRule.{GoodRule}
-use Rattle.rule_check.proofs.CheckedRule.{good-rule, graded-marks}
+use Rattle.formats.proofs.GoodRule.{good-rule, graded-marks, GoodRule}
 use Rattle.theory.specs.Pairs.{ClassCounts}
 use Rattle.examples.specs.Files.{W, W-all, Z, Z₀}
 use Rattle.examples.specs.Examples.{FileStrong, AcceptsLasso, RefusesLasso, ValuePair, ConjugateToMark, NotClosed, MarksLinked}

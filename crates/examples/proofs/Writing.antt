@@ -12,7 +12,7 @@ use Rattle.theory.proofs.EveryLasso.{GradesEvery, every-test, every-elim, one, 
 use Rattle.theory.proofs.SmallReductions.{every-reduction, every-reduced}
 use Rattle.theory.proofs.Maps.{maps-same}
 use Rattle.formats.specs.RuleFile.{morphismOf, markingOf}
-use Rattle.rule_check.proofs.CheckedRule.{graded-marks}
+use Rattle.formats.proofs.GoodRule.{graded-marks}
 use Rattle.formats.proofs.Buffers.{buffer-long}
 use Rattle.formats.specs.RuleChecks.{ruleSize, scratchSize}
 use Rattle.formats.specs.Calls.{checkedChecks, afterCall}

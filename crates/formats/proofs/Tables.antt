@@ -1,14 +1,53 @@
--- The checks 5 and 6 of a table fail at one place at most. Assumes nothing.
-use Prim.Native.Nat.{ℕ, _<_}
-use mathlib.Core.Path.{_≡_, sym}
+-- A product table and its letters within their limits; one whose triples all associate is lawful; the checks 5 and 6 of a table fail at one place at
+-- most. Assumes nothing.
+use Prim.Native.Nat.{ℕ, _+_, _*_, _≤_, _<_}
+use mathlib.Core.Path.{_≡_, refl, sym}
+use mathlib.Core.List.{List}
 use native.Mathlib.Omega.{arith}
-use Rattle.theory.specs.Rules.{Morphism}
+use lib.ListN.{length}
+use Rattle.theory.specs.Rules.{Morphism, Lawful}
+use Rattle.formats.specs.Table.{productAt, imageAt, morphismAt}
 use Rattle.formats.specs.TableChecks.{Associates, TripleBefore, by-a, by-b, by-c, NotAssociativeAt, UnreachedAt}
 use Rattle.finite.proofs.Numbers.{Compared, lesser, level, greater, compared}
+
+-- both sections are there, within the format's limits, and every entry names an element
+pub record Table (bytes : List ℕ) (n k : ℕ) : Type 0 where
+  pub some : 1 ≤ n
+  pub small : n ≤ 64
+  pub letters-small : k ≤ 16
+  pub long : 2 + n * n + k ≤ length bytes
+  pub products : (a b : ℕ) → a < n → b < n → productAt bytes n a b < n
+  pub images : (a : ℕ) → a < k → imageAt bytes n a < n
 
 -- every triple associates
 pub record AllAssociate (m : Morphism) : Type 0 where
   pub associate : (a b c : ℕ) → a < m .size → b < m .size → c < m .size → Associates m a b c
+
+-- a checked table whose triples all associate is lawful
+pub table-lawful : {bytes : List ℕ} {n k : ℕ} → Table bytes n k → AllAssociate (morphismAt bytes n k) → Lawful (morphismAt bytes n k)
+table-lawful t all = record { closed = t .products; associative = all .associate; images = t .images }
+
+-- the triple is the first, by a, then b, then c, that does not associate
+pub record FirstTriple (m : Morphism) (a b c : ℕ) : Type 0 where
+  pub a-inside : a < m .size
+  pub b-inside : b < m .size
+  pub c-inside : c < m .size
+  pub differs : Associates m a b c → ⊥
+  pub first : (a′ b′ c′ : ℕ) → a′ < m .size → b′ < m .size → c′ < m .size → TripleBefore a′ b′ c′ a b c → Associates m a′ b′ c′
+
+-- the first triple that does not associate gives the place of the refusal
+pub first-triple-place : {m : Morphism} {a b c : ℕ} → FirstTriple m a b c → NotAssociativeAt m (a * 4096 + b * 64 + c)
+first-triple-place {m} {a} {b} {c} f = record {
+  a = a;
+  b = b;
+  c = c;
+  a-inside = f .a-inside;
+  b-inside = f .b-inside;
+  c-inside = f .c-inside;
+  differs = f .differs;
+  first = f .first;
+  is-place = refl;
+}
 
 -- of two triples one stands before the other, or they are equal
 data TriplesCompared (a b c a′ b′ c′ : ℕ) : Type 0 where

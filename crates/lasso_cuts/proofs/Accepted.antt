@@ -8,7 +8,7 @@ use Rattle.theory.specs.Rules.{Lawful, Marking, level}
 use Rattle.theory.specs.Grades.{AtLeast, Graded}
 use Rattle.theory.proofs.Gradings.{GradedMarks, level-linked, graded-by}
 use Rattle.theory.proofs.Membership.{accepts-test, accepts-test-intro, accepts-test-elim}
-use Rattle.rule_table.specs.Table.{Table}
+use Rattle.formats.proofs.Tables.{Table}
 use Rattle.formats.specs.Table.{morphismAt}
 use Rattle.scratch.specs.Map.{marksFrom, MarkingAt}
 use Rattle.scratch.proofs.Markings.{level-at}

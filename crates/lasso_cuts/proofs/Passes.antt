@@ -11,7 +11,8 @@ use Rattle.theory.specs.Words.{Over, over-nil, over-cons}
 use Rattle.theory.specs.Rules.{Morphism, Lawful, Value, none, element, join, value}
 use Rattle.theory.proofs.Words.{over-take, over-drop, over-at}
 use Rattle.theory.proofs.Values.{value-append, join-none, join-elements, inside-of}
-use Rattle.rule_table.specs.Table.{Table, ImageNeeds}
+use Rattle.rule_table.specs.Table.{ImageNeeds}
+use Rattle.formats.proofs.Tables.{Table}
 use Rattle.formats.specs.Table.{productAt, imageAt, morphismAt}
 use Rattle.rule_table.proofs.Facts.{image-place}
 use Rattle.lasso_cuts.specs.WordValues.{CallWord}

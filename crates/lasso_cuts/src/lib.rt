@@ -12,7 +12,7 @@ ghost use Prim.Native.Nat.{_+_, _≤_};
 ghost use lib.ListN.{length};
 ghost use Rattle.theory.specs.Rules.{Lawful, level, element, value};
 ghost use Rattle.theory.proofs.Membership.{accepts-test};
-ghost use Rattle.rule_table.specs.Table.{Table};
+ghost use Rattle.formats.proofs.Tables.{Table};
 ghost use Rattle.formats.specs.Table.{morphismAt};
 ghost use Rattle.lasso_cuts.specs.WordValues.{CallWord};
 ghost use Rattle.lasso_turns.specs.Cuts.{Beginnings, Ends, KeptAround};

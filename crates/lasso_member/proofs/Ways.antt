@@ -16,7 +16,7 @@ use Rattle.theory.proofs.Values.{inside-of}
 use Rattle.theory.proofs.Starts.{start-or-turn, turn-of-empty, start-of-some}
 use Rattle.theory.proofs.Membership.{accepts-test}
 use Rattle.theory.proofs.Strength.{started-accepts}
-use Rattle.rule_table.specs.Table.{Table}
+use Rattle.formats.proofs.Tables.{Table}
 use Rattle.formats.specs.Table.{morphismAt}
 use Rattle.formats.specs.RuleFile.{lettersOf, markingOf}
 use Rattle.formats.specs.RuleChecks.{scratchSize}
@@ -24,9 +24,8 @@ use Rattle.rule_layout.specs.declared.Shape.{Shape}
 use Rattle.rule_check.specs.declared.Checked.the-variants.{Rule, Refused as Checked-refused}
 use Rattle.rule_check.specs.Answers.{CheckPromise}
 use Rattle.formats.specs.Calls.{afterCall}
-use Rattle.rule_check.specs.GoodRule.{GoodRule}
-use Rattle.rule_check.proofs.CheckedRule.{graded-marks}
-use Rattle.rule_check.proofs.Calls.{scratch-long, called-good, zeros-left, checked-length, shape-morphism, shape-table}
+use Rattle.formats.proofs.GoodRule.{graded-marks, GoodRule, scratch-long, called-good}
+use Rattle.rule_check.proofs.Calls.{zeros-left, checked-length, shape-morphism, shape-table}
 use Rattle.lasso_words.specs.declared.LassoFault.{LassoFault}
 use Rattle.lasso_words.specs.declared.LassoFault.the-variants.{Nothing, Refused as Lasso-refused}
 use Rattle.formats.specs.WordChecks.{shortestStart, shortestCycle, lassoChecks}

@@ -15,7 +15,7 @@ ghost use lib.ListN.{length};
 ghost use Rattle.theory.specs.Rules.{Lawful, level, element, value};
 ghost use Rattle.theory.proofs.Starts.{start-or-turn};
 ghost use Rattle.theory.proofs.Membership.{accepts-test};
-ghost use Rattle.rule_table.specs.Table.{Table};
+ghost use Rattle.formats.proofs.Tables.{Table};
 ghost use Rattle.formats.specs.Table.{morphismAt};
 ghost use Rattle.formats.specs.RuleChecks.{scratchSize};
 ghost use Rattle.lasso_cuts.specs.WordValues.{CallWord};

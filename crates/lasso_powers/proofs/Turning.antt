@@ -15,7 +15,7 @@ use Rattle.theory.specs.Pairs.{LeastPower}
 use Rattle.theory.proofs.IdempotentPowers.{least-power-is, least-power-idempotent}
 use Rattle.theory.proofs.Powers.{times, idempotent-of, settling}
 use Rattle.theory.proofs.Membership.{turn-look, turn-test, past-mod}
-use Rattle.rule_table.specs.Table.{Table}
+use Rattle.formats.proofs.Tables.{Table}
 use Rattle.formats.specs.Table.{productAt, morphismAt}
 use Rattle.rule_table.proofs.Facts.{product-below}
 use Rattle.lasso_powers.specs.Raising.{Raised}

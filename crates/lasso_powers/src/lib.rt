@@ -9,7 +9,7 @@ ghost use lib.ListN.{length};
 ghost use Rattle.theory.specs.Rules.{Lawful, level};
 ghost use Rattle.theory.specs.Pairs.{LeastPower};
 ghost use Rattle.theory.proofs.Membership.{turn-test};
-ghost use Rattle.rule_table.specs.Table.{Table};
+ghost use Rattle.formats.proofs.Tables.{Table};
 ghost use Rattle.formats.specs.Table.{morphismAt};
 ghost use Rattle.lasso_powers.specs.Raising.{Raised};
 ghost use Rattle.scratch.specs.Map.{beginningsBase, marksFrom};

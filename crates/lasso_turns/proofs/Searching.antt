@@ -16,7 +16,7 @@ use Rattle.theory.proofs.Powers.{times-inside, idempotent-of, idempotent-inside
 use Rattle.theory.proofs.Conjugacy.{semigroup}
 use Rattle.theory.proofs.Membership.{turn-look, turn-test}
 use Rattle.scratch.specs.Map.{marksFrom}
-use Rattle.rule_table.specs.Table.{Table}
+use Rattle.formats.proofs.Tables.{Table}
 use Rattle.formats.specs.Table.{productAt, morphismAt}
 use Rattle.rule_table.proofs.Facts.{product-below}
 use Rattle.lasso_powers.specs.Raising.{Raised}

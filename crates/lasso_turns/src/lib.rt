@@ -6,7 +6,7 @@ use scratch::BEGINNINGS_BASE;
 use scratch::ENDS_BASE;
 ghost use Prim.Native.Nat.{_<_};
 ghost use Rattle.theory.specs.Rules.{Lawful, level};
-ghost use Rattle.rule_table.specs.Table.{Table};
+ghost use Rattle.formats.proofs.Tables.{Table};
 ghost use Rattle.formats.specs.Table.{morphismAt};
 ghost use Rattle.lasso_powers.specs.Raising.{Raised};
 ghost use Rattle.lasso_turns.specs.Cuts.{CutValues, CutHere, UnmarkedBefore, MarksUpTo, someCut};

@@ -7,7 +7,7 @@ use lib.ListN.{length, replicate}
 use Rattle.answer.specs.declared.Refusal.{Refusal}
 use Rattle.answer.specs.declared.Refusal.the-variants.{BufferTooShort}
 use Rattle.theory.specs.Rules.{Morphism, Lawful}
-use Rattle.rule_table.specs.Table.{Table}
+use Rattle.formats.proofs.Tables.{Table}
 use Rattle.formats.specs.Table.{morphismAt}
 use Rattle.formats.proofs.Buffers.{buffer-short, buffer-long}
 use Rattle.rule_layout.specs.declared.Shape.{Shape}
@@ -15,7 +15,8 @@ use Rattle.rule_check.specs.declared.Checked.{Checked}
 use Rattle.rule_check.specs.declared.Checked.the-variants.{Rule, Refused as Checked-refused}
 use Rattle.rule_check.specs.Answers.{CheckPromise}
 use Rattle.rule_check.proofs.Left.{short-left, long-left}
-use Rattle.rule_check.proofs.Calls.{called-good, zeros-left, checked-rule, checked-refused, checked-length, shape-morphism, shape-table}
+use Rattle.rule_check.proofs.Calls.{zeros-left, checked-rule, checked-refused, checked-length, shape-morphism, shape-table}
+use Rattle.formats.proofs.GoodRule.{called-good}
 use Rattle.promises.specs.declared.Listed.the-variants.{Counts, Refused}
 use Rattle.theory.specs.Pairs.{ClassCounts}
 use Rattle.promises.specs.Classes.{ClassesWritten, classesSize, ListPromise}

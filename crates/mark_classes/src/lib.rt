@@ -15,7 +15,7 @@ use sections::zero;
 ghost use Prim.Native.Nat.{_*_, _≤_};
 ghost use lib.ListN.{length};
 ghost use Rattle.theory.specs.Rules.{Lawful};
-ghost use Rattle.rule_table.specs.Table.{Table};
+ghost use Rattle.formats.proofs.Tables.{Table};
 ghost use Rattle.formats.specs.Table.{morphismAt};
 ghost use Rattle.promises.specs.Classes.{classesSize, ClassesWritten, ListPromise};
 ghost use Rattle.mark_class_numbers.specs.Cells.{CellCounts};

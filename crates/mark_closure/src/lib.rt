@@ -5,7 +5,7 @@ use scratch::SECOND_BASE;
 ghost use Prim.Native.Nat.{_+_, _*_, _≤_, _<_};
 ghost use lib.ListN.{length, getD};
 ghost use Rattle.theory.specs.Rules.{Lawful};
-ghost use Rattle.rule_table.specs.Table.{Table};
+ghost use Rattle.formats.proofs.Tables.{Table};
 ghost use Rattle.formats.specs.Table.{morphismAt};
 ghost use Rattle.scratch.specs.Map.{markTableSize, tablesEnd};
 ghost use Rattle.mark_closure.specs.Closure.{ClosureRoom, ClosureAnswer};

@@ -7,7 +7,7 @@ use lib.ListN.{length, replicate}
 use Rattle.theory.specs.Rules.{Morphism, Marking, level}
 use Rattle.theory.proofs.Gradings.{level-linked}
 use Rattle.theory.proofs.Included.{none-included, escape-witness}
-use Rattle.rule_table.specs.Table.{Table}
+use Rattle.formats.proofs.Tables.{Table}
 use Rattle.formats.specs.Table.{morphismAt}
 use Rattle.rule_reach.specs.Reach.{placeAt, Empty, WordOrder}
 use Rattle.rule_reach.proofs.Words.{wordAt, found-word, reached-found}

@@ -10,7 +10,7 @@ use scratch::SECOND_BASE;
 use sections::zero;
 ghost use Prim.Native.Nat.{_≤_};
 ghost use lib.ListN.{length};
-ghost use Rattle.rule_table.specs.Table.{Table};
+ghost use Rattle.formats.proofs.Tables.{Table};
 ghost use Rattle.formats.specs.Table.{morphismAt};
 ghost use Rattle.mark_comparison.specs.Comparison.{StartNeeds, StartWritten, CompareNeeds, Compared};
 

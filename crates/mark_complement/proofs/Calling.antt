@@ -19,7 +19,8 @@ use Rattle.rule_check.specs.declared.Checked.the-variants.{Rule as Checked-rule
 use Rattle.rule_check.specs.Answers.{CheckPromise}
 use Rattle.formats.specs.Calls.{scratchLeft}
 use Rattle.rule_check.proofs.Left.{short-left, long-left}
-use Rattle.rule_check.proofs.Calls.{called-good, zeros-left, checked-length, shape-morphism}
+use Rattle.rule_check.proofs.Calls.{zeros-left, checked-length, shape-morphism}
+use Rattle.formats.proofs.GoodRule.{called-good}
 use Rattle.formats.specs.ReadBack.{WrittenRule}
 use Rattle.formats.proofs.ReadBack.{written-rule}
 use Rattle.formats.specs.Front.{AtFront}

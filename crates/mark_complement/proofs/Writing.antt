@@ -6,7 +6,7 @@ use mathlib.Core.List.{List}
 use native.Mathlib.Omega.{arith}
 use lib.Arith.{digits-lt}
 use lib.ListN.{length, take, drop}
-use Rattle.rule_table.specs.Table.{Table}
+use Rattle.formats.proofs.Tables.{Table}
 use Rattle.formats.specs.Table.{productAt, imageAt, morphismAt}
 use Rattle.formats.specs.WrittenFile.{fileOf}
 use Rattle.rule_bytes.specs.Writing.{tableMarks}

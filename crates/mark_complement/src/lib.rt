@@ -10,7 +10,7 @@ use rule_check::check;
 use rule_writer::write_rule;
 use scratch::SECOND_BASE;
 use sections::zero;
-ghost use Rattle.rule_table.specs.Table.{Table};
+ghost use Rattle.formats.proofs.Tables.{Table};
 ghost use Rattle.formats.specs.Table.{morphismAt};
 ghost use Rattle.formats.specs.Front.{AtFront};
 ghost use Rattle.mark_complement.specs.Promise.{WriteNeeds, secondFile};

@@ -3,7 +3,7 @@ use rule_marks::linked;
 use scratch::SECOND_BASE;
 ghost use Prim.Native.Nat.{_≤_, _<_};
 ghost use lib.ListN.{length};
-ghost use Rattle.rule_table.specs.Table.{Table};
+ghost use Rattle.formats.proofs.Tables.{Table};
 ghost use Rattle.formats.specs.Table.{morphismAt};
 ghost use Rattle.mark_complement_marks.specs.Complement.{ComplementLaid, ComplementByte, ComplementRow};
 ghost use Rattle.scratch.specs.Map.{tablesEnd};

@@ -6,7 +6,7 @@ use section_bounds::greater;
 ghost use mathlib.Core.Path.{_≡_};
 ghost use Prim.Native.Nat.{_+_, _≤_, _<_};
 ghost use lib.ListN.{length};
-ghost use Rattle.rule_table.specs.Table.{Table};
+ghost use Rattle.formats.proofs.Tables.{Table};
 ghost use Rattle.formats.specs.Table.{morphismAt};
 ghost use Rattle.mark_search.specs.Search.{EscapeNeeds};
 ghost use Rattle.mark_grade_search.specs.GradeSearch.{HighestBelow, GradeEscaped};

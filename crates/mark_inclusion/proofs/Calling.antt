@@ -26,7 +26,7 @@ use Rattle.rule_marks.specs.Faults.{FaultAnswer}
 use Rattle.rule_check.specs.Answers.{CheckPromise}
 use Rattle.formats.specs.Calls.{checkedChecks, afterCall}
 use Rattle.rule_check.proofs.Calls.{zeros-left, checked-length, shape-morphism}
-use Rattle.rule_check.proofs.MarksPassed.{passed-marks, marking-linked, marking-at-most}
+use Rattle.formats.proofs.MarksPassed.{passed-marks, marking-linked, marking-at-most}
 use Rattle.scratch.specs.Map.{marksFrom, MarkingAt}
 use Rattle.mark_strong.proofs.Calling.{checked-table, checked-lawful, checked-reached, checked-graded, marks-stand, checked-room}
 use Rattle.mark_inclusion.specs.Laying.{SecondLaid, LaidAnswer}

@@ -14,7 +14,7 @@ use sections::zero_part;
 ghost use mathlib.Core.Path.{_≡_};
 ghost use Prim.Native.Nat.{_≤_};
 ghost use lib.ListN.{length};
-ghost use Rattle.rule_table.specs.Table.{Table};
+ghost use Rattle.formats.proofs.Tables.{Table};
 ghost use Rattle.formats.specs.RuleFile.{elementsOf, lettersOf};
 ghost use Rattle.formats.specs.RuleChecks.{scratchSize, secondMarksChecks};
 ghost use Rattle.rule_marks.specs.Faults.{FaultAnswer};

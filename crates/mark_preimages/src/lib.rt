@@ -8,7 +8,7 @@ use scratch::FIRST_PREIMAGES_BASE;
 use scratch::NEXT_PREIMAGES_BASE;
 ghost use mathlib.Core.Path.{_≡_};
 ghost use Prim.Native.Nat.{_+_, _<_};
-ghost use Rattle.rule_table.specs.Table.{Table};
+ghost use Rattle.formats.proofs.Tables.{Table};
 ghost use Rattle.formats.specs.Table.{morphismAt};
 ghost use Rattle.scratch.specs.Preimages.{afterLetter, PreimagesRoom, PreimagesListed};
 ghost use Rattle.mark_preimages.specs.Listing.{ValueNeeds, ValueListed, LetterRoom, LetterListed};

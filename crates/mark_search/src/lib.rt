@@ -11,7 +11,7 @@ use mark_search_run::search_from;
 use scratch::NEXT_PREIMAGES_BASE;
 use scratch::STATES_BASE;
 use sections::zero_part;
-ghost use Rattle.rule_table.specs.Table.{Table};
+ghost use Rattle.formats.proofs.Tables.{Table};
 ghost use Rattle.formats.specs.Table.{morphismAt};
 ghost use Rattle.mark_search.specs.Search.{AllNeeds, EscapeNeeds, Escaped};
 

@@ -7,7 +7,8 @@ use native.Mathlib.Omega.{arith}
 use borrow.Author.Tests.{lt-ltb, le-ltb}
 use Rattle.finite.proofs.Numbers.{le-or-lt}
 use Rattle.theory.specs.Rules.{Morphism}
-use Rattle.rule_table.specs.Table.{Table, ProductNeeds}
+use Rattle.rule_table.specs.Table.{ProductNeeds}
+use Rattle.formats.proofs.Tables.{Table}
 use Rattle.formats.specs.Table.{productAt, imageAt, morphismAt}
 use Rattle.mark_search_letters.specs.Steps.{beforeLetter}
 

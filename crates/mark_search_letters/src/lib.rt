@@ -9,7 +9,7 @@ use scratch::FRONTS_BASE;
 use scratch::NEXT_PREIMAGES_BASE;
 ghost use mathlib.Core.Path.{_≡_};
 ghost use Prim.Native.Nat.{_≤_, _<_};
-ghost use Rattle.rule_table.specs.Table.{Table};
+ghost use Rattle.formats.proofs.Tables.{Table};
 ghost use Rattle.formats.specs.Table.{morphismAt};
 ghost use Rattle.mark_search_letters.specs.Steps.{beforeLetter, ExpandNeeds, Taken, Expanded};
 

@@ -3,7 +3,7 @@
 use mark_search_begin::begin;
 use mark_search_visit::visit;
 use scratch::FRONTS_BASE;
-ghost use Rattle.rule_table.specs.Table.{Table};
+ghost use Rattle.formats.proofs.Tables.{Table};
 ghost use Rattle.formats.specs.Table.{morphismAt};
 ghost use Rattle.theory.specs.Rules.{level};
 ghost use Rattle.scratch.specs.Map.{marksFrom};

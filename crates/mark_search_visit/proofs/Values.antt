@@ -11,7 +11,7 @@ use Rattle.theory.specs.Rules.{Morphism, level}
 use Rattle.theory.proofs.Codes.{value-at}
 use Rattle.theory.proofs.Turns.{turned}
 use Rattle.theory.proofs.Splits.{turn-square}
-use Rattle.rule_table.specs.Table.{Table}
+use Rattle.formats.proofs.Tables.{Table}
 use Rattle.formats.specs.Table.{productAt, morphismAt}
 use Rattle.scratch.specs.Map.{marksFrom}
 use Rattle.mark_search_visit.specs.Visits.{splitMarked}

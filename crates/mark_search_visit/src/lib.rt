@@ -7,7 +7,7 @@ use scratch::FRONTS_BASE;
 ghost use mathlib.Core.Path.{_≡_};
 ghost use Prim.Native.Nat.{_≤_, _<_};
 ghost use lib.ListN.{length};
-ghost use Rattle.rule_table.specs.Table.{Table};
+ghost use Rattle.formats.proofs.Tables.{Table};
 ghost use Rattle.formats.specs.Table.{morphismAt};
 ghost use Rattle.theory.proofs.Codes.{value-at};
 ghost use Rattle.theory.proofs.Turns.{turned};

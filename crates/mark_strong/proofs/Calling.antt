@@ -10,7 +10,7 @@ use Rattle.theory.specs.Rules.{Morphism, Lawful, AllReached}
 use Rattle.theory.specs.Grades.{StrongMarking}
 use Rattle.theory.proofs.Gradings.{GradedMarks}
 use Rattle.theory.proofs.ClosureGrades.{closure-grade}
-use Rattle.rule_table.specs.Table.{Table}
+use Rattle.formats.proofs.Tables.{Table}
 use Rattle.formats.specs.Table.{morphismAt}
 use Rattle.formats.specs.RuleFile.{elementsOf, morphismOf, markingOf}
 use Rattle.rule_layout.specs.declared.Shape.{Shape}
@@ -18,9 +18,8 @@ use Rattle.rule_layout.specs.Answers.{IsShape}
 use Rattle.rule_check.specs.declared.Checked.the-variants.{Rule, Refused as Checked-refused}
 use Rattle.rule_check.specs.Answers.{CheckPromise}
 use Rattle.formats.specs.Calls.{afterCall}
-use Rattle.rule_check.specs.GoodRule.{GoodRule}
-use Rattle.rule_check.proofs.CheckedRule.{graded-marks}
-use Rattle.rule_check.proofs.Calls.{scratch-long, called-good, zeros-left, checked-length, shape-morphism, shape-table}
+use Rattle.formats.proofs.GoodRule.{graded-marks, GoodRule, scratch-long, called-good}
+use Rattle.rule_check.proofs.Calls.{zeros-left, checked-length, shape-morphism, shape-table}
 use Rattle.scratch.specs.Map.{secondBase, marksFrom, MarkingAt}
 use Rattle.mark_closure.proofs.Agreement.{graded-agrees}
 use Rattle.mark_strong.specs.Deciding.{DecideNeeds, StrongIf, Decided}

@@ -10,7 +10,7 @@ use scratch::SECOND_BASE;
 use scratch::TABLES_END;
 use sections::zero;
 use sections::zero_part;
-ghost use Rattle.rule_table.specs.Table.{Table};
+ghost use Rattle.formats.proofs.Tables.{Table};
 ghost use Rattle.formats.specs.Table.{morphismAt};
 ghost use Rattle.mark_strong.specs.Deciding.{DecideNeeds, Decided};
 ghost use Rattle.promises.specs.Strong.{StrongPromise};

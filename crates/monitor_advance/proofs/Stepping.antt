@@ -8,7 +8,7 @@ use native.Mathlib.Omega.{arith}
 use native.Mathlib.Decide.{ℕ-discrete}
 use Rattle.theory.specs.Rules.{Morphism}
 use Rattle.theory.proofs.Strength.{settled-start, settled-cycle}
-use Rattle.rule_table.specs.Table.{Table}
+use Rattle.formats.proofs.Tables.{Table}
 use Rattle.rule_table.proofs.Facts.{product-below}
 use Rattle.formats.specs.Table.{morphismAt, imageAt}
 use Rattle.scratch.specs.Map.{marksFrom}

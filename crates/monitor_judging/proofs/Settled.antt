@@ -9,7 +9,7 @@ use Rattle.theory.specs.Rules.{Lawful}
 use Rattle.theory.specs.Pairs.{LeastPower}
 use Rattle.theory.proofs.IdempotentPowers.{least-power-is, least-power-idempotent}
 use Rattle.theory.proofs.Strength.{settled-start, settled-cycle}
-use Rattle.rule_table.specs.Table.{Table}
+use Rattle.formats.proofs.Tables.{Table}
 use Rattle.formats.specs.Table.{productAt, morphismAt}
 use Rattle.rule_table.proofs.Facts.{product-below}
 use Rattle.scratch.specs.Map.{marksFrom}

@@ -12,7 +12,7 @@ ghost use lib.ListN.{length};
 ghost use Rattle.theory.specs.Rules.{Lawful};
 ghost use Rattle.theory.specs.Pairs.{LeastExponent};
 ghost use Rattle.theory.proofs.Strength.{settled-start, settled-cycle};
-ghost use Rattle.rule_table.specs.Table.{Table};
+ghost use Rattle.formats.proofs.Tables.{Table};
 ghost use Rattle.formats.specs.Table.{morphismAt};
 ghost use Rattle.scratch.specs.Map.{secondBase, marksFrom};
 ghost use Rattle.mark_strong.specs.Deciding.{DecideNeeds};

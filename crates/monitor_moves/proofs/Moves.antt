@@ -8,7 +8,7 @@ use Rattle.answer.specs.declared.Refusal.{Refusal}
 use Rattle.answer.specs.declared.Refusal.the-variants.{UnknownLetter}
 use Rattle.answer.proofs.Order.{first-passes, first-fails, none-left, refused-before, passed-before}
 use Rattle.theory.specs.Rules.{Morphism, Value, join}
-use Rattle.rule_table.specs.Table.{Table}
+use Rattle.formats.proofs.Tables.{Table}
 use Rattle.formats.specs.Table.{morphismAt, imageAt}
 use Rattle.formats.specs.RuleFile.{lettersOf}
 use Rattle.rule_layout.specs.declared.Shape.{Shape}
@@ -19,7 +19,7 @@ use Rattle.promises.specs.declared.Moved.the-variants.{To, Refused}
 use Rattle.promises.specs.Moves.{loneLetterCheck, afterEvent, afterMark, EventPromise, MarkPromise}
 use Rattle.promises.specs.Monitor.{noValue, valueOf, numberFor}
 use Rattle.monitor_state.specs.Ready.{GoodNumber, joinAt, ReadyPromise}
-use Rattle.monitor_state.proofs.Numbers.{value-element}
+use Rattle.promises.proofs.MonitorValues.{value-element}
 use Rattle.monitor_state.proofs.Prepared.{ready-table}
 
 -- by a checked table: what an event makes of a monitor

@@ -19,7 +19,8 @@ use Rattle.rule_check.specs.declared.Checked.{Checked}
 use Rattle.rule_check.specs.declared.Checked.the-variants.{Rule, Refused as Checked-refused}
 use Rattle.rule_check.specs.Answers.{CheckPromise}
 use Rattle.rule_check.proofs.Left.{short-left, long-left}
-use Rattle.rule_check.proofs.Calls.{called-good, zeros-left, checked-rule, checked-refused, checked-length}
+use Rattle.rule_check.proofs.Calls.{zeros-left, checked-rule, checked-refused, checked-length}
+use Rattle.formats.proofs.GoodRule.{called-good}
 use Rattle.promises.specs.declared.Monitor.{Monitor}
 use Rattle.promises.specs.declared.Moved.the-variants.{To, Refused}
 use Rattle.promises.specs.Monitor.{ValueOutOfRange}

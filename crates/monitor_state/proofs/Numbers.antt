@@ -5,30 +5,13 @@ use mathlib.Core.Logic.{inl, inr, ⊎-elim}
 use mathlib.Core.List.{List}
 use native.Mathlib.Omega.{arith}
 use native.Mathlib.Decide.{ℕ-discrete}
-use borrow.Author.Tests.{eq-eqb, ne-eqb}
 use Rattle.finite.proofs.Numbers.{le-or-lt}
-use Rattle.theory.specs.Rules.{Value, none, element, join}
+use Rattle.theory.specs.Rules.{Value, element, join}
 use Rattle.theory.proofs.Values.{join-none}
 use Rattle.formats.specs.Table.{morphismAt, productAt}
 use Rattle.promises.specs.Monitor.{noValue, valueOf, numberFor, ValueOutOfRange}
+use Rattle.promises.proofs.MonitorValues.{value-none, value-element, number-of-value}
 use Rattle.monitor_state.specs.Ready.{GoodNumber, joinAt}
-
-pub value-none : {s : ℕ} → s ≡ noValue → valueOf s ≡ none
-unfolding valueOf
-value-none {s} e = simp (eq-eqb s noValue e)
-
-pub value-element : {s : ℕ} → (s ≡ noValue → ⊥) → valueOf s ≡ element s
-unfolding valueOf
-value-element {s} f = simp (ne-eqb s noValue f)
-
--- the number of a good number's value is that number
-pub number-of-value : (s : ℕ) → numberFor (valueOf s) ≡ s
-unfolding numberFor
-number-of-value s = go (ℕ-discrete s noValue)
-  where
-    go : Dec (s ≡ noValue) → numberFor (valueOf s) ≡ s
-    go (yes e) = ap numberFor (value-none e) ∙ sym e
-    go (no f) = ap numberFor (value-element f)
 
 -- the product with none
 pub join-left : (bytes : List ℕ) (n k a b : ℕ) → a ≡ noValue → b ≡ joinAt bytes n k a b

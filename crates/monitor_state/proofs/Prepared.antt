@@ -9,13 +9,14 @@ use Rattle.answer.specs.declared.Refusal.{Refusal}
 use Rattle.answer.specs.declared.Refusal.the-variants.{EntryOutOfRange}
 use Rattle.answer.specs.Checks.{passed, FirstFailure}
 use Rattle.answer.proofs.Order.{first-passes, first-fails, none-left, refused-before, passed-before, passed-first, passed-last, passes-head}
-use Rattle.rule_table.specs.Table.{Table}
+use Rattle.formats.proofs.Tables.{Table}
 use Rattle.formats.specs.RuleFile.{elementsOf}
 use Rattle.rule_layout.specs.declared.Shape.{Shape}
 use Rattle.rule_check.specs.declared.Checked.the-variants.{Rule, Refused}
 use Rattle.rule_check.specs.Answers.{CheckPromise}
 use Rattle.formats.specs.Calls.{checkedChecks, afterCall}
-use Rattle.rule_check.proofs.Calls.{zeros-left, checked-length, called-good, shape-table}
+use Rattle.rule_check.proofs.Calls.{zeros-left, checked-length, shape-table}
+use Rattle.formats.proofs.GoodRule.{called-good}
 use Rattle.promises.specs.declared.Monitor.{Monitor}
 use Rattle.monitor_state.specs.declared.Ready.{Ready}
 use Rattle.monitor_state.specs.declared.Ready.the-variants.{Rule as Ready-rule, Refused as Not-ready}

@@ -8,7 +8,7 @@ use rule_layout::Shape;
 use rule_table::product;
 use sections::zero;
 ghost use mathlib.Core.Path.{_≡_};
-ghost use Rattle.rule_table.specs.Table.{Table};
+ghost use Rattle.formats.proofs.Tables.{Table};
 ghost use Rattle.promises.specs.Monitor.{freshMonitor};
 ghost use Rattle.monitor_state.specs.Ready.{GoodNumber, joinAt, OutOfRangeAnswer, ReadyPromise};
 

@@ -16,7 +16,8 @@ use Rattle.rule_marks.specs.declared.Fault.the-variants.{Nothing, Refused}
 use Rattle.promises.specs.declared.Monitor.{Monitor}
 use Rattle.promises.specs.Monitor.{noValue, valueOf, ValueOutOfRange, monitorValueCheck}
 use Rattle.monitor_state.specs.Ready.{GoodNumber}
-use Rattle.monitor_state.proofs.Numbers.{value-none, value-element, good-not-stray, good-element}
+use Rattle.monitor_state.proofs.Numbers.{good-not-stray, good-element}
+use Rattle.promises.proofs.MonitorValues.{value-none, value-element}
 use Rattle.promises.specs.Verdict.{noneCheck}
 use Rattle.monitor_verdict.specs.Judging.{valueChecks, startElement, Judgeable, ValuesAnswer}
 

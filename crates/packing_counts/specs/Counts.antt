@@ -28,7 +28,7 @@ packListed answer = pack (listedContents answer)
 
 -- how many bytes were written
 abbrev pub complementedContents : Complemented → Contents
-complementedContents (Complement-rule length) = fields length 0 0
+complementedContents (Complement-rule end) = fields end 0 0
 complementedContents (Not-complemented refusal input place) = refusal-at (numberOf refusal) input place
 
 abbrev pub packComplemented : Complemented → ℕ
@@ -36,7 +36,7 @@ packComplemented answer = pack (complementedContents answer)
 
 -- likewise
 abbrev pub reducedContents : Reduced → Contents
-reducedContents (Reduced-rule length) = fields length 0 0
+reducedContents (Reduced-rule end) = fields end 0 0
 reducedContents (Not-reduced refusal input place) = refusal-at (numberOf refusal) input place
 
 abbrev pub packReduced : Reduced → ℕ
@@ -55,14 +55,14 @@ packPartition answer = pack (partitionContents answer)
 
 -- how many bytes were written
 abbrev pub combinedContents : Combined → Contents
-combinedContents (Combined-rule length) = fields length 0 0
+combinedContents (Combined-rule end) = fields end 0 0
 combinedContents (Not-combined refusal input place) = refusal-at (numberOf refusal) input place
 
 abbrev pub packCombined : Combined → ℕ
 packCombined answer = pack (combinedContents answer)
 
 abbrev pub translatedContents : Translated → Contents
-translatedContents (Automaton-rule length) = fields length 0 0
+translatedContents (Automaton-rule end) = fields end 0 0
 translatedContents (Not-translated refusal input place) = refusal-at (numberOf refusal) input place
 
 abbrev pub packTranslated : Translated → ℕ

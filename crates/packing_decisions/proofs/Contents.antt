@@ -11,6 +11,7 @@ use Rattle.promises.specs.declared.StateKind.{StateKind}
 use Rattle.promises.specs.declared.StateKind.the-variants.{Plain, Initial, Final, Refused as No-kind}
 use Rattle.promises.specs.declared.Strength.{Strength}
 use Rattle.promises.specs.declared.Strength.the-variants.{Strong, Weak, Refused as Not-decided}
+use Rattle.packing.specs.Packing.{fields}
 use Rattle.packing.proofs.Contents.{verdict-of}
 use Rattle.packing_decisions.specs.Decisions.{strengthContents, membershipContents, confirmationContents, inclusionContents, kindContents}
 
@@ -70,3 +71,12 @@ kind-told (No-kind r i p) Plain e = cc
 kind-told (No-kind r i p) Initial e = cc
 kind-told (No-kind r i p) Final e = cc
 kind-told (No-kind r i p) (No-kind r′ i′ p′) e = same-refusal No-kind r r′ i i′ p p′ (verdict-of e)
+
+-- the numbers of the kinds, "coded as in automaton files": 0 plain, 1 initial, 2 final
+pub record KindNumbers : Type 0 where
+  pub plain : kindContents Plain ≡ fields 0 0 0
+  pub initial : kindContents Initial ≡ fields 1 0 0
+  pub final : kindContents Final ≡ fields 2 0 0
+
+pub kind-numbers : KindNumbers
+kind-numbers = record { plain = refl; initial = refl; final = refl }

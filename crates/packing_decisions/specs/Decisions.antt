@@ -11,6 +11,7 @@ use Rattle.promises.specs.declared.StateKind.{StateKind}
 use Rattle.promises.specs.declared.StateKind.the-variants.{Plain, Initial, Final, Refused as No-kind}
 use Rattle.promises.specs.declared.Strength.{Strength}
 use Rattle.promises.specs.declared.Strength.the-variants.{Strong, Weak, Refused as Not-decided}
+use Rattle.promises.specs.RuleAutomaton.{plainKind, initialKind, finalKind}
 use Rattle.packing.specs.Packing.{Contents, fields, refusal-at, pack}
 
 -- 1 where the rule is strong
@@ -50,9 +51,9 @@ packInclusion answer = pack (inclusionContents answer)
 
 -- the kind of a state, coded as in automaton files
 abbrev pub kindContents : StateKind → Contents
-kindContents Plain = fields 0 0 0
-kindContents Initial = fields 1 0 0
-kindContents Final = fields 2 0 0
+kindContents Plain = fields plainKind 0 0
+kindContents Initial = fields initialKind 0 0
+kindContents Final = fields finalKind 0 0
 kindContents (No-kind refusal input place) = refusal-at (numberOf refusal) input place
 
 abbrev pub packKind : StateKind → ℕ

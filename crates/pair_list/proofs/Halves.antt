@@ -7,7 +7,7 @@ use native.Mathlib.Omega.{arith}
 use lib.ListN.{length, getD, take, drop}
 use Rattle.theory.specs.Rules.{element}
 use Rattle.formats.specs.Table.{morphismAt}
-use Rattle.rule_table.specs.Table.{Table}
+use Rattle.formats.proofs.Tables.{Table}
 use Rattle.scratch.proofs.Parts.{part-length, part-byte}
 use Rattle.rule_reach.specs.Reach.{wordStep}
 use Rattle.rule_reach.specs.Reach.{entryAt as reachedAt}

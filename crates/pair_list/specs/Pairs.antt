@@ -8,7 +8,7 @@ use Rattle.theory.specs.Rules.{Morphism, Lawful, Value, none, element}
 use Rattle.theory.specs.Combined.{MorePairs}
 use Rattle.formats.specs.Table.{morphismAt}
 use Rattle.formats.specs.RuleChecks.{scratchSize}
-use Rattle.rule_table.specs.Table.{Table}
+use Rattle.formats.proofs.Tables.{Table}
 use Rattle.rule_reach.specs.Reach.{wordStep}
 use Rattle.scratch.specs.Bytes.{UnchangedOutside}
 use Rattle.scratch.specs.Map.{pairNumbersBase, pairLeftsBase, pairRightsBase, pairParentsBase, pairLettersBase, pairsEnd}

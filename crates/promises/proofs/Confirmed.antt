@@ -42,12 +42,25 @@ module _ (first second map entry exit : List ℕ) (room : scratchSize ≤ length
       passed-before (checkedChecks 1 first entry) _ (buffer-long room first-passes-checks)
       (passed-before (ruleChecks 2 second) (weakCheck 1 first ∷ []) second-passes-checks (first-passes (record { nowhere = not-weak }) none-left))
 
+  -- whatever the promise allows is an answer and no refusal
+  judged : (answer : Confirmation) → ConfirmPromise first second map entry exit answer → confirmationVerdict answer ≡ passed
+  judged answer p = one-verdict (confirm-single first second entry) (p .refusal) all-pass
+
   pub right-confirmed : ReducesBy first second map → (answer : Confirmation) → ConfirmPromise first second map entry exit answer → answer ≡ Yes
-  right-confirmed right answer p = go answer (p .answered) (one-verdict (confirm-single first second entry) (p .refusal) all-pass)
+  right-confirmed right answer p = go answer (p .answered) (judged answer p)
     where
       go : (answer : Confirmation) → ConfirmationAnswer first second map answer → confirmationVerdict answer ≡ passed → answer ≡ Yes
       go Yes a e = refl
       go No a e = absurd (a right)
+      go (Refused k i place) a e = absurd (not-passed e)
+
+  -- and one that is not right gets no
+  pub wrong-denied : ¬ ReducesBy first second map → (answer : Confirmation) → ConfirmPromise first second map entry exit answer → answer ≡ No
+  wrong-denied wrong answer p = go answer (p .answered) (judged answer p)
+    where
+      go : (answer : Confirmation) → ConfirmationAnswer first second map answer → confirmationVerdict answer ≡ passed → answer ≡ No
+      go Yes a e = absurd (wrong a)
+      go No a e = refl
       go (Refused k i place) a e = absurd (not-passed e)
 
 -- ---- our own

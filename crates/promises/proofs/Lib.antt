@@ -3,7 +3,11 @@ pub mod AutomatonReadings
 pub mod CombinedGrades
 pub mod CombineOrder
 pub mod ReduceOrder
+pub mod Histories
+pub mod HistoryGrades
+pub mod Limits
 pub mod Logs
+pub mod MonitorValues
 pub mod OneAdvance
 pub mod OneCombine
 pub mod OneComplement
@@ -30,3 +34,15 @@ pub mod OneConfirmation
 pub mod Confirmed
 pub mod ConfirmOrder
 pub mod NotConfirmed
+pub mod ComplementOrder
+pub mod InclusionOrder
+pub mod MemberOrder
+pub mod MonitorOrder
+pub mod StrengthOrder
+pub mod IncludedBytes
+pub mod OneAnswers
+pub mod ConfirmTheorem
+pub mod PointsTheorem
+pub mod RoundElements
+pub mod RoundsTheorem
+pub mod SmallestTheorem

@@ -29,6 +29,7 @@ use Rattle.promises.specs.InPlace.{EventInPlace}
 use Rattle.promises.specs.Verdict.{VerdictPromise}
 use Rattle.promises.specs.Histories.{Action, Run, begun as run-begun, moved-by-event as run-event, moved-by-mark as run-mark, moved-in-place as run-in-place, event-refused as run-event-refused, mark-refused as run-mark-refused, refused-in-place as run-refused-in-place}
 use Rattle.promises.specs.Points.{namesCount, pointsSize, NeverKept, pointAt, keptPoints, KeepPromise, ReturnPromise}
+use Rattle.promises.specs.PointsTheorem.{Logged, handedBack}
 use Rattle.promises.specs.Logs.{Stored, never, stored, storedAt, Log, begun, moved-by-event, moved-by-mark, moved-in-place, kept, returned, event-refused, mark-refused, refused-in-place, keep-refused, return-refused, afterHistory}
 use Rattle.promises.proofs.OneVerdict.{one-answer}
 use Rattle.promises.proofs.Points.{other-flag, other-point, kept-kept, kept-point, keep-room, keep-named, return-named, return-kept}
@@ -154,17 +155,6 @@ module _ (bytes : List ℕ) where
         go : (s : Stored) → names name ≡ s → (past : List Action) × (names name ≡ stored past)
         go never e = absurd (return-kept bytes f name points entry (p .refusal) (holds never e))
         go (stored past) e = (past, e)
-
--- some history that calls have led to, with some stored ones
-pub record Logged (bytes : List ℕ) (f : Monitor) (points : List ℕ) : Type 0 where
-  pub history : List Action
-  pub names : ℕ → Stored
-  pub log : Log bytes f points history names
-
--- the monitor that a call hands back
-abbrev pub handedBack : Moved → Monitor
-handedBack (To g) = g
-handedBack (Refused g refusal input place) = g
 
 -- every sequence of calls has a history: it has one at first, and whatever a call answers, it has one after the call
 module _ {bytes : List ℕ} where

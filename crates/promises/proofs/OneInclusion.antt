@@ -14,6 +14,7 @@ use Rattle.formats.specs.RuleChecks.{TrailingAt, secondMarksChecks}
 use Rattle.formats.proofs.OneVerdict.{marks-single, checked-single}
 use Rattle.promises.specs.declared.Inclusion.{Inclusion}
 use Rattle.promises.specs.declared.Inclusion.the-variants.{Included as Is-included, NotIncluded, Refused}
+use Rattle.promises.specs.OneAnswers.{Agree, agree, both-apart}
 use Rattle.promises.specs.Inclusion.{InclusionAnswer, inclusionChecks, secondMarking, inclusionVerdict, InclusionPromise}
 
 -- each check of a second marks section fails at one place at most
@@ -33,11 +34,6 @@ pub included-or-not : {m : Morphism} {marks marks′ : Marking} {u v : List ℕ}
 included-or-not {u = u} {v = v} a h =
     let w = h .witness in
     w .refused-second (a .at-each (h .least) (h .some) .accepted-too u v (w .lasso) (w .accepted-first))
-
--- two answers with the bytes that u and v are left with: equal, or a witness each
-pub data Agree (u-exit u-exit′ v-exit v-exit′ : List ℕ) : Inclusion → Inclusion → Type 0 where
-  agree : {answer answer′ : Inclusion} → answer ≡ answer′ → u-exit ≡ u-exit′ → v-exit ≡ v-exit′ → Agree u-exit u-exit′ v-exit v-exit′ answer answer′
-  both-apart : {u v u′ v′ : ℕ} → Agree u-exit u-exit′ v-exit v-exit′ (NotIncluded u v) (NotIncluded u′ v′)
 
 module _ {bytes second u-entry u-exit u-exit′ v-entry v-exit v-exit′ entry exit exit′ : List ℕ} where
   pub one-answer : (answer answer′ : Inclusion) → InclusionPromise bytes second u-entry u-exit v-entry v-exit entry exit answer

@@ -1,6 +1,6 @@
 -- Two answers of the call for the same rule, limit and buffers are one, and leave blocks and scratch alike; a finished answer is that of every
 -- larger limit; and the rounds done are fewer than the elements. Assumes nothing.
-use Prim.Native.Nat.{ℕ, _≤_, _<_}
+use Prim.Native.Nat.{ℕ, _+_, _≤_, _<_}
 use mathlib.Core.Path.{_≡_, refl, sym, ap₂, subst, _∙_}
 use mathlib.Core.Logic.{_↔_}
 use mathlib.Core.Bool.{Bool, true, false}
@@ -110,6 +110,23 @@ module _ {bytes before after after′ : List ℕ} {limit limit′ rounds rounds�
 module _ {bytes before after : List ℕ} {limit rounds : ℕ} {finished : Bool} (some : 1 ≤ elementsOf bytes) (a : PartitionedTo bytes limit before after rounds finished) where
   pub rounds-below : rounds < elementsOf bytes
   rounds-below = omega (arith, blocks-many (morphismOf bytes) (a .grades) rounds some (a .first), blocks-at-most (morphismOf bytes) (a .grades) rounds)
+
+  -- with a limit of n − 1 or more it is finished: else one round more would have more blocks than there are elements
+  pub finished-within : elementsOf bytes ≤ limit + 1 → finished ≡ true
+  finished-within enough = go finished refl
+    where
+      unstable : finished ≡ false → (i : ℕ) → i < rounds + 1 → Stable (morphismOf bytes) (a .grades) i → ⊥
+      unstable e i h s = pick (compared i rounds)
+        where
+          pick : Compared i rounds → ⊥
+          pick (lesser l) = a .first i l s
+          pick (level q) = a .stable .fails e (subst (Stable (morphismOf bytes) (a .grades)) q s)
+          pick (greater g) = omega arith
+
+      go : (f : Bool) → finished ≡ f → finished ≡ true
+      go true e = e
+      go false e =
+          absurd (omega (arith, enough, a .at-limit e, blocks-many (morphismOf bytes) (a .grades) (rounds + 1) some (unstable e), blocks-at-most (morphismOf bytes) (a .grades) (rounds + 1)))
 
 module _ (bytes : List ℕ) (limit : ℕ) (before : List ℕ) {after after′ : List ℕ} where
   same-answer : (a b : Partition) → PartitionAnswer bytes limit before after a → PartitionAnswer bytes limit before after′ b → partitionVerdict a ≡ partitionVerdict b

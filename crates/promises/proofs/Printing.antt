@@ -27,7 +27,8 @@ use Rattle.formats.proofs.ReadRules.{reads-at-least, reads-strong}
 use Rattle.promises.specs.declared.Reduced.{Reduced}
 use Rattle.promises.specs.declared.Reduced.the-variants.{Rule as Is-rule, Refused}
 use Rattle.promises.specs.Reduce.{mapSize, reduceChecks, reducedVerdict, ruleOf, ReducedTo, ReducePromise}
-use Rattle.promises.specs.Printed.{Prints}
+use Rattle.promises.specs.Printed.{Prints, Printed}
+use Rattle.promises.specs.PrintTheorem.{PrintTheorem}
 use Rattle.promises.proofs.OneReduction.{reduce-single}
 use Rattle.theory.proofs.SameGrades.{same-back, same-on}
 use Rattle.promises.proofs.SameReductions.{same-rule, reductions-file}
@@ -35,13 +36,13 @@ use Rattle.promises.proofs.SameReductions.{same-rule, reductions-file}
 -- ---- a printed file means a rule with the grades of the rule that was reduced
 
 -- the reduction that a print was written of
-abbrev reduced-to : {bytes file : List ℕ} (p : Prints bytes file) → ReducedTo bytes (p .before) (p .after) (p .map-before) (p .map-after) (p .end)
+abbrev pub reduced-to : {bytes file : List ℕ} (p : Prints bytes file) → ReducedTo bytes (p .before) (p .after) (p .map-before) (p .map-after) (p .end)
 reduced-to p = p .promised .answered
 
 print-is : {bytes file : List ℕ} (p : Prints bytes file) → fileOf (reduced-to p .reduced .morphism) (reduced-to p .reduced .marks) ≡ file
 print-is p = one-front (reduced-to p .written .front) (p .printed)
 
-reads : {bytes file : List ℕ} (p : Prints bytes file) → ReadsBack (reduced-to p .reduced .morphism) (reduced-to p .reduced .marks) file
+pub reads : {bytes file : List ℕ} (p : Prints bytes file) → ReadsBack (reduced-to p .reduced .morphism) (reduced-to p .reduced .marks) file
 reads p = subst (ReadsBack (reduced-to p .reduced .morphism) (reduced-to p .reduced .marks)) (print-is p) (reduced-to p .written .reads-back)
 
 pub print-lawful : {bytes file : List ℕ} → Prints bytes file → Lawful (morphismOf file)
@@ -76,13 +77,6 @@ module _ {bytes bytes′ file file′ : List ℕ} (p : Prints bytes file) (q : P
   equal-print = (print-same, same-print)
 
 -- ---- strong rules are printed
-
--- an answer is no refusal, and says how long the file at the front of out is, which is what `reduce` prints
-pub record Printed (bytes before after : List ℕ) (answer : Reduced) : Type 0 where
-  pub file : List ℕ
-  pub length-is : answer ≡ Is-rule (length file)
-  pub front : AtFront file before after (length file)
-  pub prints : Prints bytes file
 
 -- whatever the promise allows for the file of a strong rule that passes the checks, with buffers that are long enough
 module _ (bytes : List ℕ) (checks : FirstFailure (ruleChecks 1 bytes) passed) (strong : StrongMarking (morphismOf bytes) (markingOf bytes))
@@ -134,3 +128,10 @@ pub other-print : {bytes bytes′ file file′ : List ℕ} {u v : List ℕ} {g g
 other-print p q l k k′ differ e =
     differ (one-grade k (graded-same (λ i some.
     (let both = print-same p q (reduced-to p .lawful) (reduced-to q .lawful) e .both-or-neither i some _ _ l in (both .1, both .0))) k′))
+
+pub print-theorem : PrintTheorem
+print-theorem = record {
+  equal = λ bytes bytes′ file file′ p q law law′. equal-print p q law law′;
+  printed = λ bytes checks strong out out′ map map′ entry exit long map-long room answer p. strong-printed bytes checks strong out out′ map map′ entry exit long map-long room answer p;
+  again = λ bytes file p out out′ map map′ entry exit long map-long room answer q. reduce-again p out out′ map map′ entry exit long map-long room answer q;
+}

@@ -3,7 +3,6 @@
 use Prim.Native.Nat.{ℕ, _≤_, _<_}
 use mathlib.Core.Path.{_≡_}
 use mathlib.Core.List.{List, [], _∷_, _++_}
-use lib.ListN.{length}
 use Rattle.answer.specs.declared.Refusal.the-variants.{TooManyMatrices}
 use Rattle.answer.specs.Checks.{Check, Verdict, passed, refused, FirstFailure}
 use Rattle.formats.specs.AutomatonFile.{statesOf, lettersOf, isInitial, isFinal, hasTransition}
@@ -59,12 +58,12 @@ pub record RuleOf (bytes entry exit : List ℕ) (r : ℕ) : Type 0 where
 
 -- document 01's number, input and place of an answer
 abbrev pub ruleVerdict : Translated → Verdict
-ruleVerdict (Rule length) = passed
+ruleVerdict (Rule end) = passed
 ruleVerdict (Refused refusal input place) = refused refusal input place
 
 -- a refusal keeps every byte of out
 abbrev pub RuleAnswer : List ℕ → List ℕ → List ℕ → Translated → Type 0
-RuleAnswer bytes entry exit (Rule length) = RuleOf bytes entry exit length
+RuleAnswer bytes entry exit (Rule end) = RuleOf bytes entry exit end
 RuleAnswer bytes entry exit (Refused refusal input place) = exit ≡ entry
 
 -- "For an automaton: 13, 1 to 4, 8, 14"; 13 of both buffers

@@ -3,7 +3,6 @@ use Prim.Native.Nat.{ℕ, _-_, _≤_}
 use mathlib.Core.Logic.{_↔_}
 use mathlib.Core.List.{List, [], _∷_, _++_}
 use mathlib.Core.Path.{_≡_}
-use lib.ListN.{length}
 use Rattle.theory.specs.Words.{Lasso}
 use Rattle.theory.specs.Rules.{Morphism, Marking, level}
 use Rattle.theory.specs.Pairs.{LinkedOnly}
@@ -32,7 +31,7 @@ complementChecks bytes out scratch = bufferCheck ruleSize out ∷ (checkedChecks
 
 -- document 01's number, input and place of an answer
 abbrev pub complementVerdict : Complemented → Verdict
-complementVerdict (Rule length) = passed
+complementVerdict (Rule end) = passed
 complementVerdict (Refused refusal input place) = refused refusal input place
 
 -- "same elements and numbering"; "Complement turns g into 3 − g", and the file of that rule was written, its marks by s, then by e
@@ -43,7 +42,7 @@ pub record ComplementWritten (bytes entry exit : List ℕ) (r : ℕ) : Type 0 wh
 
 -- a refusal keeps every byte of out
 abbrev pub ComplementAnswer : List ℕ → List ℕ → List ℕ → Complemented → Type 0
-ComplementAnswer bytes entry exit (Rule length) = ComplementWritten bytes entry exit length
+ComplementAnswer bytes entry exit (Rule end) = ComplementWritten bytes entry exit end
 ComplementAnswer bytes entry exit (Refused refusal input place) = exit ≡ entry
 
 -- scratch as every call leaves it

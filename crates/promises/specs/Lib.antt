@@ -23,3 +23,10 @@ pub mod Combine
 pub mod Confirm
 pub mod Advance
 pub mod FilePart
+pub mod InclusionTheorem
+pub mod OneAnswers
+pub mod ConfirmTheorem
+pub mod PointsTheorem
+pub mod PrintTheorem
+pub mod RoundsTheorem
+pub mod SmallestTheorem

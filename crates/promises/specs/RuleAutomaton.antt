@@ -83,11 +83,21 @@ kindNumber a q = cond (a .initial q) 1 0 + cond (a .final q) 2 0
 abbrev pub KindIs : Morphism → Marking → ℕ → ℕ → ℕ → ℕ → Type 0
 KindIs m marks s e least kind = kindNumber (automatonFor m marks least) (stateOf m s e) ≡ kind
 
--- by the answer; none is both, since a pair of elements has no 64
+-- the numbers of the kinds that an answer tells; none is both, since a pair of elements has no 64
+abbrev pub plainKind : ℕ
+plainKind = 0
+
+abbrev pub initialKind : ℕ
+initialKind = 1
+
+abbrev pub finalKind : ℕ
+finalKind = 2
+
+-- by the answer
 abbrev pub KindAnswer : Morphism → Marking → ℕ → ℕ → ℕ → StateKind → Type 0
-KindAnswer m marks s e least Plain = KindIs m marks s e least 0
-KindAnswer m marks s e least Initial = KindIs m marks s e least 1
-KindAnswer m marks s e least Final = KindIs m marks s e least 2
+KindAnswer m marks s e least Plain = KindIs m marks s e least plainKind
+KindAnswer m marks s e least Initial = KindIs m marks s e least initialKind
+KindAnswer m marks s e least Final = KindIs m marks s e least finalKind
 KindAnswer m marks s e least (Kind-refused refusal input place) = Unit {0}
 
 -- document 01's number, input and place of an answer

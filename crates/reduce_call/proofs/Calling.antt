@@ -19,10 +19,9 @@ use Rattle.rule_layout.specs.declared.Shape.{Shape}
 use Rattle.rule_check.specs.declared.Checked.the-variants.{Rule as Checked-rule, Refused as Checked-refused}
 use Rattle.rule_check.specs.Answers.{CheckPromise}
 use Rattle.formats.specs.Calls.{afterCall, scratchLeft}
-use Rattle.rule_check.specs.GoodRule.{GoodRule}
 use Rattle.rule_check.proofs.Left.{short-left, long-left}
-use Rattle.rule_check.proofs.CheckedRule.{graded-marks}
-use Rattle.rule_check.proofs.Calls.{called-good, shape-morphism}
+use Rattle.formats.proofs.GoodRule.{graded-marks, GoodRule, called-good}
+use Rattle.rule_check.proofs.Calls.{shape-morphism}
 use Rattle.mark_strong.specs.Deciding.{StrongIf, Decided}
 use Rattle.mark_strong.proofs.Calling.{checked-lawful, checked-reached, decided-file, decided-strong, closure-stands, decided-room, decided-left}
 use Rattle.promises.specs.declared.Reduced.the-variants.{Rule as Is-rule, Refused}

@@ -10,7 +10,7 @@ use native.Mathlib.Decide.{ℕ-discrete}
 use lib.ListN.{getD}
 use Rattle.scratch.specs.Map.{blocksBase}
 use Rattle.theory.specs.Rules.{Morphism}
-use Rattle.rule_table.specs.Table.{Table}
+use Rattle.formats.proofs.Tables.{Table}
 use Rattle.formats.specs.Table.{imageAt}
 use Rattle.theory.specs.Rounds.{StillTogether}
 use Rattle.reduce_first_round.specs.Map.{InOneBlock}

@@ -10,7 +10,7 @@ ghost use Prim.Native.Nat.{_+_, _≤_, _<_};
 ghost use lib.ListN.{length};
 ghost use Rattle.finite.specs.Tells.{Tells};
 ghost use Rattle.theory.specs.Rules.{Lawful};
-ghost use Rattle.rule_table.specs.Table.{Table};
+ghost use Rattle.formats.proofs.Tables.{Table};
 ghost use Rattle.formats.specs.Table.{productAt, morphismAt};
 ghost use Rattle.scratch.specs.Map.{blocksBase, markTableSize, marksFrom};
 ghost use Rattle.theory.specs.Rounds.{SameOutcomes, Together};

@@ -5,7 +5,7 @@ use scratch::NEXT_BLOCKS_BASE;
 ghost use Prim.Native.Nat.{_≤_};
 ghost use lib.ListN.{length};
 ghost use Rattle.finite.specs.Tells.{Tells};
-ghost use Rattle.rule_table.specs.Table.{Table};
+ghost use Rattle.formats.proofs.Tables.{Table};
 ghost use Rattle.formats.specs.Table.{morphismAt};
 ghost use Rattle.reduce_next_round.specs.Round.{BlockChanges, RoundSeen, TakenOver};
 ghost use Rattle.formats.specs.RuleChecks.{scratchSize};

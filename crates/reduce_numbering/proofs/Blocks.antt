@@ -11,7 +11,7 @@ use Rattle.finite.proofs.Numbers.{Compared, lesser, level, greater, compared}
 use Rattle.finite.specs.Shortlex.{NotAfter}
 use Rattle.finite.proofs.Shortlex.{before-not-after}
 use Rattle.theory.specs.Rules.{Morphism, Lawful, AllReached, element}
-use Rattle.rule_table.specs.Table.{Table}
+use Rattle.formats.proofs.Tables.{Table}
 use Rattle.formats.specs.Table.{morphismAt}
 use Rattle.rule_reach.specs.Reach.{placeAt, entryAt, Empty, WordOrder}
 use Rattle.rule_reach.proofs.Words.{wordAt, FoundWord, found-word, entries-increase, reached-found}

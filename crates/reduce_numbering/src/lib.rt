@@ -7,7 +7,7 @@ use scratch::NUMBERS_BASE;
 ghost use Prim.Native.Nat.{_≤_, _<_};
 ghost use lib.ListN.{length};
 ghost use Rattle.theory.specs.Rules.{Lawful, AllReached};
-ghost use Rattle.rule_table.specs.Table.{Table};
+ghost use Rattle.formats.proofs.Tables.{Table};
 ghost use Rattle.formats.specs.Table.{morphismAt};
 ghost use Rattle.reduce_numbering.specs.Steps.{Sought, Taken, Entries, Numbered};
 ghost use Rattle.reduce_numbering.specs.Numbering.{BlocksNumbered};

@@ -6,7 +6,7 @@ use reduce_rounds::refine;
 use reduce_rule::write_quotient;
 use rule_bytes::copy;
 use scratch::NUMBERS_BASE;
-ghost use Rattle.rule_table.specs.Table.{Table};
+ghost use Rattle.formats.proofs.Tables.{Table};
 ghost use Rattle.formats.specs.Table.{morphismAt};
 ghost use Rattle.reduce_output.specs.Steps.{ReduceNeeds, ReducedWritten};
 

@@ -8,7 +8,7 @@ use reduce_next_round::take;
 ghost use Prim.Native.Nat.{_≤_};
 ghost use lib.ListN.{length};
 ghost use Rattle.theory.specs.Rules.{Lawful};
-ghost use Rattle.rule_table.specs.Table.{Table};
+ghost use Rattle.formats.proofs.Tables.{Table};
 ghost use Rattle.formats.specs.Table.{morphismAt};
 ghost use Rattle.reduce_rounds.specs.Rounds.{RoundsRefined};
 ghost use Rattle.formats.specs.RuleChecks.{scratchSize};

@@ -25,10 +25,9 @@ use Rattle.rule_layout.specs.declared.Shape.{Shape}
 use Rattle.rule_check.specs.declared.Checked.the-variants.{Rule as Checked-rule, Refused as Checked-refused}
 use Rattle.rule_check.specs.Answers.{CheckPromise}
 use Rattle.formats.specs.Calls.{checkedChecks}
-use Rattle.rule_check.specs.GoodRule.{GoodRule}
 use Rattle.rule_check.proofs.Left.{short-left, long-left}
-use Rattle.rule_check.proofs.CheckedRule.{graded-marks}
-use Rattle.rule_check.proofs.Calls.{called-good, shape-morphism, zeros-left, checked-length}
+use Rattle.formats.proofs.GoodRule.{graded-marks, GoodRule, called-good}
+use Rattle.rule_check.proofs.Calls.{shape-morphism, zeros-left, checked-length}
 use Rattle.mark_strong.specs.Deciding.{StrongIf, Decided}
 use Rattle.mark_strong.proofs.Calling.{decided-file, decided-strong, closure-stands, decided-room, decided-left}
 use Rattle.promises.specs.declared.Partition.the-variants.{Blocks, Refused}

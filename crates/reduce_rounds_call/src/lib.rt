@@ -15,7 +15,7 @@ use sections::zero;
 ghost use Prim.Native.Nat.{_≤_};
 ghost use lib.ListN.{length};
 ghost use Rattle.theory.specs.Rules.{Lawful};
-ghost use Rattle.rule_table.specs.Table.{Table};
+ghost use Rattle.formats.proofs.Tables.{Table};
 ghost use Rattle.formats.specs.Table.{morphismAt};
 ghost use Rattle.formats.specs.RuleChecks.{scratchSize};
 ghost use Rattle.reduce_rounds_call.specs.Steps.{BlocksGiven};

@@ -9,7 +9,7 @@ use lib.ListN.{getD}
 use borrow.Author.Tests.{lt-ltb}
 use Rattle.theory.specs.Rules.{Morphism}
 use Rattle.theory.proofs.Closure.{linked-test}
-use Rattle.rule_table.specs.Table.{Table}
+use Rattle.formats.proofs.Tables.{Table}
 use Rattle.formats.specs.Table.{morphismAt}
 use Rattle.minimality.proofs.Quotient.{quotient, quotient-acc}
 use Rattle.minimality.proofs.Saturation.{saturated}

@@ -4,7 +4,7 @@ use reduce_table::lay_images;
 use reduce_table::lay_table;
 use rule_laid::write_laid;
 use scratch::LAID_IMAGES_BASE;
-ghost use Rattle.rule_table.specs.Table.{Table};
+ghost use Rattle.formats.proofs.Tables.{Table};
 ghost use Rattle.formats.specs.Table.{morphismAt};
 ghost use Rattle.reduce_rule.specs.Steps.{QuotientNeeds, QuotientWritten};
 

@@ -9,7 +9,7 @@ use borrow.Author.Tests.{eq-eqb, ne-eqb}
 use lib.Dec.{eqb}
 use lib.ListN.{length, getD}
 use Rattle.scratch.specs.Map.{laidMarksBase, laidProductsBase, leadersBase, numbersBase, outcomesBase}
-use Rattle.rule_table.specs.Table.{Table}
+use Rattle.formats.proofs.Tables.{Table}
 use Rattle.formats.specs.Table.{productAt, imageAt}
 use Rattle.reduce_first_round.specs.Map.{outcomeAt}
 use Rattle.scratch.specs.Bytes.{UnchangedOutside}

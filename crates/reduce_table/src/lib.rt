@@ -9,7 +9,7 @@ use scratch::NUMBERS_BASE;
 ghost use mathlib.Core.Path.{_≡_};
 ghost use Prim.Native.Nat.{_+_, _*_, _≤_, _<_};
 ghost use lib.ListN.{length};
-ghost use Rattle.rule_table.specs.Table.{Table};
+ghost use Rattle.formats.proofs.Tables.{Table};
 ghost use Rattle.reduce_table.specs.Layout.{BlocksNeeds, blockProduct, blockImage, Filled, Grid};
 ghost use Rattle.scratch.specs.Map.{laidImagesBase, laidProductsBase};
 ghost use Rattle.formats.specs.RuleChecks.{scratchSize};

@@ -11,7 +11,7 @@ use Rattle.finite.proofs.Numbers.{le-or-lt}
 use Rattle.finite.proofs.FirstWords.{sooner-parent}
 use Rattle.theory.specs.Rules.{element, join}
 use Rattle.theory.proofs.Values.{element-apart, element-same}
-use Rattle.rule_table.specs.Table.{Table}
+use Rattle.formats.proofs.Tables.{Table}
 use Rattle.formats.specs.Table.{imageAt}
 use Rattle.rule_reach.specs.Reach.{entryAt, parentAt, placeAt, wordStep}
 use Rattle.rule_letter_columns.specs.Columns.{AllFound, LetterEntries, Column, LetterColumns}

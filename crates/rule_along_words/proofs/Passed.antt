@@ -9,7 +9,7 @@ use native.Mathlib.Omega.{arith}
 use native.Mathlib.Nat.{eq-or-lt-of-le}
 use borrow.Author.Count.{below-more}
 use lib.ListN.{getD}
-use Rattle.rule_table.specs.Table.{Table}
+use Rattle.formats.proofs.Tables.{Table}
 use Rattle.formats.specs.Table.{productAt, imageAt, morphismAt}
 use Rattle.rule_letter_columns.specs.Columns.{Column}
 use Rattle.rule_along_words.specs.Tests.{ColumnInside, Along, AlongAnswer, WordAlong, WordsAlong}

@@ -12,7 +12,7 @@ use Rattle.finite.proofs.Numbers.{strong, le-or-lt}
 use Rattle.theory.specs.Rules.{element, join}
 use Rattle.theory.proofs.Values.{element-same}
 use Rattle.theory.proofs.Associating.{ByLetters, one, more, LettersAssociate, letters-associate}
-use Rattle.rule_table.specs.Table.{Table}
+use Rattle.formats.proofs.Tables.{Table}
 use Rattle.formats.specs.Table.{productAt, imageAt, morphismAt}
 use Rattle.rule_reach.specs.Reach.{entryAt, parentAt, letterAt, placeAt, wordStep}
 use Rattle.rule_letter_columns.specs.Columns.{AllFound, LetterEntries}

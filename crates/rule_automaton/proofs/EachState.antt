@@ -10,7 +10,7 @@ use Rattle.buchi.proofs.RuleStates.{number-rest, number-cycle, cycle-inside, re
 use Rattle.promises.specs.Monitor.{valueOf, numberFor}
 use Rattle.promises.specs.RuleAutomaton.{automatonFor, stateOf}
 use Rattle.monitor_state.specs.Ready.{GoodNumber}
-use Rattle.monitor_state.proofs.Numbers.{number-of-value}
+use Rattle.promises.proofs.MonitorValues.{number-of-value}
 use Rattle.rule_automaton.proofs.Values.{value-of-number}
 
 -- the number is that of (s, e)

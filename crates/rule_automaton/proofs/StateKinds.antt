@@ -20,7 +20,7 @@ use Rattle.scratch.specs.Map.{marksFrom, MarkingAt}
 use Rattle.promises.specs.declared.StateKind.the-variants.{Plain, Initial, Final, Refused}
 use Rattle.promises.specs.Monitor.{noValue, valueOf}
 use Rattle.promises.specs.RuleAutomaton.{automatonFor, stateOf, leastCheck, stateCheck, kindOwnChecks, kindNumber, KindIs}
-use Rattle.monitor_state.proofs.Numbers.{value-none, value-element}
+use Rattle.promises.proofs.MonitorValues.{value-none, value-element}
 use Rattle.rule_automaton.specs.Steps.{KindSaid}
 use Rattle.rule_automaton.proofs.Values.{found-state, said-state, said-none}
 

@@ -19,11 +19,12 @@ use Rattle.formats.specs.Front.{AtFront}
 use Rattle.formats.specs.Table.{morphismAt, imageAt}
 use Rattle.formats.proofs.Listed.{select-listed, select-more, select-same}
 use Rattle.formats.proofs.Front.{front-same}
-use Rattle.rule_table.specs.Table.{Table}
+use Rattle.formats.proofs.Tables.{Table}
 use Rattle.promises.specs.Monitor.{noValue, valueOf, numberFor}
 use Rattle.promises.specs.RuleAutomaton.{successorsSize, stateOf, successorsOf}
 use Rattle.monitor_state.specs.Ready.{GoodNumber, joinAt}
-use Rattle.monitor_state.proofs.Numbers.{value-element, not-stray}
+use Rattle.monitor_state.proofs.Numbers.{not-stray}
+use Rattle.promises.proofs.MonitorValues.{value-element}
 use Rattle.rule_bytes.specs.Writing.{Written}
 use Rattle.rule_bytes.proofs.Placed.{written-none, written-store, written-more, written-length, written-at-front}
 use Rattle.rule_automaton.specs.Steps.{leadsAt, successorIfAny, LeadsNeeds, SuccessorNeeds, ListNeeds}

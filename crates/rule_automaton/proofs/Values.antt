@@ -14,7 +14,7 @@ use Rattle.buchi.specs.RuleAutomaton.{isValue, isState, valueNumber}
 use Rattle.buchi.proofs.RuleStates.{value-test, numbers-same, same-numbers, State, test-state}
 use Rattle.promises.specs.Monitor.{valueOf, numberFor, ValueOutOfRange}
 use Rattle.monitor_state.specs.Ready.{GoodNumber}
-use Rattle.monitor_state.proofs.Numbers.{value-none, value-element, number-of-value}
+use Rattle.promises.proofs.MonitorValues.{value-none, value-element, number-of-value}
 
 -- ---- the numbers of values
 

@@ -9,7 +9,7 @@ use Rattle.answer.specs.Checks.{FirstFailure}
 use Rattle.theory.specs.Rules.{Morphism, Marking, Lawful}
 use Rattle.buchi.specs.RuleAutomaton.{isState}
 use Rattle.formats.specs.Table.{morphismAt}
-use Rattle.rule_table.specs.Table.{Table}
+use Rattle.formats.proofs.Tables.{Table}
 use Rattle.scratch.specs.Map.{MarkingAt}
 use Rattle.promises.specs.declared.StateKind.{StateKind}
 use Rattle.promises.specs.Monitor.{valueOf}

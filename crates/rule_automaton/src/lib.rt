@@ -14,7 +14,7 @@ ghost use Rattle.formats.specs.Front.{AtFront};
 ghost use Rattle.formats.specs.Table.{morphismAt};
 ghost use Rattle.promises.specs.Monitor.{valueOf};
 ghost use Rattle.promises.specs.RuleAutomaton.{successorsOf};
-ghost use Rattle.rule_table.specs.Table.{Table};
+ghost use Rattle.formats.proofs.Tables.{Table};
 ghost use Rattle.rule_bytes.specs.Writing.{Written};
 ghost use Rattle.scratch.specs.Map.{markTableSize};
 ghost use Rattle.rule_automaton.specs.Steps.{leadsAt, successorIfAny, LeadsNeeds, SuccessorNeeds, ListNeeds, KindSaid};

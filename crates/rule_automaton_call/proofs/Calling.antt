@@ -22,8 +22,8 @@ use Rattle.formats.proofs.Buffers.{buffer-short, buffer-long}
 use Rattle.rule_layout.specs.declared.Shape.{Shape}
 use Rattle.rule_check.specs.declared.Checked.the-variants.{Rule as Checked-rule, Refused as Checked-refused}
 use Rattle.rule_check.specs.Answers.{CheckPromise}
-use Rattle.rule_check.proofs.CheckedRule.{graded-marks}
-use Rattle.rule_check.proofs.Calls.{called-good, shape-morphism, zeros-left, checked-length}
+use Rattle.formats.proofs.GoodRule.{graded-marks, called-good}
+use Rattle.rule_check.proofs.Calls.{shape-morphism, zeros-left, checked-length}
 use Rattle.rule_check.proofs.Left.{short-left, long-left}
 use Rattle.mark_strong.proofs.Calling.{checked-table, checked-lawful, marks-stand}
 use Rattle.promises.specs.declared.StateKind.{StateKind}

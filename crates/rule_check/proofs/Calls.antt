@@ -1,16 +1,13 @@
 -- What a call that checks a rule first knows of it afterwards. Assumes nothing.
-use Prim.Native.Nat.{ℕ, _≤_, _<_}
-use mathlib.Core.Path.{_≡_, refl, sym, ap, _∙_, subst}
+use Prim.Native.Nat.{ℕ}
+use mathlib.Core.Path.{_≡_, sym, ap, _∙_, subst}
 use mathlib.Core.List.{List}
-use native.Mathlib.Omega.{arith}
 use lib.ListN.{length, replicate}
 use Rattle.answer.specs.declared.Refusal.{Refusal}
 use Rattle.answer.specs.Checks.{passed, FirstFailure}
-use Rattle.answer.proofs.Order.{passes-head, passes-tail}
-use Rattle.rule_table.specs.Table.{Table}
+use Rattle.formats.proofs.Tables.{Table}
 use Rattle.formats.specs.Table.{morphismAt}
 use Rattle.formats.specs.RuleFile.{elementsOf, lettersOf, morphismOf}
-use Rattle.formats.specs.RuleChecks.{scratchSize}
 use Rattle.rule_layout.specs.declared.Shape.{Shape}
 use Rattle.rule_layout.specs.Answers.{IsShape}
 use Rattle.rule_check.specs.declared.Checked.{Checked}
@@ -18,23 +15,12 @@ use Rattle.rule_check.specs.declared.Checked.the-variants.{Rule, Refused
 use Rattle.rule_check.specs.Answers.{CheckPromise, RuleChecked}
 use Rattle.formats.specs.Calls.{checkedChecks, afterCall}
 use Rattle.rule_check.proofs.Promise.{zeros-after}
-use Rattle.rule_check.specs.GoodRule.{GoodRule}
-use Rattle.rule_check.proofs.CheckedRule.{good-rule}
+use Rattle.formats.proofs.GoodRule.{scratch-long}
 
 module _ (input : ℕ) (bytes entry : List ℕ) (all : FirstFailure (checkedChecks input bytes entry) passed) where
-  -- scratch had its size
-  pub scratch-long : scratchSize ≤ length entry
-  scratch-long =
-      let f : length entry < scratchSize → ⊥ = λ h. passes-head all .nowhere 0 (record { short = h; is-place = refl }) in
-      omega arith
-
-  -- the rule is good
-  pub called-good : GoodRule bytes
-  called-good = good-rule input bytes (passes-tail all)
-
   -- zeros over the whole length are what a call leaves
   pub zeros-left : (mid exit : List ℕ) → length mid ≡ length entry → exit ≡ replicate (length mid) 0 → exit ≡ afterCall entry
-  zeros-left mid exit e z = z ∙ ap (λ (x : ℕ). replicate x 0) e ∙ zeros-after entry scratch-long
+  zeros-left mid exit e z = z ∙ ap (λ (x : ℕ). replicate x 0) e ∙ zeros-after entry (scratch-long input bytes entry all)
 
 -- the check's answer, known by its case
 module _ (input : ℕ) (bytes entry exit : List ℕ) (answer : Checked) (known : CheckPromise input bytes entry exit answer) where

@@ -8,7 +8,7 @@ use lib.ListN.{length}
 use Rattle.answer.specs.declared.Refusal.{Refusal}
 use Rattle.answer.specs.Checks.{passed, FirstFailure}
 use Rattle.theory.specs.Rules.{Morphism}
-use Rattle.rule_table.specs.Table.{Table}
+use Rattle.formats.proofs.Tables.{Table}
 use Rattle.formats.specs.Table.{morphismAt}
 use Rattle.formats.specs.Sections.{InRange}
 use Rattle.formats.specs.RuleFile.{elementsOf, marksAt, marksOf, ruleEnd, morphismOf, markWidth, markStart, markCycle, markGrade, gradeAmong, marksIn, markingOf}
@@ -20,7 +20,7 @@ use Rattle.rule_marks.specs.declared.Fault.{Fault}
 use Rattle.rule_marks.specs.declared.Fault.the-variants.{Nothing, Refused}
 use Rattle.rule_marks.specs.Faults.{FaultAnswer, MarksRoom, MarksLaid, MarksAnswer}
 use Rattle.rule_check.specs.Answers.{ContentAnswer, BlankMarks}
-use Rattle.rule_check.proofs.Passed.{size-small, letters-small, marks-small, end-inside, table-of, starts-below, cycles-below, grades-within}
+use Rattle.formats.proofs.SectionsPassed.{size-small, letters-small, marks-small, end-inside, table-of, starts-below, cycles-below, grades-within}
 
 module _ (bytes : List ℕ) (shape : Shape) (p : LayoutPassed bytes shape) where
   abbrev n : ℕ

@@ -14,12 +14,10 @@ use Rattle.section_bounds.specs.declared.Found.the-variants.{At, Nothing}
 use Rattle.theory.specs.Rules.{Morphism}
 use Rattle.rule_table.specs.declared.Triple.{Triple}
 use Rattle.rule_table.specs.declared.Triple.the-variants.{At as Triple-at, Nothing as No-triple}
-use Rattle.rule_table.specs.Table.{Table}
 use Rattle.formats.specs.Table.{morphismAt}
 use Rattle.formats.specs.TableChecks.{NotAssociativeAt, UnreachedAt}
-use Rattle.rule_table.specs.Answers.{FirstTriple, TripleAnswer}
-use Rattle.formats.proofs.Tables.{AllAssociate, all-associate-none}
-use Rattle.rule_table.proofs.Facts.{table-lawful, first-triple-place}
+use Rattle.rule_table.specs.Answers.{TripleAnswer}
+use Rattle.formats.proofs.Tables.{AllAssociate, all-associate-none, Table, FirstTriple, first-triple-place, table-lawful}
 use Rattle.rule_reach.specs.Reach.{Empty, WordOrder, WithoutAnswer, placeAt}
 use Rattle.rule_reach.proofs.Words.{first-unreached, none-without-absurd}
 use Rattle.rule_letter_columns.specs.Columns.{AllFound}

@@ -1,9 +1,5 @@
-pub mod Passed
-pub mod TablePassed
 pub mod Faults
 pub mod Content
 pub mod Promise
 pub mod Left
-pub mod MarksPassed
-pub mod CheckedRule
 pub mod Calls

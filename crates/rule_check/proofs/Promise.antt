@@ -22,7 +22,7 @@ use Rattle.sections.specs.Answers.{PartZeroed}
 use Rattle.rule_check.specs.declared.Checked.{Checked}
 use Rattle.rule_check.specs.declared.Checked.the-variants.{Rule, Refused}
 use Rattle.rule_marks.specs.Faults.{MarksLaid}
-use Rattle.rule_check.proofs.Passed.{size-small}
+use Rattle.formats.proofs.SectionsPassed.{size-small}
 use Rattle.scratch.specs.Map.{markTableSize}
 use Rattle.rule_check.specs.Answers.{BlankMarks, ContentAnswer, RuleVerdict, CheckPromise}
 use Rattle.formats.specs.Calls.{afterCall}

@@ -34,6 +34,7 @@ fn end_of(bytes: &[u8]) -> usize
 // All of the bytes where there are no more.
 pub fn file_part(bytes: &[u8]) -> &[u8]
     ensures { λ r. ⌜ now r ≡ filePart (now (bytes .entry)) ⌝ }
+    ensures place { λ r. ⌜ r .ptr ≡ bytes .entry .ptr ⌝ }
 {
     let end = end_of(bytes);
     if end < bytes.len() {

@@ -7,7 +7,7 @@ use native.Mathlib.Omega.{arith}
 use native.Mathlib.Nat.{eq-or-lt-of-le}
 use lib.ListN.{getD}
 use Rattle.finite.proofs.FirstWords.{Sooner, sooner-parent, sooner-letter}
-use Rattle.rule_table.specs.Table.{Table}
+use Rattle.formats.proofs.Tables.{Table}
 use Rattle.rule_reach.specs.Reach.{parentAt, letterAt}
 use Rattle.rule_letter_columns.specs.Columns.{AllFound, LetterEntries}
 

@@ -1,7 +1,7 @@
 // The products with the elements of letters, from the worklist of all elements (crate rule_reach): which of its entries are letters'
 // elements, and a column of products for each.
 use rule_table::product;
-ghost use Rattle.rule_table.specs.Table.{Table};
+ghost use Rattle.formats.proofs.Tables.{Table};
 ghost use Rattle.rule_letter_columns.specs.Columns.{AllFound, LetterEntries, LetterColumns};
 
 // How many entries are letters' elements: those that were found from entry 0, which stand first, each once.

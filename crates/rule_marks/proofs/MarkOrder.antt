@@ -14,15 +14,7 @@ use Rattle.theory.specs.Pairs.{Linked}
 use Rattle.formats.specs.RuleFile.{markStart, markCycle, markWidth}
 use Rattle.rule_marks.specs.Faults.{LinkedAnswer}
 use Rattle.formats.specs.RuleChecks.{UnlinkedAt, RepeatedAt, markChecks}
-
--- the i-th mark is linked, and no earlier one is the same pair
-pub record GoodMark (m : Morphism) (bytes : List ℕ) (at i : ℕ) : Type 0 where
-  pub linked : Linked m (markStart bytes at i) (markCycle bytes at i)
-  pub fresh : (j : ℕ) → j < i → markStart bytes at j ≡ markStart bytes at i → markCycle bytes at j ≡ markCycle bytes at i → ⊥
-
--- the first i marks are good
-pub record GoodMarks (m : Morphism) (bytes : List ℕ) (at i : ℕ) : Type 0 where
-  pub good : (j : ℕ) → j < i → GoodMark m bytes at j
+use Rattle.formats.proofs.MarksPassed.{GoodMark, GoodMarks}
 
 pub no-marks : (m : Morphism) (bytes : List ℕ) (at : ℕ) → GoodMarks m bytes at 0
 no-marks m bytes at = record { good = λ j h. absurd (let z : ⊥ = omega arith in z) }

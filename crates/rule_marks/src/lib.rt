@@ -3,7 +3,7 @@
 use answer::Refusal;
 use rule_table::product;
 ghost use Prim.Native.Nat.{_<_};
-ghost use Rattle.rule_table.specs.Table.{Table};
+ghost use Rattle.formats.proofs.Tables.{Table};
 ghost use Rattle.formats.specs.Table.{morphismAt};
 ghost use Rattle.formats.specs.RuleChecks.{markChecks};
 ghost use Rattle.rule_marks.specs.Faults.{FaultAnswer, LinkedAnswer, MarksRoom, MarksAnswer};

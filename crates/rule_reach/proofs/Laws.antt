@@ -6,7 +6,7 @@ use mathlib.Core.List.{List}
 use native.Mathlib.Omega.{arith}
 use native.Mathlib.Numerals.{add-one}
 use Rattle.theory.specs.Rules.{element}
-use Rattle.rule_table.specs.Table.{Table}
+use Rattle.formats.proofs.Tables.{Table}
 use Rattle.formats.specs.Table.{morphismAt}
 use Rattle.scratch.proofs.Unchanged.{unchanged-none, unchanged-both}
 use Rattle.rule_reach.specs.Reach.{entryAt, placeAt, wordStep, Empty, WordOrder}

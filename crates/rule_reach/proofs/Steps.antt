@@ -7,7 +7,7 @@ use native.Mathlib.Omega.{arith}
 use native.Mathlib.Numerals.{sub-one}
 use lib.ListN.{getD}
 use Rattle.theory.specs.Rules.{element, join}
-use Rattle.rule_table.specs.Table.{Table}
+use Rattle.formats.proofs.Tables.{Table}
 use Rattle.formats.specs.Table.{productAt, imageAt, morphismAt}
 use Rattle.rule_reach.specs.Reach.{entryAt, wordStep}
 use Rattle.rule_reach.specs.Steps.{stepAt, StepNeeds}

@@ -10,7 +10,7 @@ use section_bounds::Found;
 ghost use mathlib.Core.Path.{_≡_};
 ghost use Prim.Native.Nat.{_≤_};
 ghost use lib.ListN.{length};
-ghost use Rattle.rule_table.specs.Table.{Table};
+ghost use Rattle.formats.proofs.Tables.{Table};
 ghost use Rattle.rule_reach.specs.Reach.{Empty, WordOrder, WithoutAnswer};
 ghost use Rattle.rule_reach.specs.Steps.{AddNeeds, Added, StepNeeds, stepAt};
 ghost use Rattle.rule_reach.specs.Searching.{Searching, Expanded};

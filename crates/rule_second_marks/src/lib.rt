@@ -7,7 +7,7 @@ use rule_marks::Fault;
 use rule_marks::mark_fault;
 use sections::Counted;
 ghost use mathlib.Core.Path.{_≡_};
-ghost use Rattle.rule_table.specs.Table.{Table};
+ghost use Rattle.formats.proofs.Tables.{Table};
 ghost use Rattle.formats.specs.RuleFile.{elementsOf, lettersOf};
 ghost use Rattle.formats.specs.RuleChecks.{secondMarksChecks};
 ghost use Rattle.rule_marks.specs.Faults.{FaultAnswer};

@@ -5,11 +5,9 @@ use mathlib.Core.Path.{_≡_}
 use mathlib.Core.List.{List}
 use native.Mathlib.Omega.{arith}
 use borrow.Author.Count.{below-more}
-use Rattle.rule_table.specs.Table.{Table}
 use Rattle.formats.specs.Table.{productAt, morphismAt}
 use Rattle.formats.specs.TableChecks.{Associates, TripleBefore, by-a, by-b, by-c}
-use Rattle.rule_table.specs.Answers.{FirstTriple}
-use Rattle.formats.proofs.Tables.{AllAssociate}
+use Rattle.formats.proofs.Tables.{AllAssociate, Table, FirstTriple}
 
 -- every triple before (a, b, c) associates: those of the rows before a; in the row a, those with y before b; at a and b,
 -- those with z before c

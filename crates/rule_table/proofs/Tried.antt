@@ -8,7 +8,7 @@ use borrow.Author.Count.{below-more}
 use Rattle.theory.specs.Rules.{Lawful}
 use Rattle.theory.specs.Pairs.{Idempotent, power, LeastPower}
 use Rattle.theory.proofs.IdempotentPowers.{power-add-one, none-idempotent-below}
-use Rattle.rule_table.specs.Table.{Table}
+use Rattle.formats.proofs.Tables.{Table}
 use Rattle.formats.specs.Table.{productAt, morphismAt}
 use Rattle.rule_table.proofs.Facts.{product-below}
 

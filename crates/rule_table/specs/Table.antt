@@ -3,16 +3,6 @@
 use Prim.Native.Nat.{ℕ, _+_, _*_, _≤_, _<_}
 use mathlib.Core.List.{List}
 use lib.ListN.{length}
-use Rattle.formats.specs.Table.{imageAt, productAt}
-
--- both sections are there, within the format's limits, and every entry names an element
-pub record Table (bytes : List ℕ) (n k : ℕ) : Type 0 where
-  pub some : 1 ≤ n
-  pub small : n ≤ 64
-  pub letters-small : k ≤ 16
-  pub long : 2 + n * n + k ≤ length bytes
-  pub products : (a b : ℕ) → a < n → b < n → productAt bytes n a b < n
-  pub images : (a : ℕ) → a < k → imageAt bytes n a < n
 
 -- where the product of two elements stands
 pub record ProductNeeds (bytes : List ℕ) (n a b : ℕ) : Type 0 where

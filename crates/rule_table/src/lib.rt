@@ -4,7 +4,8 @@ ghost use mathlib.Core.Path.{_≡_};
 ghost use Prim.Native.Nat.{_<_};
 ghost use Rattle.theory.specs.Rules.{Lawful};
 ghost use Rattle.theory.specs.Pairs.{LeastPower};
-ghost use Rattle.rule_table.specs.Table.{Table, ProductNeeds, ImageNeeds};
+ghost use Rattle.rule_table.specs.Table.{ProductNeeds, ImageNeeds};
+ghost use Rattle.formats.proofs.Tables.{Table};
 ghost use Rattle.formats.specs.Table.{productAt, imageAt, morphismAt};
 ghost use Rattle.rule_table.specs.Answers.{TripleAnswer};
 

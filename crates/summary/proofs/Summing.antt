@@ -11,7 +11,7 @@ use Rattle.answer.specs.declared.Refusal.the-variants.{BufferTooShort}
 use Rattle.answer.specs.Checks.{passed, FirstFailure}
 use Rattle.answer.proofs.Order.{first-passes, none-left, passed-before, passed-last, passes-head, passes-tail}
 use Rattle.theory.specs.Grades.{StrongMarking}
-use Rattle.rule_check.proofs.CheckedRule.{strong-of}
+use Rattle.formats.proofs.GoodRule.{strong-of, scratch-long, called-good}
 use Rattle.formats.specs.RuleFile.{morphismOf, markingOf}
 use Rattle.formats.specs.RuleChecks.{ruleSize, scratchSize}
 use Rattle.formats.proofs.Buffers.{buffer-short, buffer-long, buffer-single}
@@ -22,7 +22,6 @@ use Rattle.formats.specs.Calls.{checkedChecks, afterCall, scratchLeft}
 use Rattle.rule_check.proofs.Promise.{zeros-after}
 use Rattle.formats.proofs.OneVerdict.{checked-single}
 use Rattle.rule_check.proofs.Left.{short-left, long-left}
-use Rattle.rule_check.proofs.Calls.{scratch-long, called-good}
 use Rattle.formats.specs.WrittenFile.{elementsBytes, fileOf}
 use Rattle.promises.specs.declared.Listed.{Listed}
 use Rattle.promises.specs.declared.Listed.the-variants.{Counts as Listed-counts, Refused as Listed-refused}

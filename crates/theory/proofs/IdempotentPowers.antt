@@ -8,6 +8,7 @@ use native.Mathlib.Omega.{arith}
 use native.Mathlib.Numerals.{add-one}
 use Rattle.finite.proofs.Numbers.{le-or-lt, Compared, lesser, level, greater, compared}
 use Rattle.theory.specs.Rules.{Morphism, Lawful}
+use Rattle.theory.specs.PowersTheorem.{PowersTheorem}
 use Rattle.theory.specs.Pairs.{Idempotent, power, HasIdempotentPower, LeastExponent, LeastPower, TurnsOf}
 use Rattle.theory.proofs.Powers.{times, times-inside, idempotent-power, settling, idempotent-of, settling-below, settling-least, idempotent-square, idempotent-inside, idempotent-is}
 use Rattle.theory.proofs.Conjugacy.{semigroup}
@@ -94,3 +95,6 @@ pub one-turns : {m : Morphism} {v : List ℕ} {turns turns′ : ℕ} → TurnsOf
 one-turns {m} {turns′ = turns′} a b =
     let same : b .cycle ≡ a .cycle = element-same (sym (b .cycle-value) ∙ a .cycle-value) in
     one-exponent (a .turns-are) (subst (λ (x : ℕ). LeastExponent m x turns′) same (b .turns-are))
+
+pub powers-theorem : PowersTheorem
+powers-theorem = record { settles = λ m law x hx. every-idempotent-power law hx }

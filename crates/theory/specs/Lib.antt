@@ -8,3 +8,4 @@ pub mod Smallest
 pub mod Inclusion
 pub mod Rounds
 pub mod Combined
+pub mod PowersTheorem

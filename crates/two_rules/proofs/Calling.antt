@@ -10,7 +10,7 @@ use Rattle.answer.specs.Checks.{Check, Verdict, passed, refused, FirstFailure}
 use Rattle.answer.proofs.Order.{refused-before, passed-before, passed-first, passed-last}
 use Rattle.theory.specs.Rules.{Morphism, Marking}
 use Rattle.theory.specs.Grades.{StrongMarking}
-use Rattle.rule_table.specs.Table.{Table}
+use Rattle.formats.proofs.Tables.{Table}
 use Rattle.formats.specs.Table.{morphismAt}
 use Rattle.formats.specs.RuleFile.{elementsOf, morphismOf, markingOf}
 use Rattle.formats.specs.RuleChecks.{ruleChecks, scratchSize}
@@ -18,9 +18,8 @@ use Rattle.formats.specs.Calls.{afterCall, checkedChecks}
 use Rattle.scratch.specs.Map.{searchEnd, MarkingAt}
 use Rattle.rule_layout.specs.declared.Shape.{Shape}
 use Rattle.rule_layout.specs.Answers.{IsShape}
-use Rattle.rule_check.specs.GoodRule.{GoodRule}
-use Rattle.rule_check.proofs.CheckedRule.{good-rule}
-use Rattle.rule_check.proofs.Calls.{scratch-long, called-good, zeros-left, shape-morphism, shape-table}
+use Rattle.formats.proofs.GoodRule.{good-rule, GoodRule, scratch-long, called-good}
+use Rattle.rule_check.proofs.Calls.{zeros-left, shape-morphism, shape-table}
 use Rattle.mark_strong.specs.Deciding.{DecideNeeds}
 use Rattle.mark_strong.proofs.Calling.{shape-graded, shape-needs}
 use Rattle.two_rules.specs.Checking.{BothPromise}

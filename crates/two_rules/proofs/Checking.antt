@@ -15,8 +15,8 @@ use Rattle.rule_layout.specs.declared.Shape.{Shape}
 use Rattle.rule_check.specs.declared.Checked.{Checked}
 use Rattle.rule_check.specs.declared.Checked.the-variants.{Rule, Refused as Checked-refused}
 use Rattle.rule_check.specs.Answers.{RuleVerdict, CheckPromise}
-use Rattle.rule_check.proofs.CheckedRule.{good-rule}
-use Rattle.rule_check.proofs.Calls.{called-good, zeros-left, checked-length}
+use Rattle.formats.proofs.GoodRule.{good-rule, called-good}
+use Rattle.rule_check.proofs.Calls.{zeros-left, checked-length}
 use Rattle.two_rules.specs.Checking.{SecondVerdict, BothPromise}
 use Rattle.two_rules.specs.declared.BothChecked.the-variants.{Rules, Refused}
 

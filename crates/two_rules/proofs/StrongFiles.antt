@@ -4,11 +4,11 @@ use mathlib.Core.Path.{_≡_, sym, ap, _∙_, subst}
 use mathlib.Core.List.{List}
 use Rattle.theory.specs.Rules.{Lawful}
 use Rattle.minimality.proofs.Combined.{StrongGrades}
-use Rattle.rule_table.specs.Table.{Table}
+use Rattle.formats.proofs.Tables.{Table}
 use Rattle.formats.specs.Table.{morphismAt}
 use Rattle.formats.specs.RuleFile.{lettersOf, morphismOf, markingOf}
 use Rattle.rule_layout.specs.declared.Shape.{Shape}
-use Rattle.rule_check.proofs.CheckedRule.{graded-marks}
+use Rattle.formats.proofs.GoodRule.{graded-marks}
 use Rattle.rule_check.proofs.Calls.{shape-morphism, shape-table}
 use Rattle.two_rules.specs.Deciding.{StrongFiles}
 

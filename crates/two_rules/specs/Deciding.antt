@@ -12,7 +12,7 @@ use Rattle.formats.specs.RuleChecks.{scratchSize}
 use Rattle.scratch.specs.Map.{secondBase, searchEnd, MarkingAt}
 use Rattle.rule_layout.specs.declared.Shape.{Shape}
 use Rattle.rule_layout.specs.Answers.{IsShape}
-use Rattle.rule_check.specs.GoodRule.{GoodRule}
+use Rattle.formats.proofs.GoodRule.{GoodRule}
 use Rattle.two_rules.specs.declared.Strengths.{Strengths}
 use Rattle.two_rules.specs.declared.Strengths.the-variants.{Strong, FirstWeak, SecondWeak}
 

@@ -11,7 +11,7 @@ use scratch::SECOND_BASE;
 use sections::zero;
 ghost use Prim.Native.Nat.{_≤_};
 ghost use lib.ListN.{length};
-ghost use Rattle.rule_table.specs.Table.{Table};
+ghost use Rattle.formats.proofs.Tables.{Table};
 ghost use Rattle.formats.specs.Table.{morphismAt};
 ghost use Rattle.formats.specs.RuleChecks.{scratchSize};
 ghost use Rattle.scratch.specs.Map.{searchEnd, markTableSize};

@@ -11,8 +11,7 @@ use Rattle.answer.specs.Checks.{passed, FirstFailure}
 use Rattle.answer.proofs.Order.{passed-first, passed-last, passes-head}
 use Rattle.formats.specs.RuleFile.{elementsOf}
 use Rattle.formats.specs.RuleChecks.{ruleChecks}
-use Rattle.rule_check.specs.GoodRule.{GoodRule}
-use Rattle.rule_check.proofs.CheckedRule.{good-rule}
+use Rattle.formats.proofs.GoodRule.{good-rule, GoodRule}
 use Rattle.promises.specs.Advance.{standingChecks}
 use Rattle.board_promises.specs.declared.Board.{Board}
 use Rattle.board_promises.specs.Boards.{namesCount, fileAt, presentAt, monitorAt}

@@ -6,3 +6,5 @@ pub mod BoardLimits
 pub mod BoardGrades
 pub mod NothingLost
 pub mod BoardBytes
+pub mod BoardRuns
+pub mod BoardOneAnswer

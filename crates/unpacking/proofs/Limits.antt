@@ -20,7 +20,7 @@ use Rattle.formats.specs.RuleFile.{markWidth, elementsOf, lettersAt, marksAt, m
 use Rattle.formats.specs.RuleChecks.{TrailingAt, UnlinkedAt, RepeatedAt, ShortAt, markChecks, layoutChecks, tableChecks, contentChecks, ruleChecks, secondMarksChecks, bufferCheck, ruleSize}
 use Rattle.formats.proofs.RuleSections.{ruleSections, rule-list, rule-in-any}
 use Rattle.formats.specs.Calls.{checkedChecks}
-use Rattle.rule_check.proofs.Passed.{size-small, letters-small, marks-small}
+use Rattle.formats.proofs.SectionsPassed.{size-small, letters-small, marks-small}
 use Rattle.formats.specs.WordChecks.{longestWord, LengthOutAt, UnknownLetterAt, lassoChecks}
 use Rattle.packing.proofs.ReadBack.{RefusalFits}
 

@@ -9,14 +9,14 @@ use Rattle.answer.proofs.Order.{passed-first, passed-last, passes-head, passes-
 use Rattle.theory.specs.Rules.{Morphism, Value, join}
 use Rattle.theory.proofs.Values.{Inside, inside-none, inside-element, join-inside}
 use Rattle.formats.specs.RuleFile.{elementsOf, lettersOf, morphismOf}
-use Rattle.rule_check.specs.GoodRule.{GoodRule}
+use Rattle.formats.proofs.GoodRule.{GoodRule, called-good}
 use Rattle.formats.specs.RuleChecks.{bufferCheck}
 use Rattle.formats.specs.Calls.{checkedChecks}
-use Rattle.rule_check.proofs.Calls.{called-good}
 use Rattle.promises.specs.declared.Monitor.{Monitor}
 use Rattle.promises.specs.Monitor.{valueOf, numberFor, ValueOutOfRange, monitorChecks}
 use Rattle.monitor_state.specs.Ready.{GoodNumber}
-use Rattle.monitor_state.proofs.Numbers.{value-none, value-element, not-stray}
+use Rattle.monitor_state.proofs.Numbers.{not-stray}
+use Rattle.promises.proofs.MonitorValues.{value-none, value-element}
 use Rattle.promises.specs.Moves.{afterEvent, afterMark, eventChecks}
 use Rattle.promises.specs.Points.{pointsSize, pointAt, keepChecks, returnChecks}
 use Rattle.promises.proofs.Points.{return-named, return-kept}

@@ -18,8 +18,7 @@ use Rattle.theory.specs.Pairs.{LinkedPairs, Classes, LeastExponent}
 use Rattle.formats.specs.RuleFile.{elementsOf, lettersOf, morphismOf}
 use Rattle.formats.specs.RuleChecks.{ruleChecks}
 use Rattle.formats.specs.Calls.{checkedChecks}
-use Rattle.rule_check.proofs.Calls.{called-good}
-use Rattle.rule_check.proofs.CheckedRule.{graded-marks}
+use Rattle.formats.proofs.GoodRule.{graded-marks, called-good}
 use Rattle.theory.proofs.Gradings.{graded-small, lassos-small}
 use Rattle.formats.specs.ReadBack.{WrittenRule}
 use Rattle.formats.proofs.Listed.{select-listed}
@@ -144,12 +143,12 @@ member-fits {bytes} {u} {v} {entry} (Not-a-member r i place) p =
 -- complement
 complement-fits : {bytes before after entry exit : List ℕ} (answer : Complemented) → ComplementPromise bytes before after entry exit answer
     → Fits (complementedContents answer)
-complement-fits (Complement-rule length) p = written-fits (p .answered .written)
+complement-fits (Complement-rule end) p = written-fits (p .answered .written)
 complement-fits {bytes} {entry = entry} (Not-complemented r i place) p = refused-fits r (buffer-limited (checked-strong-limited bytes entry)) (p .refusal)
 
 -- reduce
 reduce-fits : {bytes before after map map′ entry exit : List ℕ} (answer : Reduced) → ReducePromise bytes before after map map′ entry exit answer → Fits (reducedContents answer)
-reduce-fits (Reduced-rule length) p = written-fits (p .answered .written)
+reduce-fits (Reduced-rule end) p = written-fits (p .answered .written)
 reduce-fits {bytes} {entry = entry} (Not-reduced r i place) p = refused-fits r (buffer-limited (buffer-limited (checked-strong-limited bytes entry))) (p .refusal)
 
 -- confirm
@@ -164,7 +163,7 @@ confirm-fits {first} {second} {entry = entry} (Not-confirmed r i place) p =
 -- combine
 combine-fits : {first second : List ℕ} {operation : Operation} {before after entry exit : List ℕ} (answer : Combined)
     → CombinePromise first second operation before after entry exit answer → Fits (combinedContents answer)
-combine-fits (Combined-rule length) p = written-fits (p .answered .written)
+combine-fits (Combined-rule end) p = written-fits (p .answered .written)
 combine-fits {first} {second} {entry = entry} (Not-combined r i place) p =
     refused-fits r (buffer-limited (limited-append (checkedChecks 1 first entry) (checked-limited first entry)
     (λ _. limited-append (ruleChecks 2 second) (rule-limited 2 second (omega arith))
@@ -192,7 +191,7 @@ rounds-fits {bytes} {limit} {entry = entry} (Not-partitioned r i place) p =
 -- automaton_rule
 automaton-fits : {bytes before after entry exit : List ℕ} (answer : Translated) → RulePromise bytes before after entry exit answer
     → Fits (translatedContents answer)
-automaton-fits (Automaton-rule length) p = written-fits (p .answered .written)
+automaton-fits (Automaton-rule end) p = written-fits (p .answered .written)
 automaton-fits {bytes} {entry = entry} (Not-translated r i place) p = refused-fits r (buffer-limited (translated-limited bytes entry)) (p .refusal)
 
 -- included

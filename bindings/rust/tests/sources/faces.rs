@@ -76,6 +76,14 @@ const PROMISED: [&str; 6] = [
     "board_promises",
 ];
 
+/// The crates that the `use` lines of a file of antt name.
+fn homes(text: &str) -> impl Iterator<Item = &str> {
+    let uses = text
+        .lines()
+        .filter_map(|line| line.strip_prefix("use Rattle·"));
+    uses.map(|rest| rest.split(['.', '·']).next().unwrap_or(""))
+}
+
 #[test]
 fn the_board_sees_only_the_promises_of_the_library() {
     let repository = Repository::here();
@@ -91,11 +99,7 @@ fn the_board_sees_only_the_promises_of_the_library() {
         let mut uses = 0;
         let files = repository.ending(".antt");
         for (path, text) in files.filter(|(path, _)| path.starts_with(&format!("{own}/"))) {
-            for line in text.lines() {
-                let Some(rest) = line.strip_prefix("use Rattle·") else {
-                    continue;
-                };
-                let home = rest.split(['.', '·']).next().unwrap_or("");
+            for home in homes(text) {
                 uses += 1;
                 assert!(
                     home == own || PROMISED.contains(&home) || allowed.contains(&home),
@@ -105,6 +109,26 @@ fn the_board_sees_only_the_promises_of_the_library() {
         }
         assert!(uses >= 8, "only {uses} uses were found in {own}");
     }
+}
+
+/// What holds after many calls of the board is shown by promises alone too: this crate has proofs and no code.
+const HISTORIES: &str = "board_histories";
+
+#[test]
+fn the_histories_of_the_board_rest_on_promises() {
+    let repository = Repository::here();
+    let mut uses = 0;
+    let files = repository.ending(".antt");
+    for (path, text) in files.filter(|(path, _)| path.starts_with(&format!("{HISTORIES}/"))) {
+        for home in homes(text) {
+            uses += 1;
+            assert!(
+                home == HISTORIES || PROMISED.contains(&home),
+                "{path} rests on {home}"
+            );
+        }
+    }
+    assert!(uses >= 80, "only {uses} uses were found in {HISTORIES}");
 }
 
 #[test]

@@ -1,9 +1,10 @@
 //! No file brings in a name that it does not write: an idle `use` line tells of a dependence that is none.
 
-use std::collections::HashSet;
+use std::collections::{BTreeMap, HashSet};
 
 use super::reading::code::Code;
 use super::reading::module::{Import, Module};
+use super::reading::names::pattern_words;
 use super::reading::repository::Repository;
 use super::reading::words::{part_written, parts, roles, Role, Word};
 
@@ -104,6 +105,96 @@ fn every_name_brought_in_is_written() {
         "{} idle names:\n{}",
         faults.len(),
         faults.join("\n")
+    );
+}
+
+/// Constructors of the toolchain: a pattern has them, and does not bind them.
+const CONSTRUCTORS: [&str; 14] = [
+    "zero",
+    "suc",
+    "true",
+    "false",
+    "inl",
+    "inr",
+    "refl",
+    "yes",
+    "no",
+    "tt",
+    "[]",
+    "∷",
+    "List·Memᴰ·head",
+    "List·Memᴰ·tail",
+];
+
+/// Names that are brought in and that a pattern binds all the same: there they mean something else.
+fn rebound(repository: &Repository) -> Vec<String> {
+    let modules: BTreeMap<&str, Module> = repository
+        .ending(".antt")
+        .map(|(path, text)| (path, Module::read(text)))
+        .collect();
+    let constructors: HashSet<&str> = modules
+        .values()
+        .flat_map(|module| &module.definitions)
+        .flat_map(|definition| &definition.with_it)
+        .map(String::as_str)
+        .chain(CONSTRUCTORS)
+        .collect();
+    let mut found = Vec::new();
+    for (path, module) in &modules {
+        let functions = module.imports.iter().filter(|import| {
+            let variant = import.path.iter().any(|word| word == "the-variants");
+            let item = import.item.as_deref().unwrap_or("");
+            !variant && parts(item).is_empty() && !constructors.contains(item)
+        });
+        let functions: Vec<&Import> = functions.filter(|own| own.item.is_some()).collect();
+        for definition in &module.definitions {
+            let clauses = definition.items.iter().skip(1);
+            let words: HashSet<&str> = clauses.flat_map(|clause| pattern_words(clause)).collect();
+            let bound = functions
+                .iter()
+                .filter(|import| words.contains(import.name.as_str()));
+            found.extend(bound.map(|import| {
+                format!(
+                    "crates/{path}:{}: {} is brought in and bound",
+                    definition.line, import.name
+                )
+            }));
+        }
+    }
+    found
+}
+
+#[test]
+fn no_name_brought_in_is_bound() {
+    let found = rebound(&Repository::here());
+    assert!(
+        found.is_empty(),
+        "{} names:\n{}",
+        found.len(),
+        found.join("\n")
+    );
+}
+
+#[test]
+fn a_library_name_bound_in_a_pattern_is_found() {
+    let text = "use lib.ListN.{length}
+use made.Answers.{Rule, none}
+
+told : Answer → ℕ
+told (Rule length) = length
+told none = 0
+";
+    let answers = "data Answer : Type 0 where
+  Rule : ℕ → Answer
+  none : Answer
+";
+    let files = [
+        ("made/specs/Up.antt", text),
+        ("made/specs/Answers.antt", answers),
+    ];
+    assert_eq!(
+        rebound(&Repository::made_up(&files)),
+        ["crates/made/specs/Up.antt:4: length is brought in and bound"]
     );
 }
 

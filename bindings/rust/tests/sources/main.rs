@@ -5,6 +5,8 @@ mod edits;
 mod faces;
 mod floors;
 mod imports;
+mod pages;
 mod reading;
 mod sizes;
+mod theorems;
 mod walk;

@@ -206,6 +206,21 @@ impl<'a> Walk<'a> {
         self
     }
 
+    /// Follows what every function of a crate promises, of those too that only it can call, but for some.
+    pub fn follow_all_but(mut self, home: &str, some: &[&str]) -> Walk<'a> {
+        let code = self
+            .sources
+            .library
+            .code(home)
+            .expect("the code of the crate");
+        let functions = code.functions.iter();
+        for function in functions.filter(|own| !some.contains(&own.name.as_str())) {
+            self.follow_function(home, function);
+        }
+        self.follow();
+        self
+    }
+
     fn follow_function(&mut self, home: &str, function: &Function) {
         let path = code_path(home);
         let from = format!("{} (crates/{path}:{})", function.name, function.line);

@@ -27,7 +27,7 @@ file-part-requires c κs = search needs
 returns : tie.Need-returns
 returns c =
     let a = c .before .before .before .args in
-    c .file-part .ensures ∙ slot-part (now (a .files)) (a .i)
+    c .file-part .ensures .0 ∙ slot-part (now (a .files)) (a .i)
 
 pub file-of-spec : {M : Type 1} → statement M
 file-of-spec =

@@ -4,7 +4,7 @@ use Prim.Native.Nat.{_*_, _≤_}
 use native.Mathlib.Omega.{arith}
 use borrow.Author.Needs.{needs}
 use Rattle.theory.specs.Rules.{Lawful}
-use Rattle.rule_table.specs.Table.{Table}
+use Rattle.formats.proofs.Tables.{Table}
 use Rattle.formats.specs.Table.{morphismAt}
 use Rattle.mark_class_numbers.proofs.Bytes.{pairs-small}
 use Rattle.mark_classes.proofs.Listing.{out-short, listed-refused, listed-table, listed-lawful, listed-counts}

@@ -2,7 +2,7 @@
 -- what words tell. Assumes nothing.
 use native.Mathlib.Omega.{arith}
 use Rattle.formats.specs.Table.{morphismAt}
-use Rattle.rule_table.specs.Answers.{FirstTriple}
+use Rattle.formats.proofs.Tables.{FirstTriple}
 use Rattle.rule_check.proofs.Faults.{triple-at, triple-none, not-associative, associative}
 use borrow.Author.Needs.{needs}
 use Rattle.rule_check.proofs.triples_fault.Statement.{statement}

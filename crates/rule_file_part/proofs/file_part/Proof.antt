@@ -1,5 +1,5 @@
 -- `rule_file_part::file_part` meets its contract: as many bytes as there are, or more, are all of them. Assumes nothing.
-use mathlib.Core.Path.{sym, ap}
+use mathlib.Core.Path.{refl, sym, ap}
 use native.Mathlib.Omega.{arith}
 use Prim.Native.Nat.{ℕ}
 use lib.ListN.{take}
@@ -18,12 +18,12 @@ slice-aggregate-result c = sym (length-take-le _ _ (omega (arith, c .before .if1
 returns : tie.Need-returns
 returns c =
     let bytes = c .before .before .before .before .args .bytes .now in
-    ap (λ (x : ℕ). take x bytes) (c .before .before .end-of .ensures)
+    (ap (λ (x : ℕ). take x bytes) (c .before .before .end-of .ensures), refl)
 
 returns-2 : tie.Need-returns-2
 returns-2 c =
     let bytes = c .before .before .before .args .bytes .now in
-    sym (take-all (ruleEnd bytes) bytes (omega (arith, c .if1 .left, c .before .end-of .ensures)))
+    (sym (take-all (ruleEnd bytes) bytes (omega (arith, c .if1 .left, c .before .end-of .ensures))), refl)
 
 pub file-part-spec : {M : Type 1} → statement M
 file-part-spec = tie.close (tie.spec end-of-requires slice-aggregate-result returns returns-2)

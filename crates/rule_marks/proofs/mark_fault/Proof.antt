@@ -5,11 +5,12 @@ use mathlib.Core.List.{List}
 use native.Mathlib.Omega.{arith}
 use mir.Facts.{fits-8-64}
 use lib.ListN.{length}
-use Rattle.rule_table.specs.Table.{Table}
+use Rattle.formats.proofs.Tables.{Table}
 use Rattle.formats.specs.Table.{morphismAt}
 use Rattle.formats.specs.RuleFile.{markStart, markCycle, markGrade, gradeAmong}
 use Rattle.rule_marks.specs.Faults.{MarksRoom, MarksLaid}
-use Rattle.rule_marks.proofs.MarkOrder.{GoodMarks, no-marks, good-more, marks-pass, mark-unlinked, mark-repeated, said-unlinked, said-linked}
+use Rattle.rule_marks.proofs.MarkOrder.{no-marks, good-more, marks-pass, mark-unlinked, mark-repeated, said-unlinked, said-linked}
+use Rattle.formats.proofs.MarksPassed.{GoodMarks}
 use Rattle.rule_marks.proofs.Laid.{pair-below, laid-start, laid-next, mark-seen, mark-new}
 use Rattle.rule_marks.proofs.mark_fault.Statement.{statement}
 use Rattle.rule_marks.proofs.mark_fault.Tie as tie

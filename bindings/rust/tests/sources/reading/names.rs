@@ -168,6 +168,14 @@ fn members(rest: &[Word]) -> Vec<String> {
     found
 }
 
+/// The words of a clause's patterns, without the name that it defines: what it binds, and constructors.
+pub fn pattern_words(clause: &[Word]) -> impl Iterator<Item = &str> {
+    let patterns = clause[..clause_end(clause)].iter().skip(1);
+    patterns
+        .filter(|word| !word.is_mark())
+        .map(|word| word.text.as_str())
+}
+
 /// How many words of an item stand left of its `=`; none where it is no clause.
 fn clause_end(item: &[Word]) -> usize {
     let mut depth = 0;
