@@ -7,9 +7,10 @@
 use super::differ::{compare, smallest, Comparison};
 use crate::files::Rule;
 use crate::words::Explained;
+use std::collections::HashMap;
 
 /// The most letters that are tried, one for another, before the search gives up.
-const TRIED: usize = 4_000;
+const TRIED: usize = 1_000;
 
 /// For each letter of the first strong rule a letter of the second, so that with this order they are equal. None
 /// where there is none, where it was not found in bounded time, or where one of the rules is weak.
@@ -20,8 +21,8 @@ pub fn equal_in_order(first: &[u8], second: &[u8]) -> Result<Option<Vec<u8>>, Ex
         return Ok(None);
     }
     let mut search = Search {
-        first: &own.parts,
-        second: &other.parts,
+        first: Graded::of(&own.parts),
+        second: Graded::of(&other.parts),
         order: Vec::new(),
         tried: 0,
     };
@@ -31,9 +32,25 @@ pub fn equal_in_order(first: &[u8], second: &[u8]) -> Result<Option<Vec<u8>>, Ex
     Ok(Some(search.order))
 }
 
+/// A rule, and the grade of each pair of its elements.
+struct Graded<'a> {
+    rule: &'a Rule,
+    grades: HashMap<(u8, u8), u8>,
+}
+
+impl Graded<'_> {
+    fn of(rule: &Rule) -> Graded<'_> {
+        let marks = rule.marks.iter();
+        Graded {
+            rule,
+            grades: marks.map(|mark| ((mark.s, mark.e), mark.grade)).collect(),
+        }
+    }
+}
+
 struct Search<'a> {
-    first: &'a Rule,
-    second: &'a Rule,
+    first: Graded<'a>,
+    second: Graded<'a>,
     order: Vec<u8>,
     tried: usize,
 }
@@ -41,11 +58,11 @@ struct Search<'a> {
 impl Search<'_> {
     /// Whether the order can be gone on with to its end.
     fn goes_on(&mut self) -> Result<bool, Explained> {
-        if self.order.len() == self.first.images.len() {
+        if self.order.len() == self.first.rule.images.len() {
             return self.is_equal();
         }
         let mut images = Vec::new();
-        for (letter, image) in (0..=u8::MAX).zip(&self.second.images) {
+        for (letter, image) in (0..=u8::MAX).zip(&self.second.rule.images) {
             // Of the letters that stand for one element it does not matter which is taken.
             if self.order.contains(&letter) || images.contains(image) {
                 continue;
@@ -64,13 +81,13 @@ impl Search<'_> {
         Ok(false)
     }
 
-    /// Whether the values of the words of the letters so far go together one to one.
+    /// Whether the values of the words of the letters so far go together one to one, and their grades do.
     fn goes_together(&self) -> bool {
         let letter = |(own, other): (&u8, &u8)| {
-            let other = self.second.images.get(usize::from(*other))?;
+            let other = self.second.rule.images.get(usize::from(*other))?;
             Some((*own, *other))
         };
-        let letters = self.first.images.iter().zip(&self.order);
+        let letters = self.first.rule.images.iter().zip(&self.order);
         let letters: Option<Vec<(u8, u8)>> = letters.map(letter).collect();
         let Some(letters) = letters else {
             return false;
@@ -86,19 +103,27 @@ impl Search<'_> {
             }
             found.push(pair);
             for letter in &letters {
-                let own = self.first.product(pair.0, letter.0);
-                let other = self.second.product(pair.1, letter.1);
+                let own = self.first.rule.product(pair.0, letter.0);
+                let other = self.second.rule.product(pair.1, letter.1);
                 waiting.extend(own.zip(other));
             }
         }
-        true
+        self.have_equal_grades(&found)
+    }
+
+    /// Whether pairs of values that go together have equal grades.
+    fn have_equal_grades(&self, values: &[(u8, u8)]) -> bool {
+        values.iter().all(|s| {
+            let mut pairs = values.iter().map(|e| ((s.0, e.0), (s.1, e.1)));
+            pairs.all(|(own, other)| self.first.grades.get(&own) == self.second.grades.get(&other))
+        })
     }
 
     fn is_equal(&self) -> Result<bool, Explained> {
-        let Some(ordered) = self.second.with_letters(&self.order) else {
+        let Some(ordered) = self.second.rule.with_letters(&self.order) else {
             return Ok(false);
         };
-        let compared = compare(&self.first.bytes(), &ordered.bytes());
+        let compared = compare(&self.first.rule.bytes(), &ordered.bytes());
         let compared = compared.map_err(|(_, explained)| explained)?;
         Ok(matches!(compared, Comparison::EqualReductions(_)))
     }

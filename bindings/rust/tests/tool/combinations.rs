@@ -61,7 +61,7 @@ fn texts() {
     let both_named = asked("either", named_rule, others.as_bytes());
     both_named.said(
         2,
-        "standard input has up, down; --by-number goes by numbers\n",
+        "standard input has up, down; `duknavet-tool letters` renames and adds letters, and --by-number goes by their numbers\n",
     );
     let both_named = asked("either", named_rule, named_rule);
     assert_eq!(both_named.printed(0), named);

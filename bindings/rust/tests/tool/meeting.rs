@@ -251,7 +251,10 @@ fn letters_that_do_not_meet() {
         rule.replace("rule 1", &format!("rule 1\npropositions {names}"))
     };
     for command in [&["compare"][..], &["combine", "both"], &["included"]] {
-        two(command, NAMED, &halt).said(2, " has shut, only standard input has halt; --by-number");
+        two(command, NAMED, &halt).said(
+            2,
+            " has shut, only standard input has halt; `duknavet-tool letters` renames",
+        );
         two(command, NAMED, &valued("p")).said(
             2,
             "are open, shut, and those of standard input are valuations of p",

@@ -6,7 +6,7 @@ use crate::random::Random;
 use crate::samples::{rule, NAMED};
 use duknavet::files::{marks_bytes, marks_of, Automaton, Lasso, Mark, Rule};
 use duknavet::text::{kind, print_automaton, print_lasso, print_marks, print_rule};
-use duknavet::text::{read, read_lasso, Kind, Names, Place, TextError};
+use duknavet::text::{read, read_lasso, read_letter, Kind, Names, Place, TextError};
 
 /// The bytes that a text says, and that it is of a kind.
 fn bytes_of(text: &str, expected: Kind) -> Vec<u8> {
@@ -316,7 +316,15 @@ fn any_bytes() {
         "99999999999999999999",
         "\u{e9}",
         "\t",
+        "propositions",
+        "\"",
+        "\"a b\"",
+        "\\",
+        "&",
+        "!",
+        "p",
     ];
+    let valued = Names::propositions(&["p", "a b"]).expect("two names");
     let (mut read_well, mut faults) = (0, 0);
     for round in 0..30_000 {
         let mut bytes: Vec<u8> = Vec::new();
@@ -354,6 +362,13 @@ fn any_bytes() {
             }
         }
         let _ = read_lasso(&bytes, &Names::none());
+        let _ = read_lasso(&bytes, &valued);
+        let line = String::from_utf8_lossy(&bytes);
+        let _ = read_letter(&line, &valued);
+        if let Ok(names) = Names::of_line(&line) {
+            assert_eq!(Names::of_line(&names.line()), Ok(names));
+        }
+        assert!(duknavet::text::words(&line).count() <= line.chars().count());
         let _ = kind(&bytes);
     }
     assert!(

@@ -18,6 +18,10 @@ pub const BY_NUMBER: Choice = Choice {
     meaning: "take letters by their numbers, whatever they are called",
 };
 
+/// How somebody goes on whose letters do not meet.
+const MENDED: &str =
+    "`duknavet-tool letters` renames and adds letters, and --by-number goes by their numbers";
+
 /// A file, and the rule that it is or that its automaton has.
 #[derive(Clone, Copy)]
 pub struct Side<'a> {
@@ -57,11 +61,13 @@ pub fn of_two(
     }
     owned::check_two(first.rule, second.rule, to_be_strong)
         .map_err(|explained| refused_by_input(first.source, second.source, &explained))?;
-    let apart = |words: String| Failure::Refused(format!("{words}; --by-number goes by numbers"));
     match meet(own, other) {
         Ok(Some(common)) => Ok(together(first, second, common)),
         Ok(None) => Ok(by_number(first, second, Names::none())),
-        Err(why) => Err(apart(why.in_words(&first.source.name, &second.source.name))),
+        Err(apart) => {
+            let words = apart.in_words(&first.source.name, &second.source.name);
+            Err(Failure::Refused(format!("{words}; {MENDED}")))
+        }
     }
 }
 
