@@ -375,6 +375,12 @@ fn letters_that_do_not_meet() {
             "the letters of the board are open, shut, and those of",
         ),
         (
+            &["--by-number"],
+            &[&named, &alarm, &valued, &one],
+            &[true, true, true, true],
+            "letters go by their numbers, as --by-number asks\n",
+        ),
+        (
             &[],
             &[&named, &plain],
             &[true, true],

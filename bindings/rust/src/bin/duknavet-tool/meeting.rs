@@ -52,7 +52,7 @@ pub fn of_two(
 ) -> Result<Met, Failure> {
     let (own, other) = (&first.source.names, &second.source.names);
     if arguments.has(BY_NUMBER.name) {
-        output::complain("letters go by their numbers, as --by-number asks");
+        tell_by_number();
         return Ok(by_number(first, second, agreed(own, other)));
     }
     if !own.any() || !other.any() {
@@ -103,6 +103,11 @@ fn agreed(first: &Names, second: &Names) -> Names {
         (true, _) => first.clone(),
         (false, _) => second.clone(),
     }
+}
+
+/// Says that letters go by their numbers since they are to.
+pub fn tell_by_number() {
+    output::complain("letters go by their numbers, as --by-number asks");
 }
 
 /// Says that letters go by their numbers since one of the files does not call them.

@@ -33,13 +33,15 @@ pub const COMMAND: Command = Command {
         options::SKIP_UNKNOWN,
         LETTERS,
         PROPOSITIONS,
+        meeting::BY_NUMBER,
     ],
     details: "A line is enter N FILE, the rule in FILE under the free name N, 0 to 7; leave N; replace N FILE \
 MAP, the reduction in FILE in place of the rule N, where confirm says yes to MAP; event LETTER, by \
 number, by name or as in a & !b; mark; who; or save. A file's name with blanks or a # stands in \
 quotes; a line has at most 256 bytes. The letters are called as in the first rule that names any, \
 or as an option says, until the board is empty: a rule that enters has its letters put in that \
-order, new propositions come behind, and one with other names is not let in. Empty lines and \
+order, new propositions come behind, and one with other names is not let in; with --by-number what \
+files call their letters is passed over. Empty lines and \
 comments, from # on, are passed over. Each other line has one answer: the lowest grade among the \
 rules that heard an event since their last mark, or none; for who the rules present, each with its \
 name, the fingerprint of its bytes as they came, and its grade; for save, saved or not saved; or \
@@ -75,9 +77,14 @@ fn run(arguments: &Arguments) -> Result<Answer, Failure> {
     let names = start(file.as_ref(), &found, &fixed)?;
     let order = Order::new(names, fixed);
     let rules = Rules::of(&found.board, &order.names, &found.origins);
+    let by_number = arguments.has(meeting::BY_NUMBER.name);
+    if by_number {
+        meeting::tell_by_number();
+    }
     let posting = Posting {
         board: found.board,
         order,
+        by_number,
         origins: found.origins,
         rules: Arc::new(rules),
     };
@@ -111,6 +118,8 @@ fn start(file: Option<&StateFile>, found: &Found, fixed: &Names) -> Result<Names
 struct Posting {
     board: RuleBoard,
     order: Order,
+    /// What files call their letters is passed over.
+    by_number: bool,
     origins: Origins,
     rules: Arc<Rules>,
 }
@@ -199,9 +208,11 @@ impl Posting {
 
     /// The board and a rule with their letters in the same order.
     fn met(&self, source: &Source) -> Result<(RuleBoard, Vec<u8>, Names), Fault> {
+        let none = Names::none();
+        let names = if self.by_number { &none } else { &source.names };
         let met = self
             .order
-            .meeting(&self.board, &source.bytes, &source.names, &source.name);
+            .meeting(&self.board, &source.bytes, names, &source.name);
         met.map_err(Fault::NotUnderstood)
     }
 
