@@ -16,6 +16,9 @@ module _ {bytes entry exit : List ℕ} {r : ℕ} (w : AtFront bytes entry exit r
   front-taken =
       ap (λ (n : ℕ). take n exit) (w .counts) ∙ ap (λ (l : List ℕ). take (length bytes) l) (w .holds) ∙ take-append-seam bytes (drop (length bytes) entry)
 
+  taken-length : length (take r exit) ≡ r
+  taken-length = ap length front-taken ∙ sym (w .counts)
+
   rest-dropped : drop r exit ≡ drop r entry
   rest-dropped =
       ap (λ (n : ℕ). drop n exit) (w .counts) ∙ ap (λ (l : List ℕ). drop (length bytes) l) (w .holds) ∙ drop-append-seam bytes (drop (length bytes) entry)
@@ -26,6 +29,8 @@ shown : {bytes second u u′ v v′ : List ℕ} {a b : ℕ} → Apart (morphismO
 shown {bytes} {second} answer = record {
   lasso = subst₂ (HigherGraded (morphismOf bytes) (markingOf bytes) (secondMarking second)) (sym (front-taken (answer .start-written))) (sym (front-taken (answer .cycle-written)))
       (answer .witness);
+  letters-of-u = taken-length (answer .start-written);
+  letters-of-v = taken-length (answer .cycle-written);
   rest-of-u = rest-dropped (answer .start-written);
   rest-of-v = rest-dropped (answer .cycle-written);
 }

@@ -1,12 +1,14 @@
 -- The theorem on named points, from what holds of every log. Assumes nothing.
 use Rattle.promises.specs.PointsTheorem.{PointsTheorem}
-use Rattle.promises.proofs.Logs.{log-monitor, log-point, log-verdict, fresh-logged, event-logged, mark-logged, in-place-logged, keep-logged, return-logged}
+use Rattle.promises.proofs.Logs.{log-run, return-stored, log-monitor, log-point, log-verdict, fresh-logged, event-logged, mark-logged, in-place-logged, keep-logged, return-logged}
 use Rattle.promises.proofs.HistoryGrades.{log-graded, log-turns}
 
 pub points-theorem : PointsTheorem
 points-theorem = record {
   monitor = λ bytes f points history names log. log-monitor bytes log;
   point = λ bytes f points history names log name h past e. log-point bytes log name h e;
+  run = λ bytes f points history names log. log-run bytes log;
+  stored-there = λ bytes f g points history names log name entry exit p. return-stored bytes log p;
   verdict = λ bytes f g points history names log run entry entry′ exit exit′ answer answer′ long long′ p q. log-verdict bytes log long long′ run p q;
   graded = λ bytes f points history names log entry exit grade turns p. log-graded log p;
   turns = λ bytes f points history names log entry exit grade turns p. log-turns log p;

@@ -40,6 +40,11 @@ pub record PointsTheorem : Type 0 where
       → f ≡ afterHistory (morphismOf bytes) history
   pub point : (bytes : List ℕ) (f : Monitor) (points : List ℕ) (history : List Action) (names : ℕ → Stored) → Log bytes f points history names
       → (name : ℕ) → name < namesCount → (past : List Action) → names name ≡ stored past → pointAt points name ≡ afterHistory (morphismOf bytes) past
+  -- events and marks alone lead to it, those of the history
+  pub run : (bytes : List ℕ) (f : Monitor) (points : List ℕ) (history : List Action) (names : ℕ → Stored) → Log bytes f points history names → Run bytes f history
+  -- a return that passes goes to a name that stores a history
+  pub stored-there : (bytes : List ℕ) (f g : Monitor) (points : List ℕ) (history : List Action) (names : ℕ → Stored) → Log bytes f points history names
+      → (name : ℕ) (entry exit : List ℕ) → ReturnPromise bytes f name points entry exit (To g) → (past : List Action) × (names name ≡ stored past)
   -- asked with any scratch that is long enough, of the monitor and of one that saw the history alone
   pub verdict : (bytes : List ℕ) (f g : Monitor) (points : List ℕ) (history : List Action) (names : ℕ → Stored) → Log bytes f points history names → Run bytes g history
       → (entry entry′ exit exit′ : List ℕ) (answer answer′ : MonitorVerdict) → scratchSize ≤ length entry → scratchSize ≤ length entry′

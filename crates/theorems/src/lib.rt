@@ -7,6 +7,7 @@ ghost use Rattle.promises.specs.InclusionTheorem.{InclusionTheorem};
 ghost use Rattle.promises.specs.PointsTheorem.{PointsTheorem};
 ghost use Rattle.promises.specs.PrintTheorem.{PrintTheorem};
 ghost use Rattle.promises.specs.RoundsTheorem.{RoundsTheorem};
+ghost use Rattle.theory.specs.EmptyStarts.{EmptyStartsTheorem};
 ghost use Rattle.theory.specs.PowersTheorem.{PowersTheorem};
 ghost use Rattle.answer.specs.NumbersTheorem.{NumbersTheorem};
 ghost use Rattle.automaton_call.specs.ReadyTheorem.{ReadyTheorem};
@@ -32,6 +33,11 @@ fn smallest_theorem()
 // What `included` leaves in u and v is a lasso that shows its no.
 fn inclusion_theorem()
     ensures { λ r. ⌜ InclusionTheorem ⌝ }
+{}
+
+// Document 02, Job 4: what empty starts change is nothing.
+fn empty_starts_theorem()
+    ensures { λ r. ⌜ EmptyStartsTheorem ⌝ }
 {}
 
 // Document 02, Job 1.

@@ -1,47 +1,19 @@
 -- What empty starts change: nothing. For every rule and rival, strong, same grades and smallest say the same whether lassos with an
--- empty start count or not, and so does inclusion (document 02, Job 4). The definitions of before stand here, by the lassos whose start
--- has a letter. Also the lassos of a cycle alone. Assumes nothing.
-use Prim.Native.Nat.{ℕ, _≤_}
+-- empty start count or not, and so does inclusion (document 02, Job 4). Also the lassos of a cycle alone. Assumes nothing.
+use Prim.Native.Nat.{ℕ}
 use mathlib.Core.Path.{_≡_, refl, ap, _∙_}
 use mathlib.Core.Logic.{_↔_}
 use mathlib.Core.List.{List, []}
 use Rattle.theory.specs.Words.{over-nil}
 use Rattle.theory.specs.Rules.{Morphism, Pairs, Marking, Rule, level, none, element, value, ValueWord}
-use Rattle.theory.specs.Acceptance.{Accepts, Strong}
-use Rattle.theory.specs.Grades.{AtLeast, StrongMarking, LassosGraded}
-use Rattle.theory.specs.Smallest.{SameGrades, Renumbered, Smallest}
+use Rattle.theory.specs.Acceptance.{Strong}
+use Rattle.theory.specs.Grades.{StrongMarking, LassosGraded}
+use Rattle.theory.specs.Smallest.{SameGrades, Smallest}
 use Rattle.theory.specs.Inclusion.{Included, IncludedGrades}
-use Rattle.theory.proofs.Starts.{Started, started-lasso, start-or-turn, first-value, lasso-started, value-started, equal-started}
+use Rattle.theory.specs.EmptyStarts.{StrongStarted, StrongMarkingStarted, SameStarted, SmallestStarted, IncludedStarted, IncludedGradesStarted, EmptyStartsTheorem}
+use Rattle.theory.proofs.Starts.{started-lasso, start-or-turn, first-value, lasso-started, value-started, equal-started}
 use Rattle.theory.proofs.Gradings.{graded-same}
 use Rattle.theory.proofs.Strength.{started-accepts}
-
-pub record StrongStarted (m : Morphism) (P : Pairs) : Type 0 where
-  pub both-or-neither : (u v u′ v′ : List ℕ) → Started (m .letters) u v → Started (m .letters) u′ v′
-      → value m u ≡ value m u′ → value m v ≡ value m v′ → Accepts m P u v ↔ Accepts m P u′ v′
-
-pub record StrongMarkingStarted (m : Morphism) (marks : Marking) : Type 0 where
-  pub at-each : (g : ℕ) → 1 ≤ g → StrongStarted m (level g marks)
-
-abbrev pub RuleStrongStarted : Rule → Type 0
-RuleStrongStarted r = StrongMarkingStarted (r .morphism) (r .marks)
-
-pub record SameStarted (r r′ : Rule) : Type 0 where
-  pub same-letters : r .morphism .letters ≡ r′ .morphism .letters
-  pub both-or-neither : (g : ℕ) → 1 ≤ g → (u v : List ℕ) → Started (r .morphism .letters) u v
-      → AtLeast (r .morphism) (r .marks) g u v ↔ AtLeast (r′ .morphism) (r′ .marks) g u v
-
-pub record SmallestStarted (r : Rule) : Type 0 where
-  pub strong : RuleStrongStarted r
-  pub at-least : (rival : Rule) → RuleStrongStarted rival → SameStarted r rival
-      → r .morphism .size ≤ rival .morphism .size
-  pub copy : (rival : Rule) → RuleStrongStarted rival → SameStarted r rival
-      → rival .morphism .size ≡ r .morphism .size → Renumbered (rival .morphism) (r .morphism)
-
-pub record IncludedStarted (m : Morphism) (P P′ : Pairs) : Type 0 where
-  pub accepted-too : (u v : List ℕ) → Started (m .letters) u v → Accepts m P u v → Accepts m P′ u v
-
-pub record IncludedGradesStarted (m : Morphism) (marks marks′ : Marking) : Type 0 where
-  pub at-each : (g : ℕ) → 1 ≤ g → IncludedStarted m (level g marks) (level g marks′)
 
 -- strong: lassos with equal values have equal values with a turn of the cycle for an empty start
 pub strong-from-started : {m : Morphism} {P : Pairs} → StrongStarted m P → Strong m P
@@ -139,4 +111,12 @@ cycle-graded {m} {marks} k = record {
   graded = λ u v l eu ev.
       graded-same (λ i some. started-accepts {m = m} {P = level i marks} u v (l .cycle-some))
       (k .graded (start-or-turn u v) v (started-lasso (lasso-started l)) (turn-value m u v eu ev) ev);
+}
+
+pub empty-starts-theorem : EmptyStartsTheorem
+empty-starts-theorem = record {
+  strong = λ m marks. strong-same;
+  same = same-grades-same;
+  smallest = smallest-same;
+  included = λ m marks marks′. included-same;
 }

@@ -5,17 +5,11 @@ use native.Mathlib.Omega.{arith}
 use mathlib.Core.Path.{_≡_, refl, sym, ap₂, _∙_}
 use mathlib.Core.List.{List, [], _∷_}
 use lib.ListN.{length}
-use Rattle.theory.specs.Words.{Over, Lasso, endless}
+use Rattle.theory.specs.Words.{Lasso, endless}
 use Rattle.theory.specs.Rules.{Morphism, Lawful, Value, none, element, join, value}
+use Rattle.theory.specs.EmptyStarts.{Started}
 use Rattle.theory.proofs.Periods.{same-cycle}
 use Rattle.theory.proofs.Values.{Element, value-element}
-
--- a lasso whose start has a letter; before document 02's Job 4 these were all
-pub record Started (k : ℕ) (u v : List ℕ) : Type 0 where
-  pub start-over : Over k u
-  pub cycle-over : Over k v
-  pub start-some : 0 < length u
-  pub cycle-some : 0 < length v
 
 pub started-lasso : {k : ℕ} {u v : List ℕ} → Started k u v → Lasso k u v
 started-lasso l = record { start-over = l .start-over; cycle-over = l .cycle-over; cycle-some = l .cycle-some }

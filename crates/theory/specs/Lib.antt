@@ -9,3 +9,4 @@ pub mod Inclusion
 pub mod Rounds
 pub mod Combined
 pub mod PowersTheorem
+pub mod EmptyStarts

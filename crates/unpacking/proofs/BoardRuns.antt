@@ -2,11 +2,12 @@
 -- nothing.
 use Prim.Native.Nat.{ℕ}
 use mathlib.Core.Path.{_≡_, refl, sym, ap, _∙_, subst}
-use mathlib.Core.List.{List}
+use mathlib.Core.List.{List, []}
 use native.Mathlib.Omega.{arith}
 use lib.ListN.{getD}
 use Rattle.answer.specs.declared.Refusal.{Refusal}
 use Rattle.board_promises.specs.declared.Board.{Board}
+use Rattle.board_promises.specs.Boards.{emptyBoard}
 use Rattle.board_promises.specs.declared.Notice.{Notice}
 use Rattle.board_promises.specs.declared.Notice.the-variants.{Done, Refused}
 use Rattle.board_histories.specs.Histories.{Deed, GradeAnew, BoardRun, begun as run-begun, entered-by as run-entered, left-by as run-left, event-by as run-event, mark-by as run-mark, enter-refused as run-enter-refused, leave-refused as run-leave-refused, event-refused as run-event-refused, mark-refused as run-mark-refused, written-elsewhere as run-written-elsewhere}
@@ -15,7 +16,7 @@ use Rattle.board_state.specs.State.{boardOf}
 use Rattle.packing.specs.Packing.{fields, refusal-at, unpack}
 use Rattle.packing_monitors.specs.Monitors.{noticeContents}
 use Rattle.unpacking.specs.BoardTheorem.{Tells, Refuses, ExportedRun, begun, entered-by, left-by, event-by, mark-by, enter-refused, leave-refused, event-refused, mark-refused, written-elsewhere, ExportedBoardTheorem}
-use Rattle.unpacking.proofs.NothingLost.{postedBoard, board-enter-read, board-leave-read, board-event-read, board-mark-read}
+use Rattle.unpacking.proofs.NothingLost.{postedBoard, board-empty-read, board-enter-read, board-leave-read, board-event-read, board-mark-read}
 use Rattle.unpacking.proofs.BoardBytes.{board-empty-kept, board-enter-kept, board-leave-kept, board-event-kept, board-mark-kept}
 
 not-fields : {a b c number input place : ℕ} → fields a b c ≡ refusal-at number input place → ⊥
@@ -25,6 +26,10 @@ not-fields e = let z : _≡_ {A = ℕ} 0 1 = cc in omega arith
 done-tells : (board : Board) (notice : Notice) {r grade : ℕ} → unpack r ≡ noticeContents board notice → Tells r grade → (notice ≡ Done) × (board .lowest ≡ grade)
 done-tells board Done {r} {grade} e t = (refl, let same : fields (board .lowest) 0 0 ≡ fields grade 0 0 = sym e ∙ t .told in cc)
 done-tells board (Refused refusal input place) e t = absurd (not-fields (sym (t .told) ∙ e))
+
+-- an empty board has the grade none
+four : {grade : ℕ} → fields 4 0 0 ≡ fields grade 0 0 → emptyBoard .lowest ≡ grade
+four {grade} e = let same : 4 ≡ grade = cc in same
 
 -- one that tells none is that of a refused call
 pub record WasRefused (notice : Notice) : Type 0 where
@@ -87,6 +92,8 @@ in-number state′ {log = log} kept told run = subst (GradeAnew log) (ap (λ (c 
 pub exported-board-theorem : ExportedBoardTheorem
 exported-board-theorem = record {
   in-bytes = λ state files log run. in-bytes run;
+  empty-tells = λ state state′ r grade lent x t.
+      in-number state′ {files = []} (board-empty-kept (lent .room) x) (four (sym (board-empty-read (lent .room) x) ∙ t .told)) (begun lent x);
   enter-tells = λ state state′ file files files′ entry exit log name r grade run lent x t.
       let h = lent .room in
       in-number state′ (board-enter-kept h (lent .bytes) x) (done-tells (postedBoard x h .board) (postedBoard x h .notice) (board-enter-read h x) t .1) (entered-by run lent x t);
@@ -99,4 +106,6 @@ exported-board-theorem = record {
   mark-tells = λ state state′ files entry exit log r grade run lent x t.
       let h = lent .room in
       in-number state′ (board-mark-kept h (lent .bytes) x) (done-tells (postedBoard x h .board) (postedBoard x h .notice) (board-mark-read h x) t .1) (mark-by run lent x t);
+  file-stands = λ state files log run i h file history e. board-theorem .file-stands (boardOf state) files log (exported-run run) i h file history e;
+  heard = λ state files log run i h file history e some. board-theorem .heard (boardOf state) files log (exported-run run) i h file history e some;
 }

@@ -4,9 +4,11 @@ use Prim.Native.Nat.{ℕ, _≤_, _<_}
 use mathlib.Core.Path.{_≡_}
 use mathlib.Core.List.{List, [], _∷_}
 use lib.ListN.{length, getD}
-use Rattle.promises.specs.Histories.{event, mark}
+use Rattle.promises.specs.Histories.{Action, event, mark, sinceWord}
+use Rattle.promises.specs.Advance.{noGrade}
 use Rattle.promises.specs.OneAnswers.{OneAnswer}
-use Rattle.board_histories.specs.Histories.{Deed, entered, left, moved, GradeAnew, FilesKept}
+use Rattle.board_histories.specs.Histories.{Deed, entered, left, moved, stands, standing, GradeAnew, FilesKept}
+use Rattle.board_promises.specs.Boards.{namesCount, fileAt}
 use Rattle.board_state.specs.State.{stateSize, boardOf}
 use Rattle.packing.specs.Packing.{fields, unpack}
 use Rattle.exports.specs.BoardExports.{ExportedBoardEmpty, ExportedBoardEnter, ExportedBoardLeave, ExportedBoardEvent, ExportedBoardMark}
@@ -50,6 +52,7 @@ pub record ExportedBoardTheorem : Type 0 where
   -- the lowest grade in the bytes, from byte 24 of the state
   pub in-bytes : (state files : List ℕ) (log : List Deed) → ExportedRun state files log → GradeAnew log (getD state 24 0)
   -- and the one that each call's number tells
+  pub empty-tells : (state state′ : List ℕ) (r grade : ℕ) → LentState state → ExportedBoardEmpty state state′ r → Tells r grade → GradeAnew [] grade
   pub enter-tells : (state state′ file files files′ entry exit : List ℕ) (log : List Deed) (name r grade : ℕ) → ExportedRun state files log → LentState state
       → ExportedBoardEnter state state′ name file files files′ entry exit r → Tells r grade → GradeAnew (entered name file ∷ log) grade
   pub leave-tells : (state state′ files entry exit : List ℕ) (log : List Deed) (name r grade : ℕ) → ExportedRun state files log → LentState state
@@ -58,6 +61,12 @@ pub record ExportedBoardTheorem : Type 0 where
       → ExportedBoardEvent state state′ letter files entry exit r → Tells r grade → GradeAnew (moved (event letter) ∷ log) grade
   pub mark-tells : (state state′ files entry exit : List ℕ) (log : List Deed) (r grade : ℕ) → ExportedRun state files log → LentState state
       → ExportedBoardMark state state′ files entry exit r → Tells r grade → GradeAnew (moved mark ∷ log) grade
+  -- the file that a name entered with is the one that stands there
+  pub file-stands : (state files : List ℕ) (log : List Deed) → ExportedRun state files log → (i : ℕ) → i < namesCount → (file : List ℕ) (history : List Action)
+      → standing log i ≡ stands file history → fileAt files i ≡ file
+  -- and the grade is none only where no rule has heard an event since its last mark
+  pub heard : (state files : List ℕ) (log : List Deed) → ExportedRun state files log → (i : ℕ) → i < namesCount → (file : List ℕ) (history : List Action)
+      → standing log i ≡ stands file history → 0 < length (sinceWord history) → getD state 24 0 < noGrade
 
 -- each call leaves one number and one of every lent byte: of the state, of the files where one enters, of scratch
 pub record ExportedBoardOneAnswers : Type 0 where
