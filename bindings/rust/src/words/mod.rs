@@ -246,7 +246,7 @@ pub(crate) fn too_many(bytes: usize, last: &str) -> String {
 }
 
 /// A number of things, with an s where it is not one.
-pub(crate) fn count(number: usize, thing: &str) -> String {
+pub fn count(number: usize, thing: &str) -> String {
     match number {
         1 => format!("1 {thing}"),
         _ => format!("{number} {thing}s"),

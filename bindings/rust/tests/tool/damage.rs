@@ -90,5 +90,9 @@ fn every_subcommand_survives() {
             }
         }
     }
-    assert!(statuses[0] > 50 && statuses[2] > 1000, "{statuses:?}");
+    // `follow` has status 1 for nearly all of them, since lines are refused.
+    assert!(
+        statuses[0] > 20 && statuses[1] > 100 && statuses[2] > 1000,
+        "{statuses:?}"
+    );
 }

@@ -181,7 +181,9 @@ fn the_known_letters() {
     );
     let followed = run_with(&["follow", flap.name()], b"ajar\n");
     assert_eq!(followed.text(), "not understood\n");
-    let words = format!("line 1: `ajar` {unknown}; the letters are open, shut\n");
+    let words = format!(
+        "line 1: `ajar` {unknown}; the letters are open, shut\nduknavet-tool: 1 line refused\n"
+    );
     assert!(followed.err.ends_with(&words), "{}", followed.err);
     let text = "duknavet automaton 1 states 1 both letters 2 on \"o f\" transitions 1 0 of 0";
     run_with(&["check", "-"], text.as_bytes())

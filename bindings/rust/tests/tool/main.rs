@@ -33,6 +33,7 @@ mod rounds;
 mod rule_automata;
 mod samples;
 mod states;
+mod stations;
 mod strict_claims;
 mod strict_hoa;
 mod texts;

@@ -2,6 +2,8 @@
 //!
 //! It parses, prints and asks; every verdict is a call's. A subcommand is a file of `commands/` and a line of its list.
 
+#![deny(unsafe_code)]
+
 mod arguments;
 mod board_letters;
 mod board_state;
@@ -14,10 +16,12 @@ mod kinds;
 mod likeness;
 mod lines;
 mod meeting;
+mod monitor_state;
 mod nearest;
 mod output;
 mod requests;
 mod state;
+mod station;
 
 use arguments::Arguments;
 use command::{Answer, Failure};

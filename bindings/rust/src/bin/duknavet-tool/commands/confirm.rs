@@ -2,8 +2,9 @@
 
 use crate::arguments::Arguments;
 use crate::command::{Answer, Command, Failure};
+use crate::input::{self, Source};
 use crate::meeting::{self, Side, BY_NUMBER};
-use crate::{input, output};
+use crate::output;
 use duknavet::text::Kind;
 use duknavet::witness::why_not_confirmed;
 use duknavet::{owned, Confirmation};
@@ -27,16 +28,30 @@ fn run(arguments: &Arguments) -> Result<Answer, Failure> {
     let rule = input::rule(arguments.plain(0))?;
     let reduced = input::rule(arguments.plain(1))?;
     let map = input::expected(arguments.plain(2), Kind::Map)?;
-    let sides = (Side::of(&rule), Side::of(&reduced));
+    let answer = confirmed(arguments, &rule, &reduced, &map.bytes)?;
+    let (line, answer) = match answer {
+        Ok(()) => ("yes\n".to_string(), Answer::Yes),
+        Err(no) => (format!("{no}\n"), Answer::No),
+    };
+    output::write(line.as_bytes())?;
+    Ok(answer)
+}
+
+/// Whether a rule was reduced right; else the no, with what is wrong.
+pub fn confirmed(
+    arguments: &Arguments,
+    rule: &Source,
+    reduced: &Source,
+    map: &[u8],
+) -> Result<Result<(), String>, Failure> {
+    let sides = (Side::of(rule), Side::of(reduced));
     let met = meeting::of_two(arguments, sides.0, sides.1, [true, false])?;
     let (first, second) = (&met.first, &met.second);
-    let refused = |explained| input::refused_by_input(&rule, &reduced, &explained);
-    if owned::confirm(first, second, &map.bytes).map_err(refused)? == Confirmation::Yes {
-        output::write(b"yes\n")?;
-        return Ok(Answer::Yes);
+    let refused = |explained| input::refused_by_input(rule, reduced, &explained);
+    if owned::confirm(first, second, map).map_err(refused)? == Confirmation::Yes {
+        return Ok(Ok(()));
     }
-    let fault = why_not_confirmed(first, second, &map.bytes).map_err(refused)?;
+    let fault = why_not_confirmed(first, second, map).map_err(refused)?;
     let why = fault.map(|fault| format!(": {}", fault.in_words(&met.names)));
-    output::write(format!("no{}\n", why.unwrap_or_default()).as_bytes())?;
-    Ok(Answer::No)
+    Ok(Err(format!("no{}", why.unwrap_or_default())))
 }

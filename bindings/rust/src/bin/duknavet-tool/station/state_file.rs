@@ -1,0 +1,184 @@
+//! The file that a state stands in: locked, read, and replaced as a whole.
+
+use crate::command::Failure;
+use crate::output;
+use std::ffi::{OsStr, OsString};
+use std::fs::{self, File, OpenOptions, TryLockError};
+use std::io::{self, ErrorKind, Read as _, Write as _};
+use std::os::unix::fs::{fchown, MetadataExt as _, OpenOptionsExt as _};
+use std::path::{Path, PathBuf};
+
+/// As many links as are followed to a file that is not there yet.
+const MOST_LINKS: usize = 40;
+
+/// A state file that no other process of the tool has.
+pub struct StateFile {
+    /// Its name as it was given, for messages.
+    given: PathBuf,
+    /// The file itself, where the name is a link.
+    target: PathBuf,
+    /// Whether it is a device or a pipe: such a file is not read, and cannot be replaced.
+    direct: bool,
+    /// Held until the process ends. The file of the lock stays: removed, it could be locked by two at once.
+    _lock: Option<File>,
+}
+
+impl StateFile {
+    /// Resolves links and locks the file. Where no lock can be made, as in a folder that is read-only, that is said and no more: a
+    /// state that cannot be written either is told at the first save.
+    pub fn open(given: &OsStr) -> Result<StateFile, Failure> {
+        let given = PathBuf::from(given);
+        let target = resolved(&given).map_err(|error| failed(&given, &error))?;
+        let kind = fs::metadata(&target);
+        let direct = kind.is_ok_and(|kind| !kind.is_file() && !kind.is_dir());
+        let lock = match direct {
+            true => None,
+            false => lock(&given, &target)?,
+        };
+        if direct {
+            output::complain(&format!(
+                "{}: it is no regular file: the state is written there, and not read",
+                given.display()
+            ));
+        }
+        Ok(StateFile {
+            given,
+            target,
+            direct,
+            _lock: lock,
+        })
+    }
+
+    /// Its bytes, at most one more than the longest state has; none where there is no such file.
+    pub fn read(&self, longest: u64) -> Result<Option<Vec<u8>>, Failure> {
+        if self.direct {
+            return Ok(None);
+        }
+        let mut bytes = Vec::new();
+        let opened = File::open(&self.target);
+        match opened.and_then(|file| file.take(longest + 1).read_to_end(&mut bytes)) {
+            Ok(_) => Ok(Some(bytes)),
+            Err(error) if error.kind() == ErrorKind::NotFound => Ok(None),
+            Err(error) => Err(failed(&self.given, &error)),
+        }
+    }
+
+    /// Writes a state whole or not at all, and returns when it is on the disk.
+    pub fn write(&self, text: &str) -> Result<(), Failure> {
+        let written = match self.direct {
+            true => write_directly(&self.target, text),
+            false => replace(&self.target, text),
+        };
+        written.map_err(|error| failed(&self.given, &error))
+    }
+
+    /// The refusal of what the file holds; the file is left alone.
+    pub fn refused(&self, message: &str) -> Failure {
+        Failure::Refused(format!(
+            "{}: {message}; the file is left as it is: move it away to begin anew",
+            self.given.display()
+        ))
+    }
+}
+
+fn failed(file: &Path, error: &io::Error) -> Failure {
+    Failure::Files(format!("{}: {error}", file.display()))
+}
+
+/// The file that a name leads to, which need not be there.
+fn resolved(given: &Path) -> io::Result<PathBuf> {
+    let mut name = given.to_path_buf();
+    for _ in 0..MOST_LINKS {
+        match fs::read_link(&name) {
+            // A link that is not absolute is meant from the folder that it stands in.
+            Ok(target) => name = folder(&name).join(target),
+            // The folder's name may lead through links as well; where there is no such folder, the first save says so.
+            Err(_) => {
+                let folder = fs::canonicalize(folder(&name));
+                let file = name.file_name().map(OsStr::to_owned);
+                return Ok(match folder.ok().zip(file) {
+                    Some((folder, file)) => folder.join(file),
+                    None => name,
+                });
+            }
+        }
+    }
+    Err(io::Error::other("too many links lead to it"))
+}
+
+/// The folder that a file stands in.
+fn folder(file: &Path) -> &Path {
+    let named = file.parent().filter(|own| !own.as_os_str().is_empty());
+    named.unwrap_or(Path::new("."))
+}
+
+fn beside(file: &Path, ending: &str) -> PathBuf {
+    let mut name = OsString::from(file);
+    name.push(ending);
+    PathBuf::from(name)
+}
+
+fn lock(given: &Path, target: &Path) -> Result<Option<File>, Failure> {
+    let name = beside(target, ".lock");
+    let mut options = OpenOptions::new();
+    options.read(true).write(true).create(true).truncate(false);
+    // A lock file of another user may be open to reading only, which is enough.
+    let opened = options.open(&name).or_else(|_| File::open(&name));
+    let fault = match opened.map(|file| (file.try_lock(), file)) {
+        Ok((Ok(()), file)) => return Ok(Some(file)),
+        Ok((Err(TryLockError::WouldBlock), _)) => {
+            return Err(Failure::Refused(format!(
+                "{}: another process has this state: {} is locked",
+                given.display(),
+                name.display()
+            )));
+        }
+        Ok((Err(TryLockError::Error(error)), _)) | Err(error) => error,
+    };
+    output::complain(&format!(
+        "{}: {fault}: a second process on this state would not be noticed",
+        name.display()
+    ));
+    Ok(None)
+}
+
+/// Writes the new file beside the old, and puts it in its place once it is on the disk.
+fn replace(target: &Path, text: &str) -> io::Result<()> {
+    let new = beside(target, ".new");
+    // One that an interrupted save left.
+    let _ = fs::remove_file(&new);
+    let replaced = write_new(&new, target, text).and_then(|()| fs::rename(&new, target));
+    if replaced.is_err() {
+        let _ = fs::remove_file(&new);
+    }
+    replaced?;
+    sync_folder(target)
+}
+
+fn write_new(new: &Path, old: &Path, text: &str) -> io::Result<()> {
+    let old = fs::metadata(old).ok();
+    let mut options = OpenOptions::new();
+    options.write(true).create_new(true);
+    if old.is_some() {
+        // Nobody reads it before it has the old one's mode.
+        options.mode(0o600);
+    }
+    let mut file = options.open(new)?;
+    file.write_all(text.as_bytes())?;
+    if let Some(old) = old {
+        // Only some may give a file away; for the others it is theirs already, or stays theirs.
+        let _ = fchown(&file, Some(old.uid()), Some(old.gid()));
+        file.set_permissions(old.permissions())?;
+    }
+    file.sync_all()
+}
+
+/// The new name is on the disk only when the folder is.
+fn sync_folder(file: &Path) -> io::Result<()> {
+    File::open(folder(file))?.sync_all()
+}
+
+fn write_directly(target: &Path, text: &str) -> io::Result<()> {
+    let mut file = OpenOptions::new().write(true).open(target)?;
+    file.write_all(text.as_bytes())
+}
