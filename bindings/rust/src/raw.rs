@@ -1,4 +1,4 @@
-//! The archive's functions, each behind a safe function over slices. All unsafe code of the package is here.
+//! The archive's functions, each behind a safe function over slices. All unsafe code of the library is here.
 //!
 //! Each exported function is proved to return, for every input, having read and written nothing but its slices within their
 //! lengths. What it asks of a caller is what Rust's references already promise: pointers that are good for their lengths, and

@@ -30,7 +30,7 @@ pub use map::print_map;
 pub use marks::{grade_word, print_marks};
 pub use names::{Names, MOST_PROPOSITIONS};
 pub(crate) use quotes::in_quotes;
-pub use quotes::{listed, unquote, without_comment};
+pub use quotes::{listed, unquote};
 pub use read::{kind, read, Kind, Parsed};
 pub use rule::print_rule;
 pub(crate) use start::from_first_line;

@@ -78,18 +78,6 @@ pub(super) fn quoted_length(text: &str) -> usize {
     text.len()
 }
 
-/// A line up to a comment: to a `#` that stands outside of quotes.
-pub fn without_comment(line: &str) -> &str {
-    let mut at = 0;
-    while let Some(first) = line[at..].chars().next().filter(|first| *first != '#') {
-        at += match first {
-            '"' => quoted_length(&line[at..]),
-            _ => first.len_utf8(),
-        };
-    }
-    &line[..at]
-}
-
 /// What a text in quotes says, with a backslash before a quote or a backslash; none where they do not hold all of it.
 pub fn unquote(text: &str) -> Option<String> {
     let said = unquoted(text).filter(|_| quoted_length(text) == text.len());

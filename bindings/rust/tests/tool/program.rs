@@ -103,6 +103,6 @@ impl Drop for Scrap {
     fn drop(&mut self) {
         let _ = std::fs::remove_file(&self.0);
         // A state's lock stays where its state stood.
-        let _ = std::fs::remove_file(self.0.with_added_extension("lock"));
+        let _ = std::fs::remove_file(format!("{}.lock", self.name()));
     }
 }

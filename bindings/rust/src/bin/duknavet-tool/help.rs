@@ -12,14 +12,18 @@ const FILES: &str = "A file is given by its name, or as - for standard input, wh
 `duknavet` and a space is a text; with `HOA:`, an automaton in that format; with `never` and white space or a brace, a never claim; \
 with `u:` or `v:`, a lasso; a byte order mark, blank lines and comments before that are passed over. Everything else is the bytes of a file. Bytes that pass the checks are never taken for a text.";
 
-const STATUS: [(&str, &str); 4] = [
+const STATUS: [(&str, &str); 5] = [
     ("0", "yes, or done"),
-    ("1", "no"),
+    ("1", "no; of follow and board, some line was refused"),
     (
         "2",
         "an input was refused, by a call or as a text that cannot be read",
     ),
     ("3", "wrong use, or a file could not be read or written"),
+    (
+        "129, 130, 143",
+        "SIGHUP, SIGINT or SIGTERM ended follow or board, and the state is saved",
+    ),
 ];
 
 /// `--help` with or without the name of a subcommand.

@@ -10,17 +10,15 @@ mod board_state;
 mod command;
 mod commands;
 mod form;
+mod former;
 mod help;
 mod input;
 mod kinds;
 mod likeness;
-mod lines;
 mod meeting;
 mod monitor_state;
 mod nearest;
 mod output;
-mod requests;
-mod state;
 mod station;
 
 use arguments::Arguments;

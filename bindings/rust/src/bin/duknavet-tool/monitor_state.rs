@@ -1,15 +1,13 @@
 //! The state of a monitor in a file: its two values, its named points, which rule they are of, and how much of the input they stand for.
 
 use crate::command::Failure;
+use crate::input::Source;
 use crate::station::sealed::{self, Kind, Version};
 use crate::station::{Fingerprint, MachineState, Progress, StateFile};
 use duknavet::text::Names;
-use duknavet::{Monitor, POINTS};
+use duknavet::{Monitor, RuleMonitor, POINTS};
 use std::fmt::Write as _;
 use std::sync::Arc;
-
-/// The most bytes that a state file has: names of letters, each no longer than a text that is read, and some numbers.
-const LONGEST: u64 = 16 << 20;
 
 /// A monitor and its points, as a rule left them.
 #[derive(Clone, Debug)]
@@ -50,16 +48,32 @@ impl MachineState for MonitorState {
 
 /// The state in a file; none where there is no such file.
 pub fn read(file: &StateFile) -> Result<Option<Found>, Failure> {
-    let Some(bytes) = file.read(LONGEST)? else {
-        return Ok(None);
-    };
-    let opened = sealed::open(Kind::Monitor, &bytes);
-    let (version, lines) = opened.map_err(|message| file.refused(&message))?;
-    let found = parse(version, lines);
-    let found = found.filter(|_| bytes.len() as u64 <= LONGEST);
-    found
-        .map(Some)
-        .ok_or_else(|| file.refused(&sealed::damaged()))
+    sealed::read(Kind::Monitor, file, parse)
+}
+
+/// The monitor of a state, if it is of the rule and its values are.
+pub fn taken_up(
+    file: &StateFile,
+    state: MonitorState,
+    rule: &Source,
+) -> Result<RuleMonitor, Failure> {
+    if state.rule != Fingerprint::of(&rule.bytes) {
+        return Err(file.refused("it is the state of another rule"));
+    }
+    if let Some(names) = state.names.filter(|names| **names != rule.names) {
+        let called = |names: &Names| match names.any() {
+            true => names.line(),
+            false => "no names".to_string(),
+        };
+        let (own, now) = (called(&names), called(&rule.names));
+        let message = format!("it is the state of other names: it has {own}, and the rule {now}");
+        return Err(file.refused(&message));
+    }
+    let watched = RuleMonitor::resumed(&rule.bytes, state.monitor, state.points);
+    // To keep a name, on a copy, looks at the monitor's values and at those of every point.
+    let tried = watched.clone().keep(0);
+    tried.map_err(|explained| file.refused(&explained.to_string()))?;
+    Ok(watched)
 }
 
 fn parse(version: Version, lines: &str) -> Option<Found> {

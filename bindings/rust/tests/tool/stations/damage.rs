@@ -45,6 +45,16 @@ fn every_prefix_and_every_flipped_bit() {
 }
 
 #[test]
+fn every_prefix_and_every_flipped_bit_of_a_board() {
+    // The smallest rule that there is.
+    let (rule, state) = (Scrap::holding(&[1, 0, 1, 0, 0, 0]), Scrap::free());
+    let words = ["board", "--state", state.name()];
+    let lines = format!("enter 3 {}\nevent 0\n", rule.name());
+    run_with(&words, lines.as_bytes()).printed(0);
+    every_damage_is_refused(&words, &state);
+}
+
+#[test]
 fn versions() {
     let (rule, state) = (Scrap::holding(W), Scrap::free());
     let words = ["follow", rule.name(), "--state", state.name()];

@@ -1,6 +1,7 @@
 //! Stations: what `follow` and `board` keep, and how it is not lost.
 
 mod answers;
+mod boards;
 mod crashes;
 mod damage;
 mod resuming;

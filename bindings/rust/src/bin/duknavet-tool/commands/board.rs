@@ -1,17 +1,21 @@
 //! Rules that enter and leave while events come.
 
+use super::confirm::confirmed_over;
 use crate::arguments::Arguments;
 use crate::board_letters::{all_have, Order};
-use crate::board_state;
+use crate::board_state::{self, BoardState, Found, Origins, Rules};
 use crate::command::{Answer, Choice, Command, Failure};
-use crate::input;
+use crate::former::image;
+use crate::input::{self, Source};
 use crate::meeting;
-use crate::requests::{self, refused};
-use duknavet::text::{read_letter, Names};
+use crate::station::{
+    self, options, Fault, Fingerprint, Machine, Options, Progress, Reply, Request, StateFile,
+};
+use duknavet::text::{Kind, Names};
 use duknavet::words::Explained;
-use duknavet::{Board, RuleBoard};
+use duknavet::{Board, RuleBoard, RuleMonitor, NONE, POINTS};
 use std::ffi::OsStr;
-use std::path::{Path, PathBuf};
+use std::sync::Arc;
 
 pub const COMMAND: Command = Command {
     name: "board",
@@ -20,21 +24,24 @@ pub const COMMAND: Command = Command {
     most: 0,
     purpose: "keep a board of up to eight strong rules by requests from standard input",
     options: &[
-        Choice {
-            name: "state",
-            value: Some("FILE"),
-            meaning: "take the board up from FILE if it is there, and write it there",
-        },
+        options::STATE,
+        options::RESUME,
+        options::SAVE_EVERY,
+        options::SAVE_AFTER,
+        options::ON_CHANGE,
+        options::FIELD,
+        options::SKIP_UNKNOWN,
         LETTERS,
         PROPOSITIONS,
     ],
-    details: "A line is enter N FILE, the rule in FILE under the free name N, 0 to 7; leave N; event LETTER, by number, by name or \
-as in a & !b; mark; or save. The letters are called as in the first rule that names any, or as an option says, until the board is empty: a rule that \
-enters has its letters put in that order, new propositions come behind, and one with other names is not let in. A line has at most 256 bytes, so FILE is short, and has no blank and no #. Empty lines and comments, \
-from # on, are passed over. Each other line has one answer: the lowest grade among the rules that heard an event since their last mark, or \
-none; for save, saved or not saved; or refused and the numbers, the input a rule's name, or not understood, with the words on standard \
-error, and then nothing has changed. With --state the board is written, with the rules, at save and at the end of the input, whole or not \
-at all. Memory stays the same however many events come.",
+    details: "A line is enter N FILE, the rule in FILE under the free name N, 0 to 7; leave N; replace N FILE MAP, the reduction in FILE in place \
+of the rule N, where confirm says yes to MAP; event LETTER, by number, by name or as in a & !b; mark; who; or save. A file's name with blanks or \
+a # stands in quotes; a line has at most 256 bytes. The letters are called as in the first rule that names any, or as an option says, until \
+the board is empty: a rule that enters has its letters put in that order, new propositions come behind, and one with other names is not let in. \
+Empty lines and comments, from # on, are passed over. Each other line has one answer: the lowest grade among the rules that heard an event since \
+their last mark, or none; for who the rules present, each with its name, the fingerprint of its bytes as they came, and its grade; for save, saved \
+or not saved; or refused and the numbers, the input a rule's name, or not understood, with the words on standard error, and then nothing has \
+changed. Status, --state, with the rules in the state, and --resume are as for follow. Memory stays the same however many events come.",
     run,
 };
 
@@ -51,22 +58,26 @@ const PROPOSITIONS: Choice = Choice {
 };
 
 fn run(arguments: &Arguments) -> Result<Answer, Failure> {
-    let file = arguments.file("state").map(PathBuf::from);
+    let options = Options::read(arguments)?;
     let fixed = fixed_letters(arguments)?;
-    let found = match &file {
-        Some(file) => board_state::read(file)?,
-        None => None,
-    };
-    let (board, names) = found.unwrap_or_else(|| (RuleBoard::new(), Names::none()));
-    let names = start(arguments, &board, names, &fixed)?;
+    let file = arguments.file("state").map(StateFile::open).transpose()?;
+    let found = file.as_ref().map(board_state::read).transpose()?;
+    let found = found.flatten().unwrap_or_else(|| Found {
+        board: RuleBoard::new(),
+        names: Names::none(),
+        origins: Origins::default(),
+        progress: Some(Progress::NONE),
+    });
+    let names = start(file.as_ref(), &found, &fixed)?;
     let order = Order::new(names, fixed);
-    let mut kept = Kept { board, order, file };
-    let answered = requests::answer_lines(|words| kept.answer(words));
-    // Also where nobody reads the answers any more: what was heard so far is not lost.
-    if let Some(file) = &kept.file {
-        kept.save(file)?;
-    }
-    answered.map(|()| Answer::Done)
+    let rules = Rules::of(&found.board, &order.names, &found.origins);
+    let posting = Posting {
+        board: found.board,
+        order,
+        origins: found.origins,
+        rules: Arc::new(rules),
+    };
+    station::run(posting, options, file, found.progress)
 }
 
 /// The letters that the command line fixes.
@@ -82,80 +93,156 @@ fn fixed_letters(arguments: &Arguments) -> Result<Names, Failure> {
 }
 
 /// How the letters of a board that is taken up are called: as its state says, and what is fixed has to be the same.
-fn start(
-    arguments: &Arguments,
-    board: &RuleBoard,
-    names: Names,
-    fixed: &Names,
-) -> Result<Names, Failure> {
-    if !fixed.any() || names == *fixed {
-        return Ok(names);
+fn start(file: Option<&StateFile>, found: &Found, fixed: &Names) -> Result<Names, Failure> {
+    let (names, board) = (&found.names, &found.board);
+    if !fixed.any() || names == fixed {
+        return Ok(names.clone());
     }
-    match !names.any() && all_have(board, fixed.count()) {
-        true => Ok(fixed.clone()),
-        false => Err(arguments.usage("the rules of the state have other letters")),
+    match (file, !names.any() && all_have(board, fixed.count())) {
+        (None, _) | (_, true) => Ok(fixed.clone()),
+        (Some(file), false) => Err(file.refused("the rules of the state have other letters")),
     }
 }
 
-struct Kept {
+struct Posting {
     board: RuleBoard,
     order: Order,
-    file: Option<PathBuf>,
+    origins: Origins,
+    rules: Arc<Rules>,
 }
 
-impl Kept {
-    /// The answer to a line, or what is wrong with it.
-    fn answer(&mut self, words: &[&str]) -> Result<String, String> {
-        let posted = match words {
-            ["enter", name, file] => self.enter(requests::name(name)?, file)?,
-            ["leave", name] => {
-                let left = self.board.leave(requests::name(name)?);
-                self.order.leave(self.board.board());
+impl Machine for Posting {
+    type State = BoardState;
+    const BARE_LETTERS: bool = false;
+
+    fn answer(&mut self, request: Request) -> Result<Reply, Fault> {
+        let posted = match request {
+            Request::Event(letter) => {
+                let letter = station::letter(&letter, &self.order.names)?;
+                self.board.event(letter)?
+            }
+            Request::Mark => self.board.mark()?,
+            Request::Enter { name, file } => self.enter(name, &file)?,
+            Request::Replace { name, file, map } => self.replace(name, &file, &map)?,
+            Request::Leave(name) => {
+                let left = self.board.leave(name)?;
+                self.order.leave(left);
+                self.post(name, None);
                 left
             }
-            ["event", letter @ ..] if !letter.is_empty() => {
-                let letter = read_letter(&letter.join(" "), &self.order.names);
-                self.board.event(letter.map_err(|error| error.message)?)
-            }
-            ["mark"] => self.board.mark(),
-            ["save"] => return requests::saved(self.file.as_deref(), |file| self.save(file)),
-            _ => {
-                let requests = "enter N FILE, leave N, event LETTER, mark or save";
-                return Err(format!("a line is {requests}"));
+            Request::Who => return Ok(Reply::Said(self.who()?)),
+            Request::Verdict | Request::Keep(_) | Request::Return(_) | Request::Save => {
+                let message = "a board has no verdict and no points of its own";
+                return Err(Fault::NotUnderstood(message.to_string()));
             }
         };
-        Ok(posted.map(shown).unwrap_or_else(refused))
+        Ok(Reply::Moved(shown(posted)))
     }
 
-    fn enter(&mut self, name: usize, file: &str) -> Result<Result<Board, Explained>, String> {
-        if file == "-" {
-            return Err("standard input has the requests, so the rule is a file".to_string());
+    fn grade(&mut self) -> Result<String, Explained> {
+        Ok(shown(self.board.board()))
+    }
+
+    fn state(&self) -> BoardState {
+        BoardState {
+            board: self.board.board(),
+            rules: Arc::clone(&self.rules),
         }
-        let source = input::rule(OsStr::new(file)).map_err(|failure| match failure {
-            Failure::Refused(message) | Failure::Usage(message) | Failure::Files(message) => {
-                message
-            }
-            Failure::Closed => format!("{file} cannot be read"),
-        })?;
+    }
+}
+
+impl Posting {
+    fn enter(&mut self, name: usize, file: &str) -> Result<Board, Fault> {
+        let source = read(file, Kind::Rule)?;
         // As it stands first, so that what is wrong with it is told of the file.
-        if let Err(explained) = self.board.clone().enter(name, &source.bytes) {
-            return Ok(Err(explained));
-        }
-        let met = self
-            .order
-            .meeting(&self.board, &source.bytes, &source.names, file);
-        let (mut board, rule, names) = met?;
-        let entered = board.enter(name, &rule);
-        if entered.is_ok() {
-            self.board = board;
-            self.order.names = names;
-        }
+        self.board.clone().enter(name, &source.bytes)?;
+        let (mut board, rule, names) = self.met(&source)?;
+        let entered = board.enter(name, &rule)?;
+        self.board = board;
+        self.order.names = names;
+        self.post(name, Some(Fingerprint::of(&source.bytes)));
         Ok(entered)
     }
 
-    fn save(&self, file: &Path) -> Result<(), Failure> {
-        board_state::write(file, &self.board, &self.order.names)
+    /// The rule under a name is replaced by its reduction, with what it heard.
+    fn replace(&mut self, name: usize, file: &str, map: &str) -> Result<Board, Fault> {
+        let (source, map) = (read(file, Kind::Rule)?, read(map, Kind::Map)?);
+        let mut tried = self.board.clone();
+        tried.leave(name)?;
+        tried.enter(name, &source.bytes)?;
+        let (board, rule, names) = self.met(&source)?;
+        let old = board.file(name).unwrap_or_default();
+        confirmed_over(&names, old, &rule, &map.bytes)?.map_err(|no| {
+            let map = &map.name;
+            Fault::NotUnderstood(format!("{map} does not take rule {name} to {file}: {no}"))
+        })?;
+        let mut state = board.board().state();
+        for value in state.iter_mut().skip(3 * name + 1).take(2) {
+            *value = image(&map.bytes, *value);
+        }
+        let mut entered = board;
+        entered.leave(name)?;
+        entered.enter(name, &rule)?;
+        // Its grade is what it was, and so is the lowest.
+        let replaced = Board::from_state(state);
+        let replaced = RuleBoard::resumed(replaced, entered.files().to_vec());
+        replaced.clone().mark()?;
+        self.board = replaced;
+        self.order.names = names;
+        self.post(name, Some(Fingerprint::of(&source.bytes)));
+        Ok(self.board.board())
     }
+
+    /// The board and a rule with their letters in the same order.
+    fn met(&self, source: &Source) -> Result<(RuleBoard, Vec<u8>, Names), Fault> {
+        let met = self
+            .order
+            .meeting(&self.board, &source.bytes, &source.names, &source.name);
+        met.map_err(Fault::NotUnderstood)
+    }
+
+    /// Notes which file came under a name, or that none stands there.
+    fn post(&mut self, name: usize, origin: Option<Fingerprint>) {
+        if let Some(own) = self.origins.get_mut(name) {
+            *own = origin;
+        }
+        let rules = Rules::of(&self.board, &self.order.names, &self.origins);
+        self.rules = Arc::new(rules);
+    }
+
+    /// The rules present, each with its name, the fingerprint of what came, and its grade.
+    fn who(&self) -> Result<String, Explained> {
+        let mut present = Vec::new();
+        for name in self.board.board().names() {
+            let file = self.board.file(name).unwrap_or_default();
+            let monitor = self.board.board().monitor(name);
+            let origin = self.origins.get(name).copied().flatten();
+            if let (Some(monitor), Some(origin)) = (monitor, origin) {
+                let grade = match monitor.since {
+                    NONE => "none".to_string(),
+                    _ => {
+                        let mut own = RuleMonitor::resumed(file, monitor, [0; POINTS]);
+                        own.verdict()?.grade.to_string()
+                    }
+                };
+                present.push(format!("{name} {origin} grade {grade}"));
+            }
+        }
+        Ok(match present.is_empty() {
+            true => "who nobody\n".to_string(),
+            false => format!("who {}\n", present.join(", ")),
+        })
+    }
+}
+
+/// A file that a line names.
+fn read(file: &str, kind: Kind) -> Result<Source, Fault> {
+    input::expected(OsStr::new(file), kind).map_err(|failure| match failure {
+        Failure::Refused(message) | Failure::Usage(message) | Failure::Files(message) => {
+            Fault::NotUnderstood(message)
+        }
+        Failure::Closed => Fault::NotUnderstood(format!("{file} cannot be read")),
+    })
 }
 
 fn shown(board: Board) -> String {

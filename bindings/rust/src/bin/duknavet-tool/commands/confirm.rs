@@ -5,8 +5,9 @@ use crate::command::{Answer, Command, Failure};
 use crate::input::{self, Source};
 use crate::meeting::{self, Side, BY_NUMBER};
 use crate::output;
-use duknavet::text::Kind;
+use duknavet::text::{Kind, Names};
 use duknavet::witness::why_not_confirmed;
+use duknavet::words::Explained;
 use duknavet::{owned, Confirmation};
 
 pub const COMMAND: Command = Command {
@@ -46,12 +47,21 @@ pub fn confirmed(
 ) -> Result<Result<(), String>, Failure> {
     let sides = (Side::of(rule), Side::of(reduced));
     let met = meeting::of_two(arguments, sides.0, sides.1, [true, false])?;
-    let (first, second) = (&met.first, &met.second);
-    let refused = |explained| input::refused_by_input(rule, reduced, &explained);
-    if owned::confirm(first, second, map).map_err(refused)? == Confirmation::Yes {
+    confirmed_over(&met.names, &met.first, &met.second, map)
+        .map_err(|explained| input::refused_by_input(rule, reduced, &explained))
+}
+
+/// The same for two rules whose letters are the same, and are called so.
+pub fn confirmed_over(
+    names: &Names,
+    rule: &[u8],
+    reduced: &[u8],
+    map: &[u8],
+) -> Result<Result<(), String>, Explained> {
+    if owned::confirm(rule, reduced, map)? == Confirmation::Yes {
         return Ok(Ok(()));
     }
-    let fault = why_not_confirmed(first, second, map).map_err(refused)?;
-    let why = fault.map(|fault| format!(": {}", fault.in_words(&met.names)));
+    let fault = why_not_confirmed(rule, reduced, map)?;
+    let why = fault.map(|fault| format!(": {}", fault.in_words(names)));
     Ok(Err(format!("no{}", why.unwrap_or_default())))
 }

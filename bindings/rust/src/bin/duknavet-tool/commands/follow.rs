@@ -1,29 +1,18 @@
 //! Events as they come, for as long as they come.
 
-use super::confirm::confirmed;
 use crate::arguments::Arguments;
-use crate::command::{Answer, Choice, Command, Failure};
+use crate::command::{Answer, Command, Failure};
+use crate::former::{self, Former};
 use crate::input::{self, Source};
 use crate::monitor_state::{self, MonitorState};
 use crate::output;
 use crate::station::{
     self, options, Fault, Fingerprint, Machine, Options, Progress, Reply, Request, StateFile,
 };
-use duknavet::text::{Kind, Names};
+use duknavet::text::Names;
 use duknavet::words::Explained;
 use duknavet::{owned, Monitor, Refusal, RuleMonitor, NONE, POINTS};
 use std::sync::Arc;
-
-const FROM: Choice = Choice {
-    name: "from",
-    value: Some("OLD"),
-    meaning: "a state of the rule OLD is carried over to RULE, its reduction",
-};
-const MAP: Choice = Choice {
-    name: "map",
-    value: Some("M"),
-    meaning: "the map of that reduction, as confirm takes it",
-};
 
 pub const COMMAND: Command = Command {
     name: "follow",
@@ -39,14 +28,18 @@ pub const COMMAND: Command = Command {
         options::ON_CHANGE,
         options::FIELD,
         options::SKIP_UNKNOWN,
-        FROM,
-        MAP,
+        former::FROM,
+        former::MAP,
     ],
-    details: "A line is a letter, by number or by name where RULE is a text that names it; mark; verdict; keep N or return N, N from 0 \
-to 7; or save. Empty lines and comments, from # on, are passed over. Each other line has one answer: before and since, an element or \
-none; for verdict the grade and turns; for save, saved or not saved; or refused and the numbers, or not understood, with the words on \
-standard error, and then nothing has changed. With --state the state is written at save and at the end of the input, whole or not at \
-all, and the state of another rule is refused. Memory stays the same however many events come.",
+    details: "A line is a letter, by number, by name or as in a & !b, or event and a letter, also one that is called like a request; \
+mark; verdict; keep N or return N, N from 0 to 7; who; or save. Empty lines and comments, from # on, are passed over. Each other line has \
+one answer: before and since, an element or none; for verdict the grade and turns; for who the fingerprint of the rule and the grade; for \
+save, saved or not saved; or refused and the numbers, or not understood, with the words on standard error, and then nothing has changed. At \
+the end the status is 1 where some line was refused, and standard error says how many. With --state the state is locked, and written at \
+save, as the options ask, at the end of the input and at SIGTERM, SIGINT and SIGHUP, whole or not at all; a signal ends with 128 and its \
+number, or with 3 where the state could not be written. A state that is damaged, of another rule or of other names is refused, with status \
+2, and left as it is. With --resume the input is a log from its first line on: the lines that the state stands for are passed over, or the log \
+is refused where it has others, and a last line without a newline is left for the next time. Memory stays the same however many events come.",
     run,
 };
 
@@ -67,7 +60,7 @@ fn run(arguments: &Arguments) -> Result<Answer, Failure> {
                 Some(former) => former.carried_over(arguments, file, found.state, &rule)?,
                 None => found.state,
             };
-            (taken_up(file, state, &rule)?, found.progress)
+            (monitor_state::taken_up(file, state, &rule)?, found.progress)
         }
         _ => (RuleMonitor::new(&rule.bytes), Some(Progress::NONE)),
     };
@@ -103,97 +96,6 @@ fn tell_of_weakness(rule: &Source, options: &Options) -> Result<(), Failure> {
     }
 }
 
-/// The monitor of a state, if it is of the rule and its values are.
-fn taken_up(file: &StateFile, state: MonitorState, rule: &Source) -> Result<RuleMonitor, Failure> {
-    if state.rule != Fingerprint::of(&rule.bytes) {
-        return Err(file.refused("it is the state of another rule"));
-    }
-    if let Some(names) = state.names.filter(|names| **names != rule.names) {
-        let called = |names: &Names| match names.any() {
-            true => names.line(),
-            false => "no names".to_string(),
-        };
-        let (own, now) = (called(&names), called(&rule.names));
-        let message = format!("it is the state of other names: it has {own}, and the rule {now}");
-        return Err(file.refused(&message));
-    }
-    let watched = RuleMonitor::resumed(&rule.bytes, state.monitor, state.points);
-    // To keep a name, on a copy, looks at the monitor's values and at those of every point.
-    let tried = watched.clone().keep(0);
-    tried.map_err(|explained| file.refused(&explained.to_string()))?;
-    Ok(watched)
-}
-
-/// The rule that a state was of before, and the map of its reduction to the one that is followed now.
-struct Former {
-    rule: Source,
-    map: Source,
-}
-
-impl Former {
-    fn read(arguments: &Arguments) -> Result<Option<Former>, Failure> {
-        let files = (arguments.file(FROM.name), arguments.file(MAP.name));
-        let (from, map) = match files {
-            (None, None) => return Ok(None),
-            (Some(from), Some(map)) if from != "-" && map != "-" => (from, map),
-            (Some(_), Some(_)) => {
-                return Err(arguments.usage("standard input has the events, so the rest are files"));
-            }
-            _ => return Err(arguments.usage("`--from` and `--map` stand together")),
-        };
-        if !arguments.has(options::STATE.name) {
-            return Err(arguments.usage("`--from` needs --state"));
-        }
-        let rule = input::rule(from)?;
-        let map = input::expected(map, Kind::Map)?;
-        Ok(Some(Former { rule, map }))
-    }
-
-    /// The state as the rule that is followed now has it; as it is where it is not of the former rule.
-    fn carried_over(
-        &self,
-        arguments: &Arguments,
-        file: &StateFile,
-        state: MonitorState,
-        rule: &Source,
-    ) -> Result<MonitorState, Failure> {
-        let own = Fingerprint::of(&rule.bytes);
-        if state.rule == own || state.rule != Fingerprint::of(&self.rule.bytes) {
-            return Ok(state);
-        }
-        let watched = taken_up(file, state, &self.rule)?;
-        confirmed(arguments, &self.rule, rule, &self.map.bytes)?.map_err(|no| {
-            let (from, map) = (&self.rule.name, &self.map.name);
-            Failure::Refused(format!(
-                "{map}: it does not take {from} to {}: {no}",
-                rule.name
-            ))
-        })?;
-        let mut points = watched.points();
-        for point in points.chunks_exact_mut(3).filter(|point| point[0] != 0) {
-            point[1] = self.image(point[1]);
-            point[2] = self.image(point[2]);
-        }
-        let Monitor { before, since } = watched.monitor();
-        let image = |value: usize| u8::try_from(value).map_or(value, |own| self.image(own).into());
-        Ok(MonitorState {
-            rule: own,
-            names: None,
-            monitor: Monitor {
-                before: image(before),
-                since: image(since),
-            },
-            points,
-        })
-    }
-
-    /// Where the map takes a value. It has a place for each element, so that what it has none for is the 64 of no events.
-    fn image(&self, value: u8) -> u8 {
-        let image = self.map.bytes.get(usize::from(value));
-        image.copied().unwrap_or(value)
-    }
-}
-
 struct Following {
     watched: RuleMonitor,
     rule: Fingerprint,
@@ -204,10 +106,10 @@ impl Machine for Following {
     type State = MonitorState;
     const BARE_LETTERS: bool = true;
 
-    fn answer(&mut self, request: Request<'_>) -> Result<Reply, Fault> {
+    fn answer(&mut self, request: Request) -> Result<Reply, Fault> {
         Ok(match request {
             Request::Event(letter) => {
-                let letter = station::letter(letter, &self.names)?;
+                let letter = station::letter(&letter, &self.names)?;
                 Reply::Moved(shown(self.watched.event(letter)?))
             }
             Request::Mark => Reply::Moved(shown(self.watched.mark()?)),
@@ -221,7 +123,8 @@ impl Machine for Following {
                 let grade = self.grade()?;
                 Reply::Said(format!("who {} {grade}", self.rule))
             }
-            Request::Save | Request::Enter { .. } | Request::Leave(_) => {
+            // Where letters may stand bare there are no others.
+            _ => {
                 let message = "a line is an event or a request of one rule";
                 return Err(Fault::NotUnderstood(message.to_string()));
             }

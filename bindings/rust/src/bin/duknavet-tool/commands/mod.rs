@@ -24,6 +24,7 @@ mod strong;
 mod summary;
 
 use crate::command::Command;
+pub use confirm::confirmed;
 
 pub const ALL: &[&Command] = &[
     &check::COMMAND,

@@ -1,59 +1,68 @@
 //! The lines that a station is given: events and requests, the same for `follow` and `board`.
 
-use duknavet::text::{unquote, without_comment};
+use duknavet::text::{self, unquote};
 
 /// What a line asks for.
 #[derive(Clone, Debug, PartialEq, Eq)]
-pub enum Request<'a> {
+pub enum Request {
     /// An event, by the words that name its letter.
-    Event(&'a str),
+    Event(String),
     Mark,
     Verdict,
     Keep(usize),
     Return(usize),
     Save,
     Who,
+    /// The rule in a file enters under a name.
     Enter {
         name: usize,
         file: String,
     },
+    /// The rule under a name is replaced by its reduction, which has a map.
+    Replace {
+        name: usize,
+        file: String,
+        map: String,
+    },
     Leave(usize),
 }
 
-/// The request of a line, or what is wrong with it; none where there are no words. What begins with no word of a request is an event
-/// where `bare` letters are understood.
-pub fn request(line: &str, bare: bool) -> Result<Option<Request<'_>>, String> {
-    let line = without_comment(line).trim();
-    if line.is_empty() {
-        return Ok(None);
-    }
-    let (word, rest) = match line.split_once(char::is_whitespace) {
-        Some((word, rest)) => (word, rest.trim_start()),
-        None => (line, ""),
-    };
-    let request = match (word, rest) {
-        ("mark", "") => Request::Mark,
-        ("verdict", "") => Request::Verdict,
-        ("save", "") => Request::Save,
-        ("who", "") => Request::Who,
-        ("event", letter) if !letter.is_empty() => Request::Event(letter),
-        ("keep", rest) if !rest.is_empty() => Request::Keep(name(rest)?),
-        ("return", rest) if !rest.is_empty() => Request::Return(name(rest)?),
-        _ if bare => Request::Event(line),
-        ("leave", rest) if !rest.is_empty() => Request::Leave(name(rest)?),
-        ("enter", rest) if !rest.is_empty() => enter(rest)?,
+/// The request of a line, or what is wrong with it; none where there are no words. Where `bare` letters are understood every line is
+/// an event that is no request of one rule.
+pub fn request(line: &str, bare: bool) -> Result<Option<Request>, String> {
+    let words: Vec<&str> = text::words(line).collect();
+    let request = match words.as_slice() {
+        [] => return Ok(None),
+        ["mark"] => Request::Mark,
+        ["verdict"] => Request::Verdict,
+        ["save"] => Request::Save,
+        ["who"] => Request::Who,
+        ["keep", word] => Request::Keep(name(word)?),
+        ["return", word] => Request::Return(name(word)?),
+        ["event", letter @ ..] if !letter.is_empty() => Request::Event(letter.join(" ")),
+        letter if bare => Request::Event(letter.join(" ")),
+        ["leave", word] => Request::Leave(name(word)?),
+        ["enter", word, file] => Request::Enter {
+            name: name(word)?,
+            file: self::file(file)?,
+        },
+        ["replace", word, file, map] => Request::Replace {
+            name: name(word)?,
+            file: self::file(file)?,
+            map: self::file(map)?,
+        },
         _ => {
-            return Err(format!(
-                "`{word}` begins no request, or not one with as many words"
-            ))
+            let requests =
+                "enter N FILE, leave N, replace N FILE MAP, event LETTER, mark, who or save";
+            return Err(format!("a line is {requests}"));
         }
     };
     Ok(Some(request))
 }
 
-/// The request of a log's line: the letter in a column, or the word `mark`, which is no letter's name. Columns count from 1, or from
-/// -1 backwards from the last; a log has no comments.
-pub fn request_in_column(line: &str, column: isize) -> Result<Option<Request<'_>>, String> {
+/// The request of a log's line: the letter in a column, or a mark where the word is `mark`. Columns count from 1, or from -1 on
+/// backwards from the last; a log has no comments.
+pub fn request_in_column(line: &str, column: isize) -> Result<Option<Request>, String> {
     let mut words = line.split_whitespace();
     if words.clone().next().is_none() {
         return Ok(None);
@@ -65,7 +74,7 @@ pub fn request_in_column(line: &str, column: isize) -> Result<Option<Request<'_>
     };
     match word {
         Some("mark") => Ok(Some(Request::Mark)),
-        Some(letter) => Ok(Some(Request::Event(letter))),
+        Some(letter) => Ok(Some(Request::Event(letter.to_string()))),
         None => Err(format!("there is no column {column}")),
     }
 }
@@ -76,18 +85,14 @@ fn name(word: &str) -> Result<usize, String> {
     number.map_err(|_| format!("`{word}` is no name from 0 to 7"))
 }
 
-/// A name and a file, whose name stands in quotes where it has blanks or a `#`.
-fn enter(words: &str) -> Result<Request<'_>, String> {
-    let form = "it is enter N FILE or enter N \"FILE\"";
-    let (number, file) = words
-        .split_once(char::is_whitespace)
-        .ok_or_else(|| form.to_string())?;
-    let (number, file) = (name(number)?, file.trim_start());
-    let is_plain = !file.starts_with('"') && !file.contains(char::is_whitespace);
-    let file = match is_plain {
-        true => Some(file.to_string()).filter(|file| !file.is_empty()),
-        false => unquote(file),
+/// The name of a file, which stands in quotes where it has blanks or a `#`.
+fn file(word: &str) -> Result<String, String> {
+    let file = match word.starts_with('"') {
+        true => unquote(word).ok_or_else(|| format!("{word} is no name in quotes"))?,
+        false => word.to_string(),
     };
-    let file = file.ok_or_else(|| form.to_string())?;
-    Ok(Request::Enter { name: number, file })
+    match file.as_str() {
+        "-" => Err("standard input has the requests, so the rule is a file".to_string()),
+        _ => Ok(file),
+    }
 }

@@ -19,7 +19,7 @@ pub use state_file::StateFile;
 
 use crate::command::{Answer, Failure};
 use crate::output;
-use duknavet::text::{read_letter, without_comment, Names};
+use duknavet::text::{self, read_letter, Names};
 use duknavet::words::Explained;
 use duknavet::Refusal;
 use keeper::{Keeper, Snapshot};
@@ -35,7 +35,7 @@ pub trait Machine {
     /// Whether a line that is no request is an event.
     const BARE_LETTERS: bool;
     /// What a request does. One that is not done changes nothing.
-    fn answer(&mut self, request: Request<'_>) -> Result<Reply, Fault>;
+    fn answer(&mut self, request: Request) -> Result<Reply, Fault>;
     /// The grade that it stands for now, as a line.
     fn grade(&mut self) -> Result<String, Explained>;
     fn state(&self) -> Self::State;
@@ -320,7 +320,7 @@ pub fn letter(words: &str, names: &Names) -> Result<u8, Fault> {
     if let Some(letter) = names.letter(words) {
         return Ok(letter);
     }
-    if without_comment(words) != words {
+    if text::words(words).collect::<Vec<_>>().join(" ") != words {
         return Err(Fault::NoLetter(format!("`{words}` is no letter")));
     }
     read_letter(words, names).map_err(|error| Fault::NoLetter(error.message))

@@ -1,6 +1,8 @@
 //! The text of a state file: a first line with its version, and a last one that shows whether all before it is there and as it was written.
 
 use super::fingerprint::Fingerprint;
+use super::state_file::StateFile;
+use crate::command::Failure;
 
 /// What a state is of.
 #[derive(Clone, Copy, Debug, PartialEq, Eq)]
@@ -40,8 +42,22 @@ pub fn seal(kind: Kind, lines: &str) -> String {
     format!("{text}end {end}\n")
 }
 
-/// The version of a state file and the lines between the first and the last, or what is wrong with it.
-pub fn open(kind: Kind, bytes: &[u8]) -> Result<(Version, &str), String> {
+/// What a state file says, by the version and the lines between the first and the last; none where there is no such file.
+pub fn read<T>(
+    kind: Kind,
+    file: &StateFile,
+    parse: impl FnOnce(Version, &str) -> Option<T>,
+) -> Result<Option<T>, Failure> {
+    let Some(bytes) = file.read()? else {
+        return Ok(None);
+    };
+    let opened = open(kind, &bytes);
+    let parsed = opened.and_then(|(version, lines)| parse(version, lines).ok_or_else(damaged));
+    parsed.map(Some).map_err(|message| file.refused(&message))
+}
+
+/// The version of a state's bytes and the lines between the first and the last, or what is wrong with them.
+fn open(kind: Kind, bytes: &[u8]) -> Result<(Version, &str), String> {
     if bytes.is_empty() {
         return Err("it is empty".to_string());
     }
@@ -70,6 +86,6 @@ pub fn open(kind: Kind, bytes: &[u8]) -> Result<(Version, &str), String> {
     }
 }
 
-pub fn damaged() -> String {
+fn damaged() -> String {
     "the state is damaged".to_string()
 }

@@ -8,6 +8,9 @@ use std::io::{self, ErrorKind, Read as _, Write as _};
 use std::os::unix::fs::{fchown, MetadataExt as _, OpenOptionsExt as _};
 use std::path::{Path, PathBuf};
 
+/// The most bytes that are read of a state file: names of letters, no longer than the texts that are read, and eight rules.
+const LONGEST: u64 = 16 << 20;
+
 /// As many links as are followed to a file that is not there yet.
 const MOST_LINKS: usize = 40;
 
@@ -49,14 +52,17 @@ impl StateFile {
         })
     }
 
-    /// Its bytes, at most one more than the longest state has; none where there is no such file.
-    pub fn read(&self, longest: u64) -> Result<Option<Vec<u8>>, Failure> {
+    /// What it holds; none where there is no such file.
+    pub fn read(&self) -> Result<Option<Vec<u8>>, Failure> {
         if self.direct {
             return Ok(None);
         }
         let mut bytes = Vec::new();
         let opened = File::open(&self.target);
-        match opened.and_then(|file| file.take(longest + 1).read_to_end(&mut bytes)) {
+        match opened.and_then(|file| file.take(LONGEST + 1).read_to_end(&mut bytes)) {
+            Ok(_) if bytes.len() as u64 > LONGEST => {
+                Err(self.refused(&format!("there are more than {LONGEST} bytes")))
+            }
             Ok(_) => Ok(Some(bytes)),
             Err(error) if error.kind() == ErrorKind::NotFound => Ok(None),
             Err(error) => Err(failed(&self.given, &error)),
