@@ -1,6 +1,6 @@
 //! Following events: lines as they come, answers as they come.
 
-use crate::program::{run_with, tool, Scrap};
+use crate::program::{run_with, send, tool, Scrap};
 use crate::random::Random;
 use crate::samples::{rule, NAMED, W, Z};
 use duknavet::{Monitor, RuleMonitor, NONE};
@@ -59,9 +59,7 @@ impl Line {
 
     /// Sends a signal, by its name without SIG.
     pub fn signal(&self, name: &str) {
-        let process = self.process().to_string();
-        let sent = Command::new("kill").args(["-s", name, &process]).status();
-        assert!(sent.expect("a signal is sent").success(), "{name}");
+        send(name, self.process());
     }
 
     /// The status of a tool that a signal ends, with its input left open, and how long that took.

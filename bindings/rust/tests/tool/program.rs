@@ -51,6 +51,14 @@ pub fn tool() -> Command {
     Command::new(env!("CARGO_BIN_EXE_duknavet-tool"))
 }
 
+/// Sends a signal, by its name without SIG, to a process.
+#[track_caller]
+pub fn send(signal: &str, process: u32) {
+    let command = format!("kill -s {signal} {process}");
+    let sent = Command::new("sh").args(["-c", &command]).status();
+    assert!(sent.expect("a shell").success(), "{command}");
+}
+
 pub fn run_with(words: &[&str], input: &[u8]) -> Ran {
     let mut child = tool()
         .args(words)

@@ -1,5 +1,5 @@
-//! The state of a board in a file: how its letters are called, for each rule present its monitor and its text, and how much of the input
-//! they stand for.
+//! The state of a board in a file: how its letters are called, for each rule present its monitor and its text,
+//! and how much of the input they stand for.
 
 use crate::command::Failure;
 use crate::station::sealed::{self, Kind, Version};

@@ -88,7 +88,8 @@ impl Former {
     }
 }
 
-/// Where a confirmed map takes a value. It has a place for each element, so that what it has none for is the 64 of no events.
+/// Where a confirmed map takes a value. It has a place for each element, so that what it has none for is the 64
+/// of no events.
 pub fn image(map: &[u8], value: u8) -> u8 {
     map.get(usize::from(value)).copied().unwrap_or(value)
 }

@@ -1,4 +1,5 @@
-//! The state of a monitor in a file: its two values, its named points, which rule they are of, and how much of the input they stand for.
+//! The state of a monitor in a file: its two values, its named points, which rule they are of, and how much of
+//! the input they stand for.
 
 use crate::command::Failure;
 use crate::input::Source;

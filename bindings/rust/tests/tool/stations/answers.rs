@@ -1,4 +1,5 @@
-//! Answers that a station can use: grades where they change, letters from a log, requests of one language, and a status with a count.
+//! Answers that a station can use: grades where they change, letters from a log, requests of one language, and
+//! a status with a count.
 
 use crate::program::{run_with, Scrap};
 use crate::samples::{GRADED, NAMED, W, Z};

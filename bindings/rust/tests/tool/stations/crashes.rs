@@ -1,12 +1,12 @@
 //! A long log, and a station that is killed and ended again and again: nothing is lost, and nothing counts twice.
 
 use super::{contents, lines_read};
-use crate::program::{run_with, tool, Scrap};
+use crate::program::{run_with, send, tool, Scrap};
 use crate::random::Random;
 use crate::samples::TWICE;
 use std::io::{BufRead, BufReader, Write};
 use std::os::unix::process::ExitStatusExt;
-use std::process::{Command, Stdio};
+use std::process::Stdio;
 use std::time::Duration;
 
 const LINES: usize = 100_000;
@@ -36,7 +36,8 @@ enum Moment {
     Microseconds(usize),
 }
 
-/// One run over the first lines of the log, which is ended while it waits for more or before; the answers that it wrote.
+/// One run over the first lines of the log, which is ended while it waits for more or before; the answers that
+/// it wrote.
 fn disturbed(words: &[&str], log: &[u8], moment: &Moment, kill: bool) -> Vec<String> {
     let mut child = tool()
         .args(words)
@@ -63,11 +64,7 @@ fn disturbed(words: &[&str], log: &[u8], moment: &Moment, kill: bool) -> Vec<Str
         }
         match kill {
             true => child.kill().expect("it is killed"),
-            false => {
-                let process = child.id().to_string();
-                let sent = Command::new("kill").args(["-s", "TERM", &process]).status();
-                assert!(sent.expect("a signal is sent").success());
-            }
+            false => send("TERM", child.id()),
         }
         answers.extend(lines);
         let status = child.wait().expect("it ends");

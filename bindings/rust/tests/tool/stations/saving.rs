@@ -188,6 +188,16 @@ fn links_and_modes_stay() {
     assert_eq!(folder.names(), ["deep", "link", "second"]);
 }
 
+/// A folder is no state, and gets no lock.
+#[test]
+fn folders() {
+    let (rule, folder) = (Scrap::holding(W), Folder::new());
+    let inner = folder.file("inner");
+    std::fs::create_dir(&inner).expect("a folder");
+    run_with(&["follow", rule.name(), "--state", &inner], b"1\n").said(3, "inner: is a directory");
+    assert_eq!(folder.names(), ["inner"]);
+}
+
 /// A link that leads in a circle is a file that cannot be read.
 #[test]
 fn circles_of_links() {

@@ -2,7 +2,7 @@
 
 use super::{contents, lines_read};
 use crate::following::Line;
-use crate::program::{tool, Scrap};
+use crate::program::{send, tool, Scrap};
 use crate::samples::W;
 use std::io::{BufRead, BufReader, Write};
 use std::process::{Command, Stdio};
@@ -39,9 +39,7 @@ fn without_a_state() {
         .stdout(Stdio::null())
         .spawn()
         .expect("the tool runs");
-    let process = child.id().to_string();
-    let sent = Command::new("kill").args(["-s", "TERM", &process]).status();
-    assert!(sent.expect("a signal is sent").success());
+    send("TERM", child.id());
     assert_eq!(child.wait().expect("it ends").code(), None);
 }
 
@@ -49,13 +47,9 @@ fn without_a_state() {
 #[test]
 fn ignored_signals_stay_ignored() {
     let (rule, state) = (Scrap::holding(W), Scrap::free());
-    let script = format!(
-        "trap '' HUP; exec '{}' follow '{}' --state '{}'",
-        env!("CARGO_BIN_EXE_duknavet-tool"),
-        rule.name(),
-        state.name()
-    );
-    let mut line = Line::of(Command::new("sh").args(["-c", &script]));
+    let tool = env!("CARGO_BIN_EXE_duknavet-tool");
+    let words = [tool, "follow", rule.name(), "--state", state.name()];
+    let mut line = Line::of(Command::new("nohup").args(words));
     assert_eq!(line.ask("1"), "before none since 1");
     for _ in 0..3 {
         line.signal("HUP");
@@ -92,9 +86,7 @@ fn saved_while_nobody_reads() {
         });
         std::thread::sleep(Duration::from_millis(300));
         let begin = Instant::now();
-        let process = child.id().to_string();
-        let sent = Command::new("kill").args(["-s", "TERM", &process]).status();
-        assert!(sent.expect("a signal is sent").success());
+        send("TERM", child.id());
         let status = child.wait().expect("it ends").code();
         assert_eq!(status, Some(143));
         assert!(begin.elapsed() < Duration::from_secs(3));

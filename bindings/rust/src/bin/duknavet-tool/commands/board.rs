@@ -34,14 +34,18 @@ pub const COMMAND: Command = Command {
         LETTERS,
         PROPOSITIONS,
     ],
-    details: "A line is enter N FILE, the rule in FILE under the free name N, 0 to 7; leave N; replace N FILE MAP, the reduction in FILE in place \
-of the rule N, where confirm says yes to MAP; event LETTER, by number, by name or as in a & !b; mark; who; or save. A file's name with blanks or \
-a # stands in quotes; a line has at most 256 bytes. The letters are called as in the first rule that names any, or as an option says, until \
-the board is empty: a rule that enters has its letters put in that order, new propositions come behind, and one with other names is not let in. \
-Empty lines and comments, from # on, are passed over. Each other line has one answer: the lowest grade among the rules that heard an event since \
-their last mark, or none; for who the rules present, each with its name, the fingerprint of its bytes as they came, and its grade; for save, saved \
-or not saved; or refused and the numbers, the input a rule's name, or not understood, with the words on standard error, and then nothing has \
-changed. Status, --state, with the rules in the state, and --resume are as for follow. Memory stays the same however many events come.",
+    details: "A line is enter N FILE, the rule in FILE under the free name N, 0 to 7; leave N; replace N FILE \
+MAP, the reduction in FILE in place of the rule N, where confirm says yes to MAP; event LETTER, by \
+number, by name or as in a & !b; mark; who; or save. A file's name with blanks or a # stands in \
+quotes; a line has at most 256 bytes. The letters are called as in the first rule that names any, \
+or as an option says, until the board is empty: a rule that enters has its letters put in that \
+order, new propositions come behind, and one with other names is not let in. Empty lines and \
+comments, from # on, are passed over. Each other line has one answer: the lowest grade among the \
+rules that heard an event since their last mark, or none; for who the rules present, each with its \
+name, the fingerprint of its bytes as they came, and its grade; for save, saved or not saved; or \
+refused and the numbers, the input a rule's name, or not understood, with the words on standard \
+error, and then nothing has changed. Status, --state, with the rules in the state, and --resume \
+are as for follow. Memory stays the same however many events come.",
     run,
 };
 

@@ -31,15 +31,19 @@ pub const COMMAND: Command = Command {
         former::FROM,
         former::MAP,
     ],
-    details: "A line is a letter, by number, by name or as in a & !b, or event and a letter, also one that is called like a request; \
-mark; verdict; keep N or return N, N from 0 to 7; who; or save. Empty lines and comments, from # on, are passed over. Each other line has \
-one answer: before and since, an element or none; for verdict the grade and turns; for who the fingerprint of the rule and the grade; for \
-save, saved or not saved; or refused and the numbers, or not understood, with the words on standard error, and then nothing has changed. At \
-the end the status is 1 where some line was refused, and standard error says how many. With --state the state is locked, and written at \
-save, as the options ask, at the end of the input and at SIGTERM, SIGINT and SIGHUP, whole or not at all; a signal ends with 128 and its \
-number, or with 3 where the state could not be written. A state that is damaged, of another rule or of other names is refused, with status \
-2, and left as it is. With --resume the input is a log from its first line on: the lines that the state stands for are passed over, or the log \
-is refused where it has others, and a last line without a newline is left for the next time. Memory stays the same however many events come.",
+    details: "A line is a letter, by number, by name or as in a & !b, or event and a letter, also one that is \
+called like a request; mark; verdict; keep N or return N, N from 0 to 7; who; or save. Empty lines \
+and comments, from # on, are passed over. Each other line has one answer: before and since, an \
+element or none; for verdict the grade and turns; for who the fingerprint of the rule and the \
+grade; for save, saved or not saved; or refused and the numbers, or not understood, with the words \
+on standard error, and then nothing has changed. At the end the status is 1 where some line was \
+refused, and standard error says how many. With --state the state is locked, and written at save, \
+as the options ask, at the end of the input and at SIGTERM, SIGINT and SIGHUP, whole or not at \
+all; a signal ends with 128 and its number, or with 3 where the state could not be written. A \
+state that is damaged, of another rule or of other names is refused, with status 2, and left as it \
+is. With --resume the input is a log from its first line on: the lines that the state stands for \
+are passed over, or the log is refused where it has others, and a last line without a newline is \
+left for the next time. Memory stays the same however many events come.",
     run,
 };
 

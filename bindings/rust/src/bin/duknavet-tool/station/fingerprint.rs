@@ -1,10 +1,12 @@
-//! Numbers that two sequences of bytes hardly share (FNV-1a, 64 bits). They guard against mistakes and damage, not against forgery.
+//! Numbers that two sequences of bytes hardly share (FNV-1a, 64 bits). They guard against mistakes and damage,
+//! not against forgery.
 
 use std::fmt;
 
 /// The number of some bytes, which can be carried on as more bytes come.
 ///
-/// Two sequences of one length that differ in a single byte never share it: each step is one to one in what came before.
+/// Two sequences of one length that differ in a single byte never share it: each step is one to one in what
+/// came before.
 #[derive(Clone, Copy, Debug, PartialEq, Eq)]
 pub struct Fingerprint(u64);
 

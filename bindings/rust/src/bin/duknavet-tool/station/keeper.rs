@@ -1,7 +1,9 @@
-//! What keeps a state while lines are answered: it is saved when asked, from time to time, and when a signal asks for the end.
+//! What keeps a state while lines are answered: it is saved when asked, from time to time, and when a signal
+//! asks for the end.
 //!
-//! The thread that answers lines hands over a snapshot whenever it is about to wait for input. Whoever saves takes the mutex and writes
-//! the last snapshot, so a save never waits for a line, nor for somebody who does not read the answers.
+//! The thread that answers lines hands over a snapshot whenever it is about to wait for input. Whoever saves
+//! takes the mutex and writes the last snapshot, so a save never waits for a line, nor for somebody who does
+//! not read the answers.
 
 use super::signals::Ending;
 use super::state_file::StateFile;
@@ -51,7 +53,8 @@ impl<S: Snapshot> Kept<S> {
         Ok(())
     }
 
-    /// Saves, says what is to be said, and has the status of the end. A snapshot that is on the disk already is not written again.
+    /// Saves, says what is to be said, and has the status of the end. A snapshot that is on the disk already is
+    /// not written again.
     fn save_at_signal(&mut self, signal: i32) -> i32 {
         let saved = match self.is_saved {
             true => Ok(()),
@@ -112,8 +115,8 @@ impl<S: Snapshot> Keeper<S> {
         kept.is_saved = false;
     }
 
-    /// Before input is waited for: everything that was taken is answered and handed over. Where a signal asks for the end this
-    /// does not return, since the process ends.
+    /// Before input is waited for: everything that was taken is answered and handed over. Where a signal asks
+    /// for the end this does not return, since the process ends.
     pub fn rest(&self) {
         let mut kept = self.shared.lock();
         kept.is_at_rest = true;
@@ -147,8 +150,8 @@ fn start_thread<S: Snapshot>(
     started.map(|_| ())
 }
 
-/// Waits for a signal, lets the lines that were taken be answered if that is soon, saves, and ends the process. The mutex is not
-/// given back, so that nothing happens after the save.
+/// Waits for a signal, lets the lines that were taken be answered if that is soon, saves, and ends the process.
+/// The mutex is not given back, so that nothing happens after the save.
 fn end_at_signal<S: Snapshot>(shared: &Shared<S>, ending: &Ending) {
     let Some(signal) = ending.wait() else {
         return output::complain("signals cannot be waited for, and the state is not saved at one");

@@ -27,8 +27,8 @@ pub enum Request {
     Leave(usize),
 }
 
-/// The request of a line, or what is wrong with it; none where there are no words. Where `bare` letters are understood every line is
-/// an event that is no request of one rule.
+/// The request of a line, or what is wrong with it; none where there are no words. Where `bare` letters are
+/// understood every line is an event that is no request of one rule.
 pub fn request(line: &str, bare: bool) -> Result<Option<Request>, String> {
     let words: Vec<&str> = text::words(line).collect();
     let request = match words.as_slice() {
@@ -60,8 +60,8 @@ pub fn request(line: &str, bare: bool) -> Result<Option<Request>, String> {
     Ok(Some(request))
 }
 
-/// The request of a log's line: the letter in a column, or a mark where the word is `mark`. Columns count from 1, or from -1 on
-/// backwards from the last; a log has no comments.
+/// The request of a log's line: the letter in a column, or a mark where the word is `mark`. Columns count from
+/// 1, or from -1 on backwards from the last; a log has no comments.
 pub fn request_in_column(line: &str, column: isize) -> Result<Option<Request>, String> {
     let mut words = line.split_whitespace();
     if words.clone().next().is_none() {

@@ -36,8 +36,8 @@ impl Lines {
         self.input.buffer().contains(&b'\n')
     }
 
-    /// The next line, and the progress with it; none at the end of the input. A last line without its end makes no lines more, but
-    /// an unfinished one.
+    /// The next line, and the progress with it; none at the end of the input. A last line without its end makes
+    /// no lines more, but an unfinished one.
     pub fn next(&mut self, before: Progress) -> Result<Option<(Line, Progress)>, Failure> {
         let mut kept: Vec<u8> = Vec::new();
         let mut after = before;
@@ -76,7 +76,8 @@ impl Lines {
         Ok(Some((line, after)))
     }
 
-    /// Passes over the lines that a state stands for, or tells how the input differs from the one that they were read from.
+    /// Passes over the lines that a state stands for, or tells how the input differs from the one that they
+    /// were read from.
     pub fn skip(&mut self, wanted: Progress) -> Result<(), Failure> {
         let refused = |what: &str| {
             Failure::Refused(format!(

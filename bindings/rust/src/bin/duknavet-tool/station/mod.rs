@@ -107,8 +107,8 @@ impl<S: MachineState> Snapshot for Standing<S> {
     }
 }
 
-/// Answers lines until the input ends. With a file the state is saved there at the end, however it comes; `progress` is what the
-/// state that was found there had read of its input, if it says so.
+/// Answers lines until the input ends. With a file the state is saved there at the end, however it comes;
+/// `progress` is what the state that was found there had read of its input, if it says so.
 pub fn run<M: Machine>(
     machine: M,
     options: Options,
@@ -215,8 +215,8 @@ impl<M: Machine> Station<M> {
 
     /// Writes the answers and hands the state over, between two lines or within one that changed nothing.
     ///
-    /// With `--resume` a line can be read again, so it counts once its answer was written; else it is gone from the input and counts
-    /// though nobody reads the answer.
+    /// With `--resume` a line can be read again, so it counts once its answer was written; else it is gone from
+    /// the input and counts though nobody reads the answer.
     fn settle(&mut self) -> Result<(), Failure> {
         if !self.options.resume {
             self.publish();
@@ -315,7 +315,8 @@ impl<M: Machine> Station<M> {
     }
 }
 
-/// The letter of an event. A name that a text would have in quotes is known without them too, as a log has it; a log has no comments.
+/// The letter of an event. A name that a text would have in quotes is known without them too, as a log has it;
+/// a log has no comments.
 pub fn letter(words: &str, names: &Names) -> Result<u8, Fault> {
     if let Some(letter) = names.letter(words) {
         return Ok(letter);

@@ -7,7 +7,8 @@ use super::fingerprint::Fingerprint;
 pub struct Progress {
     pub lines: u64,
     pub fingerprint: Fingerprint,
-    /// Whether a last line without a newline was answered too. More of it may come, so such an input cannot be resumed.
+    /// Whether a last line without a newline was answered too. More of it may come, so such an input cannot be
+    /// resumed.
     pub unfinished: bool,
 }
 

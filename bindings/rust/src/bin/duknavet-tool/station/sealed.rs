@@ -1,4 +1,5 @@
-//! The text of a state file: a first line with its version, and a last one that shows whether all before it is there and as it was written.
+//! The text of a state file: a first line with its version, and a last one that shows whether all before it is
+//! there and as it was written.
 
 use super::fingerprint::Fingerprint;
 use super::state_file::StateFile;
@@ -42,7 +43,8 @@ pub fn seal(kind: Kind, lines: &str) -> String {
     format!("{text}end {end}\n")
 }
 
-/// What a state file says, by the version and the lines between the first and the last; none where there is no such file.
+/// What a state file says, by the version and the lines between the first and the last; none where there is no
+/// such file.
 pub fn read<T>(
     kind: Kind,
     file: &StateFile,

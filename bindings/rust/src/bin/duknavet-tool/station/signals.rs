@@ -1,9 +1,11 @@
-//! Signals that ask a station to end: SIGHUP, SIGINT and SIGTERM, waited for by a thread. All unsafe code of the tool is here.
+//! Signals that ask a station to end: SIGHUP, SIGINT and SIGTERM, waited for by a thread. All unsafe code of
+//! the tool is here.
 //!
-//! There is no handler, so nothing runs between two instructions of other code: a blocked signal stays pending until `sigwait` takes it.
-//! What is called are five functions of the C library. Each is handed pointers to values of this file that live through the call and
-//! have the layout that the C library has on Linux for x86-64, the only place that the archive is made for: a `sigset_t` of 1,024 bits,
-//! and a `struct sigaction` that begins with the handler and is written by the library, never read by it. The functions keep none of
+//! There is no handler, so nothing runs between two instructions of other code: a blocked signal stays pending
+//! until `sigwait` takes it. What is called are five functions of the C library. Each is handed pointers to
+//! values of this file that live through the call and have the layout that the C library has on Linux for
+//! x86-64, the only place that the archive is made for: a `sigset_t` of 1,024 bits, and a `struct sigaction`
+//! that begins with the handler and is written by the library, never read by it. The functions keep none of
 //! these pointers. So no call reads or writes outside of these values, whatever the signals do.
 
 use std::ffi::c_int;
@@ -40,8 +42,9 @@ extern "C" {
 pub struct Ending(SignalSet);
 
 impl Ending {
-    /// Blocks the signals in this thread and in all that it starts from now on; so it is called before any other thread is there.
-    /// One that is ignored already, as SIGHUP is under nohup, stays so and is not waited for.
+    /// Blocks the signals in this thread and in all that it starts from now on; so it is called before any
+    /// other thread is there. One that is ignored already, as SIGHUP is under nohup, stays so and is not waited
+    /// for.
     pub fn block() -> Option<Ending> {
         let mut set = SignalSet([0; 16]);
         // SAFETY: a set of the C library's layout is lent for the call.

@@ -8,7 +8,8 @@ use std::io::{self, ErrorKind, Read as _, Write as _};
 use std::os::unix::fs::{fchown, MetadataExt as _, OpenOptionsExt as _};
 use std::path::{Path, PathBuf};
 
-/// The most bytes that are read of a state file: names of letters, no longer than the texts that are read, and eight rules.
+/// The most bytes that are read of a state file: names of letters, no longer than the texts that are read, and
+/// eight rules.
 const LONGEST: u64 = 16 << 20;
 
 /// As many links as are followed to a file that is not there yet.
@@ -27,13 +28,16 @@ pub struct StateFile {
 }
 
 impl StateFile {
-    /// Resolves links and locks the file. Where no lock can be made, as in a folder that is read-only, that is said and no more: a
-    /// state that cannot be written either is told at the first save.
+    /// Resolves links and locks the file. Where no lock can be made, as in a folder that is read-only, that is
+    /// said and no more: a state that cannot be written either is told at the first save.
     pub fn open(given: &OsStr) -> Result<StateFile, Failure> {
         let given = PathBuf::from(given);
         let target = resolved(&given).map_err(|error| failed(&given, &error))?;
-        let kind = fs::metadata(&target);
-        let direct = kind.is_ok_and(|kind| !kind.is_file() && !kind.is_dir());
+        let kind = fs::metadata(&target).ok();
+        if kind.as_ref().is_some_and(fs::Metadata::is_dir) {
+            return Err(failed(&given, &ErrorKind::IsADirectory.into()));
+        }
+        let direct = kind.is_some_and(|kind| !kind.is_file());
         let lock = match direct {
             true => None,
             false => lock(&given, &target)?,
@@ -98,7 +102,8 @@ fn resolved(given: &Path) -> io::Result<PathBuf> {
         match fs::read_link(&name) {
             // A link that is not absolute is meant from the folder that it stands in.
             Ok(target) => name = folder(&name).join(target),
-            // The folder's name may lead through links as well; where there is no such folder, the first save says so.
+            // The folder's name may lead through links as well; where there is no such folder, the first save
+            // says so.
             Err(_) => {
                 let folder = fs::canonicalize(folder(&name));
                 let file = name.file_name().map(OsStr::to_owned);
