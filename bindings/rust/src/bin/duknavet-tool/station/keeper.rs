@@ -179,9 +179,9 @@ fn save_now_and_then<S: Snapshot>(shared: &Shared<S>, after: Duration) {
     }
 }
 
-/// Tells that a save failed that has no answer line of its own.
+/// Tells that a save failed, which is not the end.
 pub fn complain_not_saved(failure: &Failure) {
-    if let Failure::Files(message) | Failure::Refused(message) | Failure::Usage(message) = failure {
-        output::complain(&format!("not saved: {message}"));
+    if let Failure::Files(message) = failure {
+        output::complain(message);
     }
 }

@@ -79,7 +79,8 @@ impl StateFile {
             true => write_directly(&self.target, text),
             false => replace(&self.target, text),
         };
-        written.map_err(|error| failed(&self.given, &error))
+        let name = self.given.display();
+        written.map_err(|error| Failure::Files(format!("not saved: {name}: {error}")))
     }
 
     /// The refusal of what the file holds; the file is left alone.
