@@ -168,19 +168,22 @@ fn links_and_modes_stay() {
     let words = ["follow", rule.name(), "--state", &second];
     // Before there is a file too.
     run_with(&words, b"1\n").printed(0);
-    let mode = std::fs::Permissions::from_mode(0o600);
-    std::fs::set_permissions(&real, mode).expect("a mode");
-    // Only root may give a file away.
-    let given = chown(&real, Some(65_534), Some(65_534)).is_ok();
-    let owner = std::fs::metadata(&real).expect("the state").uid();
-    run_with(&words, b"mark\n0\n").printed(0);
-    let saved = std::fs::read_to_string(&real).expect("the state");
-    assert!(saved.contains("\nmonitor 1 0\n"), "{saved}");
-    let kept = std::fs::symlink_metadata(&real).expect("the state");
-    assert!(kept.is_file());
-    assert_eq!(kept.mode() & 0o7777, 0o600);
-    assert_eq!(kept.uid(), owner);
-    assert!(!given || owner == 65_534);
+    for mode in [0o600, 0o640, 0o666] {
+        let set = std::fs::set_permissions(&real, std::fs::Permissions::from_mode(mode));
+        set.expect("a mode");
+        // Only root may give a file away.
+        let given = chown(&real, Some(65_534), Some(65_534)).is_ok();
+        let owner = std::fs::metadata(&real).expect("the state").uid();
+        let before = std::fs::read(&real).expect("the state");
+        run_with(&words, b"mark\n0\n").printed(0);
+        assert_ne!(std::fs::read(&real).expect("the state"), before);
+        let kept = std::fs::symlink_metadata(&real).expect("the state");
+        assert!(kept.is_file());
+        assert_eq!(kept.mode() & 0o7777, mode);
+        assert_eq!(kept.uid(), owner);
+        assert!(!given || owner == 65_534);
+        run_with(&words, b"1\n").printed(0);
+    }
     for name in [&link, &second] {
         let own = std::fs::symlink_metadata(name).expect("a link");
         assert!(own.file_type().is_symlink());

@@ -4,7 +4,7 @@ use super::{contents, lines_read};
 use crate::following::Line;
 use crate::program::{send, tool, Scrap};
 use crate::samples::W;
-use std::io::{BufRead, BufReader, Write};
+use std::io::{BufRead, BufReader, Read, Write};
 use std::process::{Command, Stdio};
 use std::time::{Duration, Instant};
 
@@ -75,11 +75,14 @@ fn saved_while_nobody_reads() {
             .spawn()
             .expect("the tool runs");
         let mut to = child.stdin.take().expect("a pipe");
-        let mut from = BufReader::new(child.stdout.take().expect("a pipe"));
+        let mut from = child.stdout.take().expect("a pipe");
         writeln!(to, "1").expect("the tool reads");
-        from.read_line(&mut String::new())
-            .expect("the tool answers");
-        // More answers than pipes hold, so that the tool waits within a write.
+        let mut first = [0; "before none since 1\n".len()];
+        from.read_exact(&mut first).expect("the tool answers");
+        // These answers nearly fill the pipe, and those of the next lines do not fit: the tool waits within a write.
+        let filling = "0\n".repeat(3_000);
+        to.write_all(filling.as_bytes()).expect("the tool reads");
+        std::thread::sleep(Duration::from_millis(300));
         let writer = std::thread::spawn(move || {
             let _ = to.write_all("0\n".repeat(200_000).as_bytes());
             to
@@ -91,7 +94,7 @@ fn saved_while_nobody_reads() {
         assert_eq!(status, Some(143));
         assert!(begin.elapsed() < Duration::from_secs(3));
         drop(writer.join());
-        let written = from.lines().count() + 1;
+        let written = 1 + BufReader::new(from).lines().count();
         let saved = lines_read(&contents(&state));
         // Lines that can be read again count once their answers were written, others as soon as they were read.
         match resume {
