@@ -161,9 +161,13 @@ fn reductions_take_a_name_over() {
     let state = Scrap::free();
     let mut line = Line::open(&["board", "--state", state.name()]);
     line.ask(&format!("enter 4 {}", old.name()));
-    line.ask("event 0");
-    line.ask("mark");
-    assert_eq!(line.ask("event 0"), "lowest 3");
+    // Events 0 1 have the value 2, which the reduction does not have.
+    for asked in ["event 0", "event 1", "mark", "event 0"] {
+        line.ask(asked);
+    }
+    assert_eq!(line.ask("event 1"), "lowest 3");
+    assert_eq!(line.ask("save"), "saved");
+    assert!(contents(&state).contains("\nrule 4 2 2 "));
     let replace = |name: usize, new: &Scrap, map: &Scrap| {
         format!("replace {name} {} \"{}\"", new.name(), map.name())
     };

@@ -131,6 +131,7 @@ fn options_that_need_a_state() {
         let words = ["follow", rule.name(), "--state", "unused", option];
         run_with(&words, b"").said(3, why);
     }
+    run_with(&["follow", rule.name(), "--state", ""], b"").said(3, "the state file has no name");
 }
 
 /// A second process on a state is refused as long as the first has it, by whatever name.

@@ -31,6 +31,9 @@ impl StateFile {
     /// Resolves links and locks the file. Where no lock can be made, as in a folder that is read-only, that is
     /// said and no more: a state that cannot be written either is told at the first save.
     pub fn open(given: &OsStr) -> Result<StateFile, Failure> {
+        if given.is_empty() {
+            return Err(Failure::Usage("the state file has no name".to_string()));
+        }
         let given = PathBuf::from(given);
         let target = resolved(&given).map_err(|error| failed(&given, &error))?;
         let kind = fs::metadata(&target).ok();
