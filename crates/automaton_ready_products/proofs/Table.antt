@@ -7,7 +7,7 @@ use native.Mathlib.Nat.{add-zero, zero-add, add-suc, suc-add, le-of-suc-le-suc, 
 use native.Mathlib.Omega.{arith}
 use lib.Dec.{T, eqb, eqb→eq}
 use lib.ListN.{length, getD}
-use Rattle.automaton_ready_products.specs.Ready.{productNumber, ReadyTable, LentTable}
+use Rattle.automaton_ready_products.specs.Ready.{productNumber, ReadyTable}
 use Rattle.automaton_ready_products.proofs.Digits.{digits-before, last-digit}
 
 -- ---- a test of each entry
@@ -47,6 +47,3 @@ table-ready table long t = record { entries = long; products = entry }
         eqb→eq (getD table (a * 81 + b) 0) (productNumber ((a * 81 + b) / 81) ((a * 81 + b) % 81)) at
         ∙ ap (λ (x : ℕ). productNumber x ((a * 81 + b) % 81)) (digits-before a b 81 (omega arith) hb)
         ∙ ap (productNumber a) (last-digit a b 81 hb)
-
-pub table-lent : {table : List ℕ} → ReadyTable table → LentTable table
-table-lent r = record { ready = λ some. r }

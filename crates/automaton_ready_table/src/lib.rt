@@ -1,6 +1,6 @@
 // The products of all matrices over two states, a constant: by rows of 81, the number of the product of the matrices with the numbers a
 // and b at a * 81 + b. It is built anew wherever it is named, so that one function names it and lends it once a call.
-use automaton_translation::make_rule;
+use automaton_translation::make_rule_by;
 use promises::Translated;
 ghost use Rattle.automaton_translation.specs.Promise.{ReadHere, MadePromise};
 
@@ -6579,5 +6579,5 @@ pub fn make_ready_rule(
     requires { ⌜ ReadHere (now automaton) n k (now out) (now scratch) ⌝ }
     ensures { λ r. ⌜ MadePromise (now (automaton .entry)) (now (out .entry)) (now (out .exit)) (now (scratch .entry)) (now (scratch .exit)) r ⌝ }
 {
-    make_rule(automaton, n, k, out, scratch, &PRODUCTS)
+    make_rule_by(automaton, n, k, out, scratch, &PRODUCTS)
 }

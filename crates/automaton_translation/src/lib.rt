@@ -13,7 +13,7 @@ use promises::Translated;
 use rule_laid::write_laid;
 use scratch::STEPS_BASE;
 use sections::zero;
-ghost use Rattle.automaton_ready_products.specs.Ready.{LentTable};
+ghost use Rattle.automaton_ready_products.specs.Ready.{ReadyTable, LentTable};
 ghost use Rattle.automaton_table.specs.Laying.{StepList, MarkNeeds, RuleLaid};
 ghost use Rattle.automaton_translation.specs.Promise.{ReadHere, MadePromise};
 
@@ -57,4 +57,20 @@ pub fn make_rule(
     let length = write_laid(scratch, STEPS_BASE, count, k, out);
     zero(scratch);
     Translated::Rule(length)
+}
+
+// The same by a table that holds the products of all matrices over two states: what is lent here is that table, and not nothing.
+pub fn make_rule_by(
+    automaton: &[u8],
+    n: usize,
+    k: usize,
+    out: &mut [u8],
+    scratch: &mut [u8],
+    table: &[u8],
+) -> Translated
+    requires { ⌜ ReadHere (now automaton) n k (now out) (now scratch) ⌝ }
+    requires { ⌜ ReadyTable (now table) ⌝ }
+    ensures { λ r. ⌜ MadePromise (now (automaton .entry)) (now (out .entry)) (now (out .exit)) (now (scratch .entry)) (now (scratch .exit)) r ⌝ }
+{
+    make_rule(automaton, n, k, out, scratch, table)
 }

@@ -3,16 +3,16 @@ use mathlib.Core.Path.{refl}
 use borrow.Author.Needs.{needs}
 use Rattle.buchi.specs.Matrices.{through, greatest, product}
 use Rattle.automaton_ready_products.specs.Ready.{matrixNumber, numbered, productNumber}
-use Rattle.automaton_ready_products.proofs.Table.{table-ready, table-lent}
+use Rattle.automaton_ready_products.proofs.Table.{table-ready}
 use Rattle.automaton_ready_table.proofs.make_ready_rule.Statement.{statement}
 use Rattle.automaton_ready_table.proofs.make_ready_rule.Tie as tie
 
-slice-aggregate-make-rule : tie.Need-slice-aggregate-make-rule
-slice-aggregate-make-rule c = search needs
+slice-aggregate-make-rule-by : tie.Need-slice-aggregate-make-rule-by
+slice-aggregate-make-rule-by c = search needs
 
-make-rule-requires : tie.Need-make-rule-requires
+make-rule-by-requires : tie.Need-make-rule-by-requires
 unfolding through greatest product matrixNumber numbered productNumber
-make-rule-requires c κs = (c .before .before .before .before .before .before .pre, table-lent (table-ready _ refl tt))
+make-rule-by-requires c κs = (c .before .before .before .before .before .before .pre, table-ready _ refl tt)
 
 same-length : tie.Need-same-length
 same-length c = search needs
@@ -24,4 +24,4 @@ returns : tie.Need-returns
 returns c = search needs
 
 pub make-ready-rule-spec : {M : Type 1} → statement M
-make-ready-rule-spec = tie.close (tie.spec slice-aggregate-make-rule make-rule-requires same-length same-length-2 returns)
+make-ready-rule-spec = tie.close (tie.spec slice-aggregate-make-rule-by make-rule-by-requires same-length same-length-2 returns)
