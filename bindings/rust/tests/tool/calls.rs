@@ -129,6 +129,11 @@ fn included() {
         "within the marks: 1 of 3 bytes are there (refusal 1, input 2, place 3)",
     );
     asked(b"duknavet map 1\n0").said(2, "expected a marks section or a rule, found a map");
+    let automaton = b"HOA: v1\nStates: 1\nStart: 0\nAP: 0\nAcceptance: 1 Inf(0)\n--BODY--\nState: 0 {0}\n[t] 0\n--END--\n";
+    asked(automaton).said(
+        2,
+        "found an automaton; `duknavet-tool automaton` makes a rule of one",
+    );
 }
 
 #[test]

@@ -16,7 +16,7 @@ use std::sync::atomic::{AtomicBool, Ordering};
 const MOST: u64 = 4 << 20;
 
 /// How somebody goes on who has an automaton where a rule is wanted.
-const MAKES_A_RULE: &str = "`duknavet-tool automaton` makes a rule of one";
+pub const MAKES_A_RULE: &str = "`duknavet-tool automaton` makes a rule of one";
 
 /// What a file holds.
 #[derive(Clone, Copy, Debug, PartialEq, Eq)]

@@ -4,7 +4,6 @@ use super::{contents, fingerprint, lines_read};
 use crate::following::Line;
 use crate::program::{run_with, Scrap};
 use crate::samples::{GRADED, NAMED, W, Z};
-use std::time::Duration;
 
 /// A rule of three elements that reduces to W.
 const LARGER: &[u8] = &[
@@ -130,9 +129,7 @@ fn saved_at_a_signal_and_resumed() {
         assert_eq!(line.ask(asked), answer);
     }
     line.signal("TERM");
-    let (status, time) = line.ended();
-    assert_eq!(status, 143);
-    assert!(time < Duration::from_secs(1));
+    assert_eq!(line.ended().0, 143);
     assert_eq!(lines_read(&contents(&state)), 4);
     let ran = run_with(&words, log.as_bytes());
     assert_eq!(ran.printed(0), "lowest 3\n");

@@ -2,7 +2,7 @@
 
 use super::{contents, lines_read, wait_for};
 use crate::following::Line;
-use crate::program::{run_with, tool, Ran, Scrap};
+use crate::program::{run_with, Ran, Scrap};
 use crate::samples::W;
 use std::io::Write;
 use std::os::unix::fs::{chown, symlink, MetadataExt, PermissionsExt};
@@ -19,6 +19,26 @@ impl Folder {
         let folder = PathBuf::from(free.name());
         std::fs::create_dir(&folder).expect("a folder of the test");
         Folder(folder)
+    }
+
+    /// One that every user comes to, which the folders above this package need not be.
+    fn reachable() -> Folder {
+        let free = PathBuf::from(Scrap::free().name());
+        let name = free.file_name().expect("a name");
+        let folder = std::env::temp_dir().join(name);
+        std::fs::create_dir(&folder).expect("a folder of the test");
+        let folder = Folder(folder);
+        folder.set_mode(0o755);
+        folder
+    }
+
+    /// A file that every user may read, and run.
+    fn open_to_all(&self, name: &str, bytes: &[u8]) -> String {
+        let file = self.file(name);
+        std::fs::write(&file, bytes).expect("a file of the test is written");
+        let mode = std::fs::Permissions::from_mode(0o755);
+        std::fs::set_permissions(&file, mode).expect("a file of the test");
+        file
     }
 
     fn file(&self, name: &str) -> String {
@@ -254,17 +274,23 @@ fn full_disk_at_a_signal() {
 
 #[test]
 fn read_only_folder() {
-    let (rule, folder) = (Scrap::holding(W), Folder::new());
+    let (programs, folder) = (Folder::reachable(), Folder::reachable());
+    let binary = std::fs::read(env!("CARGO_BIN_EXE_duknavet-tool")).expect("the tool");
+    let binary = programs.open_to_all("tool", &binary);
+    let rule = programs.open_to_all("rule", W);
     let state = folder.file("state");
-    run_with(&["follow", rule.name(), "--state", &state], b"1\n").printed(0);
+    run_with(&["follow", &rule, "--state", &state], b"1\n").printed(0);
     let before = std::fs::read(&state).expect("the state");
+    folder.open_to_all("state", &before);
+    folder.open_to_all("state.lock", b"");
     for has_lock in [true, false] {
         if !has_lock {
             std::fs::remove_file(folder.file("state.lock")).expect("the lock");
         }
         folder.set_mode(0o555);
-        let mut command = tool();
-        command.args(["follow", rule.name(), "--state", &state]);
+        let mut command = Command::new(&binary);
+        command.args(["follow", &rule, "--state", &state]);
+        command.current_dir(&folder.0);
         // Root writes everywhere, so it is somebody else who tries.
         if std::fs::metadata("/proc/self").is_ok_and(|own| own.uid() == 0) {
             command.uid(65_534).gid(65_534);

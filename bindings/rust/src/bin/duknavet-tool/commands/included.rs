@@ -32,12 +32,20 @@ fn run(arguments: &Arguments) -> Result<Answer, Failure> {
     match kind {
         Kind::Marks => by_marks(&rule, &second),
         Kind::Rule => by_rules(arguments, &rule, &second),
-        other => Err(Failure::Refused(format!(
-            "{}: expected a marks section or a rule, found {}",
-            second.name,
-            other.article()
-        ))),
+        other => Err(neither(&second.name, other)),
     }
+}
+
+/// A second input that is of another kind, and how to go on where it is an automaton.
+fn neither(name: &str, found: Kind) -> Failure {
+    let hint = match found {
+        Kind::Automaton => format!("; {}", input::MAKES_A_RULE),
+        _ => String::new(),
+    };
+    let found = found.article();
+    Failure::Refused(format!(
+        "{name}: expected a marks section or a rule, found {found}{hint}"
+    ))
 }
 
 /// What bytes are: a marks section where their length is that of one.
