@@ -30,9 +30,6 @@ returns c = (trailing _ _ (c .before .before .before .before .pre .0) (c .before
 repeated-fault-requires : tie.Need-repeated-fault-requires
 repeated-fault-requires c κs = (transitions-place _ _ (c .before .before .before .before .before .pre .0), c .before .before .before .before .before .pre .1)
 
-same-length : tie.Need-same-length
-same-length c = search needs
-
 returns-2 : tie.Need-returns-2
 returns-2 c = (
   transitions-decide _ _ (c .before .before .before .before .before .before .before .before .pre .0) (c .before .before .before .before .before .rest-after .ensures) (c .before .before .before .before .if1 .left) (c .before .before .repeated-fault .result) (c .before .before .repeated-fault .ensures .0),
@@ -51,5 +48,5 @@ content-fault-spec =
     rest-after-requires
     returns
     repeated-fault-requires
-    same-length
+    (λ c. search needs)
     returns-2)

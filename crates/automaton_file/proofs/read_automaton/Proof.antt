@@ -11,24 +11,6 @@ use Rattle.automaton_file.proofs.read_automaton.Tie as tie
 returns : tie.Need-returns
 returns c = short-scratch _ _ _ (c .if1 .taken)
 
-zero-part-requires : tie.Need-zero-part-requires
-zero-part-requires c κs = search needs
-
-read-layout-requires : tie.Need-read-layout-requires
-read-layout-requires c κs = search needs
-
-enum-known-counts : tie.Need-enum-known-counts
-enum-known-counts c = search needs
-
-enum-known-refusal : tie.Need-enum-known-refusal
-enum-known-refusal c = search needs
-
-zero-requires : tie.Need-zero-requires
-zero-requires c κs = search needs
-
-same-length : tie.Need-same-length
-same-length c = search needs
-
 returns-2 : tie.Need-returns-2
 returns-2 c =
     let read = c .before .before .before .before .before .before .before in
@@ -47,18 +29,6 @@ content-fault-requires c κs =
       blank-room (blank .before .before .if1 .left) (blank .zero-part .ensures),
     )
 
-enum-told : tie.Need-enum-told
-enum-told c = search needs
-
-enum-known-refusal-2 : tie.Need-enum-known-refusal-2
-enum-known-refusal-2 c = search needs
-
-zero-requires-2 : tie.Need-zero-requires-2
-zero-requires-2 c κs = search needs
-
-same-length-2 : tie.Need-same-length-2
-same-length-2 c = search needs
-
 returns-3 : tie.Need-returns-3
 returns-3 c =
     let content = c .before .before .before .before in
@@ -69,9 +39,6 @@ returns-3 c =
     (layout-said (start .args .bytes .now) (read .read-layout .result) (read .read-layout .ensures) (content .before .before .before .counts .given .1)) (blank .zero-part .ensures .outside .same-length)
     (no-fault (λ input. contentChecks input (start .args .bytes .now)) (content .content-fault .result) (content .content-fault .ensures .0) (c .enum-told .given .1))
     (laid-said _ _ _ (content .content-fault .result) (content .content-fault .ensures .1) (c .enum-told .given .1))
-
-same-length-3 : tie.Need-same-length-3
-same-length-3 c = search needs
 
 returns-4 : tie.Need-returns-4
 returns-4 c =
@@ -91,18 +58,18 @@ read-automaton-spec =
     tie.close
     (tie.spec
     returns
-    zero-part-requires
-    read-layout-requires
-    enum-known-counts
-    enum-known-refusal
-    zero-requires
-    same-length
+    (λ c κs. search needs)
+    (λ c κs. search needs)
+    (λ c. search needs)
+    (λ c. search needs)
+    (λ c κs. search needs)
+    (λ c. search needs)
     returns-2
     content-fault-requires
-    enum-told
-    enum-known-refusal-2
-    zero-requires-2
-    same-length-2
+    (λ c. search needs)
+    (λ c. search needs)
+    (λ c κs. search needs)
+    (λ c. search needs)
     returns-3
-    same-length-3
+    (λ c. search needs)
     returns-4)

@@ -49,12 +49,6 @@ returns c = (
 slice-write-table : tie.Need-slice-write-table Inv-loop μ-loop
 slice-write-table c = in-table (c .before .before .before .before .before .before .before .pre .0) _ (c .before .before .before .loop-test .taken) (c .before .before .triple-index .ensures) (c .before .before .before .before .loop .inv .1) (c .before .before .before .before .before .before .before .pre .1 .room)
 
-add-i : tie.Need-add-i Inv-loop μ-loop
-add-i c = omega arith
-
-loop-less : tie.Need-loop-less Inv-loop μ-loop
-loop-less c = omega arith
-
 loop-again : tie.Need-loop-again Inv-loop μ-loop
 loop-again c = (
   fresh-more (c .before .before .before .before .loop .inv .0) (new-here (c .before .before .before .before .before .before .before .pre .0) _ (c .before .before .before .loop-test .taken) (c .before .before .triple-index .ensures) (c .before .before .before .before .loop .inv .1) (c .if1 .left)),
@@ -86,8 +80,8 @@ repeated-fault-spec =
     same-length
     returns
     slice-write-table
-    add-i
-    loop-less
+    (λ c. omega arith)
+    (λ c. omega arith)
     loop-again
     same-length-2
     returns-2)

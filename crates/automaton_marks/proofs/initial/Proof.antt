@@ -4,14 +4,8 @@ use Rattle.automaton_table.proofs.Tests.{kind-initial, kind-both, kind-other}
 use Rattle.automaton_marks.proofs.initial.Statement.{statement}
 use Rattle.automaton_marks.proofs.initial.Tie as tie
 
-shared-slice-read-if1 : tie.Need-shared-slice-read-if1
-shared-slice-read-if1 c = search needs
-
 returns : tie.Need-returns
 returns c = kind-initial _ _ (c .if1 .taken)
-
-shared-slice-read-if2 : tie.Need-shared-slice-read-if2
-shared-slice-read-if2 c = search needs
 
 returns-2 : tie.Need-returns-2
 returns-2 c = kind-both _ _ (c .if2 .taken)
@@ -21,4 +15,4 @@ returns-3 c = kind-other _ _ (c .before .before .if1 .left) (c .if2 .left)
 
 pub initial-spec : {M : Type 1} → statement M
 initial-spec =
-    tie.close (tie.spec shared-slice-read-if1 returns shared-slice-read-if2 returns-2 returns-3)
+    tie.close (tie.spec (λ c. search needs) returns (λ c. search needs) returns-2 returns-3)

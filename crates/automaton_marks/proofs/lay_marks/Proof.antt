@@ -20,12 +20,6 @@ loop-holds c = (rows-none _ _ _ _, omega arith)
 lay-marks-of-requires : tie.Need-lay-marks-of-requires Inv-loop μ-loop
 lay-marks-of-requires c κs = (marks-place (c .before .before .before .before .before .pre) (c .before .before .loop .inv .0 .kept), c .before .loop-test .taken)
 
-add-s : tie.Need-add-s Inv-loop μ-loop
-add-s c = omega arith
-
-loop-less : tie.Need-loop-less Inv-loop μ-loop
-loop-less c = omega arith
-
 loop-again : tie.Need-loop-again Inv-loop μ-loop
 loop-again c = (marks-more (c .before .before .before .before .before .before .before .before .pre) (c .before .before .before .before .loop-test .taken) (c .before .before .before .before .before .loop .inv .0) (c .before .before .lay-marks-of .ensures), omega arith)
 
@@ -43,8 +37,8 @@ lay-marks-spec =
     μ-loop
     loop-holds
     lay-marks-of-requires
-    add-s
-    loop-less
+    (λ c. omega arith)
+    (λ c. omega arith)
     loop-again
     same-length
     returns)

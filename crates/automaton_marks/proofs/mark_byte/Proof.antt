@@ -4,9 +4,6 @@ use Rattle.automaton_table.proofs.Marks.{pair-place, mark-unlinked, mark-other,
 use Rattle.automaton_marks.proofs.mark_byte.Statement.{statement}
 use Rattle.automaton_marks.proofs.mark_byte.Tie as tie
 
-laid-linked-requires : tie.Need-laid-linked-requires
-laid-linked-requires c κs = search needs
-
 returns : tie.Need-returns
 returns c = mark-unlinked _ _ _ _ _ _ (c .before .laid-linked .result) (c .before .laid-linked .ensures) (c .if1 .taken)
 
@@ -20,4 +17,4 @@ returns-3 : tie.Need-returns-3
 returns-3 c = mark-new _ _ _ _ _ _ (c .before .before .before .laid-linked .result) (c .before .before .before .laid-linked .ensures) (c .before .recurs .ensures) (c .before .before .if1 .left) (c .if2 .left)
 
 pub mark-byte-spec : {M : Type 1} → statement M
-mark-byte-spec = tie.close (tie.spec laid-linked-requires returns recurs-requires returns-2 returns-3)
+mark-byte-spec = tie.close (tie.spec (λ c κs. search needs) returns recurs-requires returns-2 returns-3)

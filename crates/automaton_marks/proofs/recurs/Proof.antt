@@ -17,17 +17,8 @@ abbrev μ-loop : tie.MeasureT-loop
 loop-holds : tie.Need-loop-holds Inv-loop μ-loop
 loop-holds c = none-start
 
-returns-from-requires : tie.Need-returns-from-requires Inv-loop μ-loop
-returns-from-requires c κs = search needs
-
 returns : tie.Need-returns Inv-loop μ-loop
 returns c = recurs-is _ _ _ _ (one-found (c .before .before .before .loop .inv) (c .before .before .loop-test .taken) (c .before .returns-from .ensures) (c .if1 .taken))
-
-add-p : tie.Need-add-p Inv-loop μ-loop
-add-p c = search needs
-
-loop-less : tie.Need-loop-less Inv-loop μ-loop
-loop-less c = search needs
 
 loop-again : tie.Need-loop-again Inv-loop μ-loop
 loop-again c = none-more (c .before .before .before .loop .inv) (c .before .before .loop-test .taken) (c .before .returns-from .ensures) (c .if1 .left)
@@ -42,9 +33,9 @@ recurs-spec =
     Inv-loop
     μ-loop
     loop-holds
-    returns-from-requires
+    (λ c κs. search needs)
     returns
-    add-p
-    loop-less
+    (λ c. search needs)
+    (λ c. search needs)
     loop-again
     returns-2)

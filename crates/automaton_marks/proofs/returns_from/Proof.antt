@@ -13,26 +13,14 @@ Inv-loop kinds n scratch s e p q₀ q = NoneBelow n (returns-at (matrixAt scratc
 abbrev μ-loop : tie.MeasureT-loop
 μ-loop kinds n scratch s e p q₀ q = n - q
 
-initial-requires : tie.Need-initial-requires Inv-loop μ-loop
-initial-requires c κs = search needs
-
 returns : tie.Need-returns Inv-loop μ-loop
 returns c = from-not-initial _ _ _ _ _ (c .before .initial .ensures) (c .if1 .taken)
 
 loop-holds : tie.Need-loop-holds Inv-loop μ-loop
 loop-holds c = none-start
 
-returns-at-requires : tie.Need-returns-at-requires Inv-loop μ-loop
-returns-at-requires c κs = search needs
-
 returns-2 : tie.Need-returns-2 Inv-loop μ-loop
 returns-2 c = from-initial _ _ _ _ _ (c .before .before .before .before .before .initial .ensures) (c .before .before .before .before .if1 .left) (one-found (c .before .before .before .loop .inv) (c .before .before .loop-test .taken) (c .before .returns-at .ensures) (c .if2 .taken))
-
-add-q : tie.Need-add-q Inv-loop μ-loop
-add-q c = search needs
-
-loop-less : tie.Need-loop-less Inv-loop μ-loop
-loop-less c = search needs
 
 loop-again : tie.Need-loop-again Inv-loop μ-loop
 loop-again c = none-more (c .before .before .before .loop .inv) (c .before .before .loop-test .taken) (c .before .returns-at .ensures) (c .if2 .left)
@@ -46,12 +34,12 @@ returns-from-spec =
     (tie.spec
     Inv-loop
     μ-loop
-    initial-requires
+    (λ c κs. search needs)
     returns
     loop-holds
-    returns-at-requires
+    (λ c κs. search needs)
     returns-2
-    add-q
-    loop-less
+    (λ c. search needs)
+    (λ c. search needs)
     loop-again
     returns-3)

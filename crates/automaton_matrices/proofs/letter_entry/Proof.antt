@@ -4,32 +4,11 @@ use Rattle.automaton_matrices.proofs.Letters.{letter-none, letter-from-
 use Rattle.automaton_matrices.proofs.letter_entry.Statement.{statement}
 use Rattle.automaton_matrices.proofs.letter_entry.Tie as tie
 
-mul-if1 : tie.Need-mul-if1
-mul-if1 c = search needs
-
-mul-if1-2 : tie.Need-mul-if1-2
-mul-if1-2 c = search needs
-
-add-if1 : tie.Need-add-if1
-add-if1 c = search needs
-
-add-if1-2 : tie.Need-add-if1-2
-add-if1-2 c = search needs
-
-shared-slice-read-if1 : tie.Need-shared-slice-read-if1
-shared-slice-read-if1 c = search needs
-
 returns : tie.Need-returns
 returns c = letter-none _ _ _ _ _ (c .if1 .taken)
 
-shared-slice-read-if2 : tie.Need-shared-slice-read-if2
-shared-slice-read-if2 c = search needs
-
 returns-2 : tie.Need-returns-2
 returns-2 c = letter-from-final _ _ _ _ _ (c .before .before .if1 .left) (c .if2 .taken)
-
-shared-slice-read-if3 : tie.Need-shared-slice-read-if3
-shared-slice-read-if3 c = search needs
 
 returns-3 : tie.Need-returns-3
 returns-3 c = letter-to-final _ _ _ _ _ (c .before .before .before .before .if1 .left) (c .before .before .if2 .left) (c .if3 .taken)
@@ -41,14 +20,14 @@ pub letter-entry-spec : {M : Type 1} → statement M
 letter-entry-spec =
     tie.close
     (tie.spec
-    mul-if1
-    mul-if1-2
-    add-if1
-    add-if1-2
-    shared-slice-read-if1
+    (λ c. search needs)
+    (λ c. search needs)
+    (λ c. search needs)
+    (λ c. search needs)
+    (λ c. search needs)
     returns
-    shared-slice-read-if2
+    (λ c. search needs)
     returns-2
-    shared-slice-read-if3
+    (λ c. search needs)
     returns-3
     returns-4)

@@ -19,18 +19,6 @@ loop-holds c = (search needs, rows-none)
 letter-row-requires : tie.Need-letter-row-requires Inv-loop μ-loop
 letter-row-requires c κs = (c .before .before .before .before .pre, c .loop-test .taken)
 
-mul-out : tie.Need-mul-out Inv-loop μ-loop
-mul-out c = search needs
-
-array-set-from-out : tie.Need-array-set-from-out Inv-loop μ-loop
-array-set-from-out c = search needs
-
-add-p : tie.Need-add-p Inv-loop μ-loop
-add-p c = search needs
-
-loop-less : tie.Need-loop-less Inv-loop μ-loop
-loop-less c = search needs
-
 loop-again : tie.Need-loop-again Inv-loop μ-loop
 loop-again c = (search needs, rows-more (c .before .before .loop .inv .1) (search needs) (c .letter-row .ensures))
 
@@ -45,9 +33,9 @@ letter-matrix-spec =
     μ-loop
     loop-holds
     letter-row-requires
-    mul-out
-    array-set-from-out
-    add-p
-    loop-less
+    (λ c. search needs)
+    (λ c. search needs)
+    (λ c. search needs)
+    (λ c. search needs)
     loop-again
     returns)

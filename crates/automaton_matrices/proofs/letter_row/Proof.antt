@@ -20,15 +20,6 @@ loop-holds c = (search needs, row-none)
 letter-entry-requires : tie.Need-letter-entry-requires Inv-loop μ-loop
 letter-entry-requires c κs = entry-place (c .before .before .before .before .pre .0) (c .before .before .before .before .pre .1) (c .loop-test .taken)
 
-array-write-row : tie.Need-array-write-row Inv-loop μ-loop
-array-write-row c = search needs
-
-add-q : tie.Need-add-q Inv-loop μ-loop
-add-q c = search needs
-
-loop-less : tie.Need-loop-less Inv-loop μ-loop
-loop-less c = search needs
-
 loop-again : tie.Need-loop-again Inv-loop μ-loop
 loop-again c = (search needs, row-more (c .before .before .loop .inv .1) (search needs) (c .letter-entry .ensures))
 
@@ -43,8 +34,8 @@ letter-row-spec =
     μ-loop
     loop-holds
     letter-entry-requires
-    array-write-row
-    add-q
-    loop-less
+    (λ c. search needs)
+    (λ c. search needs)
+    (λ c. search needs)
     loop-again
     returns)

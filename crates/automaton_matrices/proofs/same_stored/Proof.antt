@@ -16,35 +16,11 @@ abbrev μ-loop : tie.MeasureT-loop
 loop-holds : tie.Need-loop-holds Inv-loop μ-loop
 loop-holds c = rows-agree-none
 
-mul-same-bytes : tie.Need-mul-same-bytes Inv-loop μ-loop
-mul-same-bytes c = search needs
-
-mul-same-bytes-2 : tie.Need-mul-same-bytes-2 Inv-loop μ-loop
-mul-same-bytes-2 c = search needs
-
-add-same-bytes : tie.Need-add-same-bytes Inv-loop μ-loop
-add-same-bytes c = search needs
-
-add-same-bytes-2 : tie.Need-add-same-bytes-2 Inv-loop μ-loop
-add-same-bytes-2 c = search needs
-
-mul-same-bytes-3 : tie.Need-mul-same-bytes-3 Inv-loop μ-loop
-mul-same-bytes-3 c = search needs
-
-index-1-same-bytes : tie.Need-index-1-same-bytes Inv-loop μ-loop
-index-1-same-bytes c = search needs
-
 same-bytes-requires : tie.Need-same-bytes-requires Inv-loop μ-loop
 same-bytes-requires c κs = (search needs, row-room (c .before .before .before .before .pre .1) (search needs))
 
 returns : tie.Need-returns Inv-loop μ-loop
 returns c = row-differs (c .before .before .before .before .loop .inv) (c .before .before .before .loop-test .taken) (c .before .same-bytes .ensures) (not-true _ (c .if1 .taken))
-
-add-p : tie.Need-add-p Inv-loop μ-loop
-add-p c = search needs
-
-loop-less : tie.Need-loop-less Inv-loop μ-loop
-loop-less c = search needs
 
 loop-again : tie.Need-loop-again Inv-loop μ-loop
 loop-again c = rows-agree-more (c .before .before .before .before .loop .inv) (c .before .before .before .loop-test .taken) (c .before .same-bytes .ensures) (not-false _ (c .if1 .left))
@@ -59,15 +35,15 @@ same-stored-spec =
     Inv-loop
     μ-loop
     loop-holds
-    mul-same-bytes
-    mul-same-bytes-2
-    add-same-bytes
-    add-same-bytes-2
-    mul-same-bytes-3
-    index-1-same-bytes
+    (λ c. search needs)
+    (λ c. search needs)
+    (λ c. search needs)
+    (λ c. search needs)
+    (λ c. search needs)
+    (λ c. search needs)
     same-bytes-requires
     returns
-    add-p
-    loop-less
+    (λ c. search needs)
+    (λ c. search needs)
     loop-again
     returns-2)

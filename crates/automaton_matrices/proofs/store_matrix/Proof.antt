@@ -15,32 +15,8 @@ abbrev μ-loop : tie.MeasureT-loop
 loop-holds : tie.Need-loop-holds Inv-loop μ-loop
 loop-holds c = (search needs, stored-none)
 
-mul-row : tie.Need-mul-row Inv-loop μ-loop
-mul-row c = search needs
-
-array-copy-out-row : tie.Need-array-copy-out-row Inv-loop μ-loop
-array-copy-out-row c = search needs
-
-mul-store-row : tie.Need-mul-store-row Inv-loop μ-loop
-mul-store-row c = search needs
-
-mul-store-row-2 : tie.Need-mul-store-row-2 Inv-loop μ-loop
-mul-store-row-2 c = search needs
-
-add-store-row : tie.Need-add-store-row Inv-loop μ-loop
-add-store-row c = search needs
-
-add-store-row-2 : tie.Need-add-store-row-2 Inv-loop μ-loop
-add-store-row-2 c = search needs
-
 store-row-requires : tie.Need-store-row-requires Inv-loop μ-loop
 store-row-requires c κs = stored-room (c .before .before .before .before .before .pre) (c .before .before .loop-test .taken) (c .before .before .before .loop .inv .1)
-
-add-p : tie.Need-add-p Inv-loop μ-loop
-add-p c = search needs
-
-loop-less : tie.Need-loop-less Inv-loop μ-loop
-loop-less c = search needs
 
 loop-again : tie.Need-loop-again Inv-loop μ-loop
 loop-again c = (search needs, stored-more (c .before .before .before .before .before .before .loop .inv .1) (c .before .before .store-row .ensures))
@@ -58,15 +34,15 @@ store-matrix-spec =
     Inv-loop
     μ-loop
     loop-holds
-    mul-row
-    array-copy-out-row
-    mul-store-row
-    mul-store-row-2
-    add-store-row
-    add-store-row-2
+    (λ c. search needs)
+    (λ c. search needs)
+    (λ c. search needs)
+    (λ c. search needs)
+    (λ c. search needs)
+    (λ c. search needs)
     store-row-requires
-    add-p
-    loop-less
+    (λ c. search needs)
+    (λ c. search needs)
     loop-again
     same-length
     returns)

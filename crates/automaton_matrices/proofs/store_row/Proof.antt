@@ -16,20 +16,8 @@ abbrev μ-loop : tie.MeasureT-loop
 loop-holds : tie.Need-loop-holds Inv-loop μ-loop
 loop-holds c = (search needs, row-stored-none)
 
-array-read-scratch : tie.Need-array-read-scratch Inv-loop μ-loop
-array-read-scratch c = search needs
-
-add-scratch : tie.Need-add-scratch Inv-loop μ-loop
-add-scratch c = search needs
-
 slice-write-scratch : tie.Need-slice-write-scratch Inv-loop μ-loop
 slice-write-scratch c = omega (arith, c .before .loop .inv .1 .same-length)
-
-add-q : tie.Need-add-q Inv-loop μ-loop
-add-q c = search needs
-
-loop-less : tie.Need-loop-less Inv-loop μ-loop
-loop-less c = search needs
 
 loop-again : tie.Need-loop-again Inv-loop μ-loop
 loop-again c = (search needs, row-stored-more (c .before .loop .inv .1) (omega (arith, c .before .loop .inv .1 .same-length)))
@@ -47,11 +35,11 @@ store-row-spec =
     Inv-loop
     μ-loop
     loop-holds
-    array-read-scratch
-    add-scratch
+    (λ c. search needs)
+    (λ c. search needs)
     slice-write-scratch
-    add-q
-    loop-less
+    (λ c. search needs)
+    (λ c. search needs)
     loop-again
     same-length
     returns)

@@ -18,12 +18,6 @@ loop-holds c = closing-start (c .before .before .pre .0)
 add-products-requires : tie.Need-add-products-requires Inv-loop μ-loop
 add-products-requires c κs = (c .before .before .loop .inv .letters, (c .before .loop-test .taken, c .before .before .before .before .before .pre .1 .1))
 
-enum-known-c : tie.Need-enum-known-c Inv-loop μ-loop
-enum-known-c c = search needs
-
-enum-told : tie.Need-enum-told Inv-loop μ-loop
-enum-told c = search needs
-
 same-length : tie.Need-same-length Inv-loop μ-loop
 same-length c = closing-full (c .before .before .before .before .before .before .before .loop .inv) (c .before .before .before .before .add-products .ensures) (c .enum-told .given .1) .kept .same-length
 
@@ -53,8 +47,8 @@ close-list-spec =
     μ-loop
     loop-holds
     add-products-requires
-    enum-known-c
-    enum-told
+    (λ c. search needs)
+    (λ c. search needs)
     same-length
     returns
     add-from

@@ -4,26 +4,11 @@ use Rattle.automaton_matrix_list.proofs.Closing.{begun-list, begun-full
 use Rattle.automaton_matrix_list.proofs.list_matrices.Statement.{statement}
 use Rattle.automaton_matrix_list.proofs.list_matrices.Tie as tie
 
-add-letters-requires : tie.Need-add-letters-requires
-add-letters-requires c κs = search needs
-
-enum-known-c : tie.Need-enum-known-c
-enum-known-c c = search needs
-
-enum-told : tie.Need-enum-told
-enum-told c = search needs
-
-same-length : tie.Need-same-length
-same-length c = search needs
-
 returns : tie.Need-returns
 returns c = begun-full (c .before .before .before .before .before .before .before .before .before .pre .0) (c .before .before .before .before .add-letters .ensures) (c .enum-told .given .1)
 
 close-list-requires : tie.Need-close-list-requires
 close-list-requires c κs = (begun-list (c .before .before .before .before .before .before .before .before .before .before .before .pre .0) (c .before .before .before .before .before .before .add-letters .ensures) (c .before .before .c .given .1), (c .before .before .before .before .before .before .before .before .before .before .before .pre .1 .0, c .before .before .before .before .before .before .before .before .before .before .before .pre .1 .1))
-
-same-length-2 : tie.Need-same-length-2
-same-length-2 c = search needs
 
 returns-2 : tie.Need-returns-2
 returns-2 c = begun-done (c .before .before .before .before .before .before .before .before .before .before .before .before .before .before .pre .0) (c .before .before .before .before .before .before .before .before .before .add-letters .ensures) (c .before .before .before .before .before .c .given .1) (c .before .before .close-list .ensures)
@@ -32,11 +17,11 @@ pub list-matrices-spec : {M : Type 1} → statement M
 list-matrices-spec =
     tie.close
     (tie.spec
-    add-letters-requires
-    enum-known-c
-    enum-told
-    same-length
+    (λ c κs. search needs)
+    (λ c. search needs)
+    (λ c. search needs)
+    (λ c. search needs)
     returns
     close-list-requires
-    same-length-2
+    (λ c. search needs)
     returns-2)

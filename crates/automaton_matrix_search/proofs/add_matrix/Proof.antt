@@ -4,29 +4,11 @@ use Rattle.automaton_matrix_search.proofs.Adding.{add-there, add-full, 
 use Rattle.automaton_matrix_search.proofs.add_matrix.Statement.{statement}
 use Rattle.automaton_matrix_search.proofs.add_matrix.Tie as tie
 
-find-matrix-requires : tie.Need-find-matrix-requires
-find-matrix-requires c κs = search needs
-
-same-length : tie.Need-same-length
-same-length c = search needs
-
 returns : tie.Need-returns
 returns c = add-there (c .before .before .before .before .pre .0) (c .before .find-matrix .ensures) (c .if1 .taken)
 
-same-length-2 : tie.Need-same-length-2
-same-length-2 c = search needs
-
 returns-2 : tie.Need-returns-2
 returns-2 c = add-full (c .before .before .before .before .before .pre .0) (c .before .before .find-matrix .ensures) (c .before .if1 .left) (c .if2 .taken)
-
-store-matrix-requires : tie.Need-store-matrix-requires
-store-matrix-requires c κs = search needs
-
-add-t12 : tie.Need-add-t12
-add-t12 c = search needs
-
-same-length-3 : tie.Need-same-length-3
-same-length-3 c = search needs
 
 returns-3 : tie.Need-returns-3
 returns-3 c = add-new (c .before .before .before .before .before .before .before .before .before .pre .0) (c .before .before .before .before .before .before .find-matrix .ensures) (c .before .before .before .before .before .if1 .left) (c .before .before .before .before .if2 .left) (c .before .before .before .before .before .before .before .before .before .pre .1) (c .before .before .store-matrix .ensures)
@@ -35,12 +17,12 @@ pub add-matrix-spec : {M : Type 1} → statement M
 add-matrix-spec =
     tie.close
     (tie.spec
-    find-matrix-requires
-    same-length
+    (λ c κs. search needs)
+    (λ c. search needs)
     returns
-    same-length-2
+    (λ c. search needs)
     returns-2
-    store-matrix-requires
-    add-t12
-    same-length-3
+    (λ c κs. search needs)
+    (λ c. search needs)
+    (λ c. search needs)
     returns-3)

@@ -20,12 +20,6 @@ same-stored-requires c κs = (search needs, list-place (c .before .before .befor
 returns : tie.Need-returns Inv-loop μ-loop
 returns c = found-here (c .before .before .before .before .loop .inv) (c .before .before .before .loop-test .taken) (c .before .same-stored .ensures) (c .if1 .taken)
 
-add-i : tie.Need-add-i Inv-loop μ-loop
-add-i c = search needs
-
-loop-less : tie.Need-loop-less Inv-loop μ-loop
-loop-less c = search needs
-
 loop-again : tie.Need-loop-again Inv-loop μ-loop
 loop-again c = unfound-more (c .before .before .before .before .loop .inv) (c .before .before .before .loop-test .taken) (c .before .same-stored .ensures) (c .if1 .left)
 
@@ -41,7 +35,7 @@ find-matrix-spec =
     loop-holds
     same-stored-requires
     returns
-    add-i
-    loop-less
+    (λ c. search needs)
+    (λ c. search needs)
     loop-again
     returns-2)

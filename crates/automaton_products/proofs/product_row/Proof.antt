@@ -22,48 +22,12 @@ abbrev μ-loop2 : tie.MeasureT-loop2
 loop-holds : tie.Need-loop-holds Inv-loop2 μ-loop2 Inv-loop μ-loop
 loop-holds c = no-state
 
-element-copy-out-x : tie.Need-element-copy-out-x Inv-loop2 μ-loop2 Inv-loop μ-loop
-element-copy-out-x c = search needs
-
 loop2-holds : tie.Need-loop2-holds Inv-loop2 μ-loop2 Inv-loop μ-loop
 loop2-holds c = state-begun (c .before .before .before .loop .inv)
-
-mul-y : tie.Need-mul-y Inv-loop2 μ-loop2 Inv-loop μ-loop
-mul-y c = search needs
-
-index-1-y : tie.Need-index-1-y Inv-loop2 μ-loop2 Inv-loop μ-loop
-index-1-y c = search needs
-
-index-2-y : tie.Need-index-2-y Inv-loop2 μ-loop2 Inv-loop μ-loop
-index-2-y c = search needs
-
-through-requires : tie.Need-through-requires Inv-loop2 μ-loop2 Inv-loop μ-loop
-through-requires c κs = search needs
-
-array-read-best : tie.Need-array-read-best Inv-loop2 μ-loop2 Inv-loop μ-loop
-array-read-best c = search needs
-
-greater-requires : tie.Need-greater-requires Inv-loop2 μ-loop2 Inv-loop μ-loop
-greater-requires c κs = search needs
-
-array-write-out : tie.Need-array-write-out Inv-loop2 μ-loop2 Inv-loop μ-loop
-array-write-out c = search needs
-
-add-q : tie.Need-add-q Inv-loop2 μ-loop2 Inv-loop μ-loop
-add-q c = search needs
-
-loop2-less : tie.Need-loop2-less Inv-loop2 μ-loop2 Inv-loop μ-loop
-loop2-less c = search needs
 
 loop2-again : tie.Need-loop2-again Inv-loop2 μ-loop2 Inv-loop μ-loop
 loop2-again c =
     state-more (c .before .before .before .before .loop2 .inv) (search needs) (search needs) (c .before .through .ensures) (c .greater .ensures)
-
-add-r : tie.Need-add-r Inv-loop2 μ-loop2 Inv-loop μ-loop
-add-r c = search needs
-
-loop-less : tie.Need-loop-less Inv-loop2 μ-loop2 Inv-loop μ-loop
-loop-less c = search needs
 
 loop-again : tie.Need-loop-again Inv-loop2 μ-loop2 Inv-loop μ-loop
 loop-again c =
@@ -83,19 +47,19 @@ product-row-spec =
     Inv-loop
     μ-loop
     loop-holds
-    element-copy-out-x
+    (λ c. search needs)
     loop2-holds
-    mul-y
-    index-1-y
-    index-2-y
-    through-requires
-    array-read-best
-    greater-requires
-    array-write-out
-    add-q
-    loop2-less
+    (λ c. search needs)
+    (λ c. search needs)
+    (λ c. search needs)
+    (λ c κs. search needs)
+    (λ c. search needs)
+    (λ c κs. search needs)
+    (λ c. search needs)
+    (λ c. search needs)
+    (λ c. search needs)
     loop2-again
-    add-r
-    loop-less
+    (λ c. search needs)
+    (λ c. search needs)
     loop-again
     returns)

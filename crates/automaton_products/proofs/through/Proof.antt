@@ -10,11 +10,8 @@ returns c = through-none-left _ _ (c .if1 .taken)
 returns-2 : tie.Need-returns-2
 returns-2 c = through-none-right _ _ (c .if2 .taken)
 
-greater-requires : tie.Need-greater-requires
-greater-requires c κs = search needs
-
 returns-3 : tie.Need-returns-3
 returns-3 c = through-both _ _ (c .before .before .if1 .left) (c .before .if2 .left) (c .greater .ensures)
 
 pub through-spec : {M : Type 1} → statement M
-through-spec = tie.close (tie.spec returns returns-2 greater-requires returns-3)
+through-spec = tie.close (tie.spec returns returns-2 (λ c κs. search needs) returns-3)

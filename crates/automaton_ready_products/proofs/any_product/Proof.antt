@@ -10,11 +10,5 @@ ready-product-requires c κs = two-states (c .before .if1 .taken) (c .before .be
 returns : tie.Need-returns
 returns c = two-product (c .before .before .if1 .taken) (c .ready-product .ensures)
 
-matrix-product-requires : tie.Need-matrix-product-requires
-matrix-product-requires c κs = search needs
-
-returns-2 : tie.Need-returns-2
-returns-2 c = search needs
-
 pub any-product-spec : {M : Type 1} → statement M
-any-product-spec = tie.close (tie.spec ready-product-requires returns matrix-product-requires returns-2)
+any-product-spec = tie.close (tie.spec ready-product-requires returns (λ c κs. search needs) (λ c. search needs))

@@ -7,30 +7,6 @@ use Rattle.automaton_ready_products.proofs.Ready.{four-entries}
 use Rattle.automaton_ready_products.proofs.matrix_number.Statement.{statement}
 use Rattle.automaton_ready_products.proofs.matrix_number.Tie as tie
 
-index-1-a : tie.Need-index-1-a
-index-1-a c = search needs
-
-index-2-a : tie.Need-index-2-a
-index-2-a c = search needs
-
-index-1-b : tie.Need-index-1-b
-index-1-b c = search needs
-
-index-2-b : tie.Need-index-2-b
-index-2-b c = search needs
-
-index-1-c : tie.Need-index-1-c
-index-1-c c = search needs
-
-index-2-c : tie.Need-index-2-c
-index-2-c c = search needs
-
-index-1-d : tie.Need-index-1-d
-index-1-d c = search needs
-
-index-2-d : tie.Need-index-2-d
-index-2-d c = search needs
-
 mul-result : tie.Need-mul-result
 mul-result c = let f = four-entries (c .before .before .before .before .pre) in record { fits = omega (arith, f .e00, f .e01, f .e10, f .e11) }
 
@@ -60,14 +36,14 @@ pub matrix-number-spec : {M : Type 1} → statement M
 matrix-number-spec =
     tie.close
     (tie.spec
-    index-1-a
-    index-2-a
-    index-1-b
-    index-2-b
-    index-1-c
-    index-2-c
-    index-1-d
-    index-2-d
+    (λ c. search needs)
+    (λ c. search needs)
+    (λ c. search needs)
+    (λ c. search needs)
+    (λ c. search needs)
+    (λ c. search needs)
+    (λ c. search needs)
+    (λ c. search needs)
     mul-result
     mul-result-2
     add-result

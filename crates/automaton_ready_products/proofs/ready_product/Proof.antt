@@ -5,12 +5,6 @@ use Rattle.automaton_ready_products.proofs.Ready.{shape-below, ready-is
 use Rattle.automaton_ready_products.proofs.ready_product.Statement.{statement}
 use Rattle.automaton_ready_products.proofs.ready_product.Tie as tie
 
-matrix-number-requires : tie.Need-matrix-number-requires
-matrix-number-requires c κs = search needs
-
-matrix-number-requires-2 : tie.Need-matrix-number-requires-2
-matrix-number-requires-2 c κs = search needs
-
 -- whichever number has the greater weight, the place is below 81 * 81
 mul-x : tie.Need-mul-x
 mul-x c =
@@ -28,9 +22,6 @@ shared-slice-read-x c =
     omega
     (arith, c .before .before .matrix-number .ensures, c .before .matrix-number2 .ensures, shape-below (start .pre .0 .0), shape-below (start .pre .0 .1), start .pre .1 .entries)
 
-numbered-matrix-requires : tie.Need-numbered-matrix-requires
-numbered-matrix-requires c κs = search needs
-
 returns : tie.Need-returns
 returns c =
     let start = c .before .before .before .before .before in
@@ -41,10 +32,10 @@ pub ready-product-spec : {M : Type 1} → statement M
 ready-product-spec =
     tie.close
     (tie.spec
-    matrix-number-requires
-    matrix-number-requires-2
+    (λ c κs. search needs)
+    (λ c κs. search needs)
     mul-x
     add-x
     shared-slice-read-x
-    numbered-matrix-requires
+    (λ c κs. search needs)
     returns)

@@ -6,11 +6,8 @@ use Rattle.sections.proofs.Sectioned.{by-count}
 use Rattle.automaton_sections.proofs.letters_section.Statement.{statement}
 use Rattle.automaton_sections.proofs.letters_section.Tie as tie
 
-byte-count-requires : tie.Need-byte-count-requires
-byte-count-requires c κs = search needs
-
 returns : tie.Need-returns
 returns c = by-count lettersSection (c .before .before .args .at) (c .before .before .args .rest .now) (λ k. refl) (c .byte-count .result) (c .byte-count .ensures)
 
 pub letters-section-spec : {M : Type 1} → statement M
-letters-section-spec = tie.close (tie.spec byte-count-requires returns)
+letters-section-spec = tie.close (tie.spec (λ c κs. search needs) returns)

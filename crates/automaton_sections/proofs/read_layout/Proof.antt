@@ -63,15 +63,6 @@ after-letters : (c : tie.After-known-told3)
     (1 + mOf (before3 c) + 1) (restFrom (restOf (before3 c)) 1)
 after-letters c = handed-next (after-states (before3 c)) (letters c) refl
 
-states-section-requires : tie.Need-states-section-requires
-states-section-requires c κs = search needs
-
-enum-known-m : tie.Need-enum-known-m
-enum-known-m c = search needs
-
-enum-known-refusal : tie.Need-enum-known-refusal
-enum-known-refusal c = search needs
-
 returns : tie.Need-returns
 returns c = let call = c .before .before .before .states-section in handed-refused (whole (c .before .before .before .before .before .args .bytes .now)) (call .result) (call .ensures) (c .before .refusal .given .1)
 
@@ -84,17 +75,8 @@ sub-rest c = states-long c
 part-rest-start : tie.Need-part-rest-start
 part-rest-start c = omega (arith, states-long c)
 
-part-rest-end : tie.Need-part-rest-end
-part-rest-end c = search needs
-
 letters-section-requires : tie.Need-letters-section-requires
 letters-section-requires c κs = omega (arith, part-length (after-states (c .before)))
-
-enum-known-k : tie.Need-enum-known-k
-enum-known-k c = search needs
-
-enum-known-refusal-2 : tie.Need-enum-known-refusal-2
-enum-known-refusal-2 c = search needs
 
 returns-2 : tie.Need-returns-2
 returns-2 c = let call = c .before .before .before .letters-section in handed-refused (after-states (c .before .before .before .before .before)) (call .result) (call .ensures) (c .before .refusal2 .given .1)
@@ -108,17 +90,8 @@ sub-last c = letters-long c
 part-last-start : tie.Need-part-last-start
 part-last-start c = omega (arith, letters-long c)
 
-part-last-end : tie.Need-part-last-end
-part-last-end c = search needs
-
 transitions-section-requires : tie.Need-transitions-section-requires
 transitions-section-requires c κs = omega (arith, part-length (after-letters (c .before)))
-
-enum-known-c : tie.Need-enum-known-c
-enum-known-c c = search needs
-
-enum-known-refusal-3 : tie.Need-enum-known-refusal-3
-enum-known-refusal-3 c = search needs
 
 -- all three sections pass
 returns-3 : tie.Need-returns-3
@@ -139,24 +112,24 @@ pub read-layout-spec : {M : Type 1} → statement M
 read-layout-spec =
     tie.close
     (tie.spec
-    states-section-requires
-    enum-known-m
-    enum-known-refusal
+    (λ c κs. search needs)
+    (λ c. search needs)
+    (λ c. search needs)
     returns
     add-letters-at
     sub-rest
     part-rest-start
-    part-rest-end
+    (λ c. search needs)
     letters-section-requires
-    enum-known-k
-    enum-known-refusal-2
+    (λ c. search needs)
+    (λ c. search needs)
     returns-2
     add-transitions-at
     sub-last
     part-last-start
-    part-last-end
+    (λ c. search needs)
     transitions-section-requires
-    enum-known-c
-    enum-known-refusal-3
+    (λ c. search needs)
+    (λ c. search needs)
     returns-3
     returns-4)

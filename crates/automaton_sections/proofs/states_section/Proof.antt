@@ -8,12 +8,6 @@ use Rattle.formats.specs.AutomatonFile.{statesSection}
 use Rattle.automaton_sections.proofs.states_section.Statement.{statement}
 use Rattle.automaton_sections.proofs.states_section.Tie as tie
 
-byte-count-requires : tie.Need-byte-count-requires
-byte-count-requires c κs = search needs
-
-enum-known-m : tie.Need-enum-known-m
-enum-known-m c = search needs
-
 -- the count that was read
 good : (c : tie.After-known-told) → CountGood one-byte 1 6 (c .before .before .before .before .before .args .bytes .now) (c .before .m .given .0 .0)
 good c =
@@ -23,9 +17,6 @@ good c =
 
 entries-requires : tie.Need-entries-requires
 entries-requires c κs = omega (arith, good c .within)
-
-enum-known-refusal : tie.Need-enum-known-refusal
-enum-known-refusal c = search needs
 
 returns : tie.Need-returns
 returns c = by-entries statesSection 0 (c .before .before .before .before .before .before .args .bytes .now) (good (c .before)) (c .entries .result) (c .entries .ensures)
@@ -40,9 +31,9 @@ pub states-section-spec : {M : Type 1} → statement M
 states-section-spec =
     tie.close
     (tie.spec
-    byte-count-requires
-    enum-known-m
+    (λ c κs. search needs)
+    (λ c. search needs)
     entries-requires
-    enum-known-refusal
+    (λ c. search needs)
     returns
     returns-2)

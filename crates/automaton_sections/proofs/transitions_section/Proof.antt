@@ -9,12 +9,6 @@ use Rattle.automaton_sections.proofs.TripleBytes.{triple-ranges}
 use Rattle.automaton_sections.proofs.transitions_section.Statement.{statement}
 use Rattle.automaton_sections.proofs.transitions_section.Tie as tie
 
-wide-count-requires : tie.Need-wide-count-requires
-wide-count-requires c κs = search needs
-
-enum-known-c : tie.Need-enum-known-c
-enum-known-c c = search needs
-
 -- the count that was read
 good : (c : tie.After-known-told) → CountGood two-byte 0 576 (c .before .before .before .before .before .args .rest .now) (c .before .c .given .0 .0)
 good c =
@@ -24,9 +18,6 @@ good c =
 
 triples-requires : tie.Need-triples-requires
 triples-requires c κs = (c .before .before .before .before .before .pre, omega (arith, good c .within))
-
-enum-known-refusal : tie.Need-enum-known-refusal
-enum-known-refusal c = search needs
 
 returns : tie.Need-returns
 returns c =
@@ -43,9 +34,9 @@ pub transitions-section-spec : {M : Type 1} → statement M
 transitions-section-spec =
     tie.close
     (tie.spec
-    wide-count-requires
-    enum-known-c
+    (λ c κs. search needs)
+    (λ c. search needs)
     triples-requires
-    enum-known-refusal
+    (λ c. search needs)
     returns
     returns-2)

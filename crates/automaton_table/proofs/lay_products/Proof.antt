@@ -20,12 +20,6 @@ loop-holds c = (rows-none _ _ _ _, omega arith)
 lay-products-of-requires : tie.Need-lay-products-of-requires Inv-loop μ-loop
 lay-products-of-requires c κs = (steps-rows-now (c .before .before .before .before .pre) (c .before .before .loop .inv .0) (c .before .loop-test .taken), c .before .loop-test .taken)
 
-add-i : tie.Need-add-i Inv-loop μ-loop
-add-i c = omega arith
-
-loop-less : tie.Need-loop-less Inv-loop μ-loop
-loop-less c = omega arith
-
 loop-again : tie.Need-loop-again Inv-loop μ-loop
 loop-again c = (products-more (c .before .before .before .before .before .before .before .pre) (c .before .before .before .before .before .loop .inv .0) (c .before .before .before .before .loop-test .taken) (c .before .before .lay-products-of .ensures), omega arith)
 
@@ -43,8 +37,8 @@ lay-products-spec =
     μ-loop
     loop-holds
     lay-products-of-requires
-    add-i
-    loop-less
+    (λ c. omega arith)
+    (λ c. omega arith)
     loop-again
     same-length
     returns)

@@ -6,29 +6,11 @@ use Rattle.automaton_table.proofs.Numbers.{letter-small, letter-product
 use Rattle.automaton_table.proofs.product_number.Statement.{statement}
 use Rattle.automaton_table.proofs.product_number.Tie as tie
 
-add-parent : tie.Need-add-parent
-add-parent c = search needs
-
-shared-slice-read-parent : tie.Need-shared-slice-read-parent
-shared-slice-read-parent c = search needs
-
 cast-parent : tie.Need-cast-parent
 cast-parent c = fits-8-64 (c .shared-slice-known .given _)
 
-add-letter : tie.Need-add-letter
-add-letter c = search needs
-
-shared-slice-read-letter : tie.Need-shared-slice-read-letter
-shared-slice-read-letter c = search needs
-
 cast-letter : tie.Need-cast-letter
 cast-letter c = fits-8-64 (c .shared-slice-known2 .given _)
-
-add-result : tie.Need-add-result
-add-result c = search needs
-
-mul-result : tie.Need-mul-result
-mul-result c = search needs
 
 add-result-2 : tie.Need-add-result-2
 add-result-2 c = omega (arith, letter-small (c .before .before .before .pre .0) (c .before .before .before .pre .1 .0 .0) (c .before .before .before .pre .1 .0 .1), c .before .before .before .pre .0 .few, c .before .before .before .pre .0 .room)
@@ -47,9 +29,6 @@ mul-before c = omega (arith, before-place (c .before .before .before .pre .0) (c
 
 add-before : tie.Need-add-before
 add-before c = omega (arith, before-place (c .before .before .before .pre .0) (c .before .before .before .pre .1 .0 .0) (c .before .before .before .pre .1 .0 .1) (c .before .before .before .pre .1 .1) (c .if1 .left))
-
-sub-before : tie.Need-sub-before
-sub-before c = search needs
 
 add-before-2 : tie.Need-add-before-2
 add-before-2 c = omega (arith, before-place (c .before .before .before .pre .0) (c .before .before .before .pre .1 .0 .0) (c .before .before .before .pre .1 .0 .1) (c .before .before .before .pre .1 .1) (c .if1 .left))
@@ -82,21 +61,21 @@ pub product-number-spec : {M : Type 1} → statement M
 product-number-spec =
     tie.close
     (tie.spec
-    add-parent
-    shared-slice-read-parent
+    (λ c. search needs)
+    (λ c. search needs)
     cast-parent
-    add-letter
-    shared-slice-read-letter
+    (λ c. search needs)
+    (λ c. search needs)
     cast-letter
-    add-result
-    mul-result
+    (λ c. search needs)
+    (λ c. search needs)
     add-result-2
     add-result-3
     shared-slice-read-result
     returns
     mul-before
     add-before
-    sub-before
+    (λ c. search needs)
     add-before-2
     shared-slice-read-before
     cast-before

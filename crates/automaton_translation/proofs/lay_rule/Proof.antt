@@ -11,11 +11,8 @@ lay-products-requires c κs = step-place (c .before .before .before .pre .0)
 lay-marks-requires : tie.Need-lay-marks-requires
 lay-marks-requires c κs = marks-next (c .before .before .before .before .before .before .before .pre .0) (c .before .before .before .lay-products .ensures) (c .before .before .before .before .before .before .before .pre .1)
 
-same-length : tie.Need-same-length
-same-length c = search needs
-
 returns : tie.Need-returns
 returns c = rule-laid (c .before .before .before .before .before .before .before .before .before .before .pre .0) (c .before .before .before .before .before .before .lay-products .ensures) (c .before .before .lay-marks .ensures)
 
 pub lay-rule-spec : {M : Type 1} → statement M
-lay-rule-spec = tie.close (tie.spec lay-products-requires lay-marks-requires same-length returns)
+lay-rule-spec = tie.close (tie.spec lay-products-requires lay-marks-requires (λ c. search needs) returns)

@@ -12,23 +12,8 @@ sub-kinds c = read-some (c .before .before .before .before .pre .0)
 part-kinds-start : tie.Need-part-kinds-start
 part-kinds-start c = read-some (c .before .before .before .before .pre .0)
 
-part-kinds-end : tie.Need-part-kinds-end
-part-kinds-end c = search needs
-
 list-matrices-requires : tie.Need-list-matrices-requires
 list-matrices-requires c κs = (read-place (c .before .before .before .before .before .before .pre .0), (read-letters (c .before .before .before .before .before .before .pre .0), c .before .before .before .before .before .before .pre .1))
-
-enum-known-c : tie.Need-enum-known-c
-enum-known-c c = search needs
-
-enum-told : tie.Need-enum-told
-enum-told c = search needs
-
-zero-requires : tie.Need-zero-requires
-zero-requires c κs = search needs
-
-same-length : tie.Need-same-length
-same-length c = search needs
 
 returns : tie.Need-returns
 returns c = made-refused (c .before .before .before .before .before .before .before .before .before .before .before .before .before .before .before .pre .0) (c .before .before .before .before .before .before .before .before .list-matrices .result) (c .before .before .before .before .before .before .before .before .list-matrices .ensures) (c .before .before .before .before .enum-told .given .1) (c .before .before .zero .ensures)
@@ -39,15 +24,6 @@ lay-rule-requires c κs = lay-place (c .before .before .before .before .before .
 write-laid-requires : tie.Need-write-laid-requires
 write-laid-requires c κs = write-place (c .before .before .before .before .before .before .before .before .before .before .before .before .before .before .before .before .before .before .pre .0) (c .before .before .before .before .before .before .before .before .before .before .before .list-matrices .result) (c .before .before .before .before .before .before .before .before .before .before .before .list-matrices .ensures) (c .before .before .before .before .before .before .before .c .given .1) (c .before .before .before .before .lay-rule .ensures)
 
-zero-requires-2 : tie.Need-zero-requires-2
-zero-requires-2 c κs = search needs
-
-same-length-2 : tie.Need-same-length-2
-same-length-2 c = search needs
-
-same-length-3 : tie.Need-same-length-3
-same-length-3 c = search needs
-
 returns-2 : tie.Need-returns-2
 returns-2 c = rule-made (c .before .before .before .before .before .before .before .before .before .before .before .before .before .before .before .before .before .before .before .before .before .before .before .before .before .pre .0) (c .before .before .before .before .before .before .before .before .before .before .before .before .before .before .before .before .before .before .list-matrices .result) (c .before .before .before .before .before .before .before .before .before .before .before .before .before .before .before .before .before .before .list-matrices .ensures) (c .before .before .before .before .before .before .before .before .before .before .before .before .before .before .c .given .1) (c .before .before .before .before .before .before .before .before .before .before .before .lay-rule .ensures) (c .before .before .before .before .before .before .write-laid .ensures) (c .before .before .zero2 .ensures)
 
@@ -57,16 +33,16 @@ make-rule-spec =
     (tie.spec
     sub-kinds
     part-kinds-start
-    part-kinds-end
+    (λ c. search needs)
     list-matrices-requires
-    enum-known-c
-    enum-told
-    zero-requires
-    same-length
+    (λ c. search needs)
+    (λ c. search needs)
+    (λ c κs. search needs)
+    (λ c. search needs)
     returns
     lay-rule-requires
     write-laid-requires
-    zero-requires-2
-    same-length-2
-    same-length-3
+    (λ c κs. search needs)
+    (λ c. search needs)
+    (λ c. search needs)
     returns-2)

@@ -5,32 +5,11 @@ use Rattle.board.proofs.Answered.{admit-refused, admit-asked}
 use Rattle.board.proofs.admit.Statement.{statement}
 use Rattle.board.proofs.admit.Tie as tie
 
-visit-all-requires : tie.Need-visit-all-requires
-visit-all-requires c κs = search needs
-
-refuses-requires : tie.Need-refuses-requires
-refuses-requires c κs = search needs
-
-same-length : tie.Need-same-length
-same-length c = search needs
-
 returns : tie.Need-returns
 returns c =
     let asked = c .before .refuses in
     let pass = c .before .before .before .before .visit-all in
     (admit-refused (pass .ensures .0) (said-refuses _ (asked .result) (asked .ensures) (c .if1 .taken)), pass .ensures .1)
-
-fresh-requires : tie.Need-fresh-requires
-fresh-requires c κs = search needs
-
-advance-requires : tie.Need-advance-requires
-advance-requires c κs = search needs
-
-with-answer-requires : tie.Need-with-answer-requires
-with-answer-requires c κs = search needs
-
-same-length-2 : tie.Need-same-length-2
-same-length-2 c = search needs
 
 returns-2 : tie.Need-returns-2
 returns-2 c =
@@ -46,12 +25,12 @@ pub admit-spec : {M : Type 1} → statement M
 admit-spec =
     tie.close
     (tie.spec
-    visit-all-requires
-    refuses-requires
-    same-length
+    (λ c κs. search needs)
+    (λ c κs. search needs)
+    (λ c. search needs)
     returns
-    fresh-requires
-    advance-requires
-    with-answer-requires
-    same-length-2
+    (λ c κs. search needs)
+    (λ c κs. search needs)
+    (λ c κs. search needs)
+    (λ c. search needs)
     returns-2)

@@ -54,28 +54,10 @@ chosen c = admitting c .before .before .before
 abbrev posted : Board → Posted
 posted b = record { board = b; notice = Done }
 
-short-requires : tie.Need-short-requires
-short-requires c κs = search needs
-
-refuse-requires : tie.Need-refuse-requires
-refuse-requires c κs = search needs
-
 returns : tie.Need-returns
 returns c =
     let s = c .before .before in
     enter-short (said-short (now (begin s .args .files)) (now (begin s .args .scratch)) (s .short .result) (s .short .ensures) (c .before .if1 .taken)) (c .refuse .ensures) refl
-
-clear-requires : tie.Need-clear-requires
-clear-requires c κs = search needs
-
-free-requires : tie.Need-free-requires
-free-requires c κs = search needs
-
-refuse-requires-2 : tie.Need-refuse-requires-2
-refuse-requires-2 c κs = search needs
-
-same-length : tie.Need-same-length
-same-length c = search needs
 
 returns-2 : tie.Need-returns-2
 returns-2 c =
@@ -88,15 +70,6 @@ admit-requires : tie.Need-admit-requires
 admit-requires c κs =
     let flag = c .before .before .before in
     (rooms (long flag) .0, filled-cleared (now (start flag .args .scratch)) _ (rooms (long flag) .1) (cleared flag .clear .ensures))
-
-refuses-requires : tie.Need-refuses-requires
-refuses-requires c κs = search needs
-
-same-length-2 : tie.Need-same-length-2
-same-length-2 c = search needs
-
-same-length-3 : tie.Need-same-length-3
-same-length-3 c = search needs
 
 returns-3 : tie.Need-returns-3
 returns-3 c =
@@ -115,12 +88,6 @@ put-requires c κs =
 with-entered-requires : tie.Need-with-entered-requires
 with-entered-requires c κs = is-free (chosen (c .before .before .before .before .before)) .0
 
-same-length-4 : tie.Need-same-length-4
-same-length-4 c = search needs
-
-same-length-5 : tie.Need-same-length-5
-same-length-5 c = search needs
-
 returns-4 : tie.Need-returns-4
 returns-4 c =
     let copied = c .before .before .before in
@@ -135,21 +102,21 @@ pub enter-spec : {M : Type 1} → statement M
 enter-spec =
     tie.close
     (tie.spec
-    short-requires
-    refuse-requires
+    (λ c κs. search needs)
+    (λ c κs. search needs)
     returns
-    clear-requires
-    free-requires
-    refuse-requires-2
-    same-length
+    (λ c κs. search needs)
+    (λ c κs. search needs)
+    (λ c κs. search needs)
+    (λ c. search needs)
     returns-2
     admit-requires
-    refuses-requires
-    same-length-2
-    same-length-3
+    (λ c κs. search needs)
+    (λ c. search needs)
+    (λ c. search needs)
     returns-3
     put-requires
     with-entered-requires
-    same-length-4
-    same-length-5
+    (λ c. search needs)
+    (λ c. search needs)
     returns-4)

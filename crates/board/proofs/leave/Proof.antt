@@ -37,28 +37,10 @@ present c =
     let a = begin (long (c .before) .before) .args in
     said-present (a .board) (a .name) (c .before .there .result) (c .before .there .ensures) (not-false _ (c .if2 .left))
 
-short-requires : tie.Need-short-requires
-short-requires c κs = search needs
-
-refuse-requires : tie.Need-refuse-requires
-refuse-requires c κs = search needs
-
 returns : tie.Need-returns
 returns c =
     let s = c .before .before in
     leave-call (call-short (said-short (now (begin s .args .files)) (now (begin s .args .scratch)) (s .short .result) (s .short .ensures) (c .before .if1 .taken)) (c .refuse .ensures) refl)
-
-clear-requires : tie.Need-clear-requires
-clear-requires c κs = search needs
-
-there-requires : tie.Need-there-requires
-there-requires c κs = search needs
-
-refuse-requires-2 : tie.Need-refuse-requires-2
-refuse-requires-2 c κs = search needs
-
-same-length : tie.Need-same-length
-same-length c = search needs
 
 returns-2 : tie.Need-returns-2
 returns-2 c =
@@ -76,9 +58,6 @@ visit-all-requires c κs =
 after-leaving-requires : tie.Need-after-leaving-requires
 after-leaving-requires c κs = present (c .before .before .before .before) .0
 
-same-length-2 : tie.Need-same-length-2
-same-length-2 c = search needs
-
 returns-3 : tie.Need-returns-3
 returns-3 c =
     let pass = c .before .before .before in
@@ -93,15 +72,15 @@ pub leave-spec : {M : Type 1} → statement M
 leave-spec =
     tie.close
     (tie.spec
-    short-requires
-    refuse-requires
+    (λ c κs. search needs)
+    (λ c κs. search needs)
     returns
-    clear-requires
-    there-requires
-    refuse-requires-2
-    same-length
+    (λ c κs. search needs)
+    (λ c κs. search needs)
+    (λ c κs. search needs)
+    (λ c. search needs)
     returns-2
     visit-all-requires
     after-leaving-requires
-    same-length-2
+    (λ c. search needs)
     returns-3)

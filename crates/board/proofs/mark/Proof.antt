@@ -4,14 +4,8 @@ use Rattle.board.proofs.Answered.{mark-call}
 use Rattle.board.proofs.mark.Statement.{statement}
 use Rattle.board.proofs.mark.Tie as tie
 
-move-all-requires : tie.Need-move-all-requires
-move-all-requires c κs = search needs
-
-same-length : tie.Need-same-length
-same-length c = search needs
-
 returns : tie.Need-returns
 returns c = mark-call (c .before .before .move-all .ensures)
 
 pub mark-spec : {M : Type 1} → statement M
-mark-spec = tie.close (tie.spec move-all-requires same-length returns)
+mark-spec = tie.close (tie.spec (λ c κs. search needs) (λ c. search needs) returns)

@@ -22,31 +22,16 @@ begin s = s .before .before .before
 rooms : (c : tie.Else1) → (filesSize ≤ length (now (begin (c .before) .args .files))) × (scratchSize ≤ length (now (begin (c .before) .args .scratch)))
 rooms c = said-long (now (begin (c .before) .args .files)) (now (begin (c .before) .args .scratch)) (c .before .short .result) (c .before .short .ensures) (c .if1 .left)
 
-short-requires : tie.Need-short-requires
-short-requires c κs = search needs
-
-refuse-requires : tie.Need-refuse-requires
-refuse-requires c κs = search needs
-
 returns : tie.Need-returns
 returns c =
     let s = c .before .before in
     call-short (said-short (now (begin s .args .files)) (now (begin s .args .scratch)) (s .short .result) (s .short .ensures) (c .before .if1 .taken)) (c .refuse .ensures) refl
-
-clear-requires : tie.Need-clear-requires
-clear-requires c κs = search needs
 
 visit-all-requires : tie.Need-visit-all-requires
 visit-all-requires c κs =
     let cleared = c .before .before .before in
     let long = cleared .before .before in
     (rooms long .0, filled-cleared (now (begin (long .before) .args .scratch)) _ (rooms long .1) (cleared .clear .ensures))
-
-after-step-requires : tie.Need-after-step-requires
-after-step-requires c κs = search needs
-
-same-length : tie.Need-same-length
-same-length c = search needs
 
 returns-2 : tie.Need-returns-2
 returns-2 c =
@@ -60,11 +45,11 @@ pub move-all-spec : {M : Type 1} → statement M
 move-all-spec =
     tie.close
     (tie.spec
-    short-requires
-    refuse-requires
+    (λ c κs. search needs)
+    (λ c κs. search needs)
     returns
-    clear-requires
+    (λ c κs. search needs)
     visit-all-requires
-    after-step-requires
-    same-length
+    (λ c κs. search needs)
+    (λ c. search needs)
     returns-2)

@@ -6,16 +6,10 @@ use Rattle.board_answers.specs.Answers.{pass-refuses, pass-done}
 use Rattle.board_answers.proofs.after_leaving.Statement.{statement}
 use Rattle.board_answers.proofs.after_leaving.Tie as tie
 
-refuses-requires : tie.Need-refuses-requires
-refuses-requires c κs = search needs
-
 returns : tie.Need-returns
 returns c =
     let asked = c .before .refuses in
     pass-refuses (said-refuses _ (asked .result) (asked .ensures) (c .if1 .taken)) refl
-
-element-write-next : tie.Need-element-write-next
-element-write-next c = search needs
 
 returns-2 : tie.Need-returns-2
 returns-2 c =
@@ -23,4 +17,4 @@ returns-2 c =
     pass-done (said-done _ (asked .result) (asked .ensures) (c .if1 .left)) refl
 
 pub after-leaving-spec : {M : Type 1} → statement M
-after-leaving-spec = tie.close (tie.spec refuses-requires returns element-write-next returns-2)
+after-leaving-spec = tie.close (tie.spec (λ c κs. search needs) returns (λ c. search needs) returns-2)

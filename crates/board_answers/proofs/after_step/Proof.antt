@@ -6,16 +6,10 @@ use Rattle.board_answers.specs.Answers.{step-refuses, step-foreign, step
 use Rattle.board_answers.proofs.after_step.Statement.{statement}
 use Rattle.board_answers.proofs.after_step.Tie as tie
 
-refuses-requires : tie.Need-refuses-requires
-refuses-requires c κs = search needs
-
 returns : tie.Need-returns
 returns c =
     let asked = c .before .refuses in
     step-refuses (said-refuses _ (asked .result) (asked .ensures) (c .if1 .taken)) refl
-
-refuse-requires : tie.Need-refuse-requires
-refuse-requires c κs = search needs
 
 returns-2 : tie.Need-returns-2
 returns-2 c =
@@ -28,4 +22,4 @@ returns-3 c =
     step-done (said-done _ (asked .result) (asked .ensures) (c .before .before .if1 .left)) (c .before .if2 .left) refl
 
 pub after-step-spec : {M : Type 1} → statement M
-after-step-spec = tie.close (tie.spec refuses-requires returns refuse-requires returns-2 returns-3)
+after-step-spec = tie.close (tie.spec (λ c κs. search needs) returns (λ c κs. search needs) returns-2 returns-3)

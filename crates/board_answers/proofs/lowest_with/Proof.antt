@@ -7,11 +7,8 @@ use Rattle.board_answers.proofs.lowest_with.Tie as tie
 returns : tie.Need-returns
 returns c = record { leaving = λ e. refl; staying = λ other. absurd (other (c .if1 .taken)) }
 
-lesser-requires : tie.Need-lesser-requires
-lesser-requires c κs = search needs
-
 returns-2 : tie.Need-returns-2
 returns-2 c = record { leaving = λ e. absurd (c .before .if1 .left e); staying = λ other. c .lesser .ensures }
 
 pub lowest-with-spec : {M : Type 1} → statement M
-lowest-with-spec = tie.close (tie.spec returns lesser-requires returns-2)
+lowest-with-spec = tie.close (tie.spec returns (λ c κs. search needs) returns-2)

@@ -5,33 +5,6 @@ use Rattle.board_answers.proofs.Telling.{told-to, told-foreign, told-re
 use Rattle.board_answers.proofs.told.Statement.{statement}
 use Rattle.board_answers.proofs.told.Tie as tie
 
-enum-known-answer : tie.Need-enum-known-answer
-enum-known-answer c = search needs
-
-mul-next : tie.Need-mul-next
-mul-next c = search needs
-
-element-write-next : tie.Need-element-write-next
-element-write-next c = search needs
-
-mul-next-2 : tie.Need-mul-next-2
-mul-next-2 c = search needs
-
-element-write-next-2 : tie.Need-element-write-next-2
-element-write-next-2 c = search needs
-
-lowest-with-requires : tie.Need-lowest-with-requires
-lowest-with-requires c κs = search needs
-
-enum-told : tie.Need-enum-told
-enum-told c = search needs
-
-lesser-requires : tie.Need-lesser-requires
-lesser-requires c κs = search needs
-
-enum-known-answer-2 : tie.Need-enum-known-answer-2
-enum-known-answer-2 c = search needs
-
 returns : tie.Need-returns
 returns c = told-to _ _ _ _ (c .before .before .answer .given .1) (record { done = refl; moved = refl; lowest = c .lowest-with .ensures; foreign = refl })
 
@@ -45,15 +18,15 @@ pub told-spec : {M : Type 1} → statement M
 told-spec =
     tie.close
     (tie.spec
-    enum-known-answer
-    mul-next
-    element-write-next
-    mul-next-2
-    element-write-next-2
-    lowest-with-requires
-    enum-told
-    lesser-requires
-    enum-known-answer-2
+    (λ c. search needs)
+    (λ c. search needs)
+    (λ c. search needs)
+    (λ c. search needs)
+    (λ c. search needs)
+    (λ c κs. search needs)
+    (λ c. search needs)
+    (λ c κs. search needs)
+    (λ c. search needs)
     returns
     returns-2
     returns-3)

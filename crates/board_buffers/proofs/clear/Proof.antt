@@ -21,12 +21,6 @@ loop-holds c = (fill-none _ 0, omega arith, refl)
 slice-write-scratch : tie.Need-slice-write-scratch Inv-loop μ-loop
 slice-write-scratch c = omega (arith, filled-length _ _ (c .before .loop .inv .0) (c .before .loop .inv .1))
 
-add-i : tie.Need-add-i Inv-loop μ-loop
-add-i c = omega arith
-
-loop-less : tie.Need-loop-less Inv-loop μ-loop
-loop-less c = omega arith
-
 loop-again : tie.Need-loop-again Inv-loop μ-loop
 loop-again c =
     let below = c .before .loop .inv in
@@ -48,8 +42,8 @@ clear-spec =
     μ-loop
     loop-holds
     slice-write-scratch
-    add-i
-    loop-less
+    (λ c. omega arith)
+    (λ c. omega arith)
     loop-again
     same-length
     returns)

@@ -12,26 +12,11 @@ Inv-loop file files₀ name at i₀ i-end files i = PutSoFar file files₀ at i-
 abbrev μ-loop : tie.MeasureT-loop
 μ-loop file files₀ name at i₀ i-end files i = length file - i
 
-mul-at : tie.Need-mul-at Inv-loop μ-loop
-mul-at c = omega arith
-
 loop-holds : tie.Need-loop-holds Inv-loop μ-loop
 loop-holds c = put-none _ _ _ (c .pre)
 
-shared-slice-read-files : tie.Need-shared-slice-read-files Inv-loop μ-loop
-shared-slice-read-files c = omega arith
-
-add-files : tie.Need-add-files Inv-loop μ-loop
-add-files c = omega arith
-
 slice-write-files : tie.Need-slice-write-files Inv-loop μ-loop
 slice-write-files c = omega (arith, put-length (c .before .before .loop .inv))
-
-add-i : tie.Need-add-i Inv-loop μ-loop
-add-i c = omega arith
-
-loop-less : tie.Need-loop-less Inv-loop μ-loop
-loop-less c = omega arith
 
 loop-again : tie.Need-loop-again Inv-loop μ-loop
 loop-again c = put-more (c .before .before .loop .inv) (c .before .loop-test .taken)
@@ -48,13 +33,13 @@ put-spec =
     (tie.spec
     Inv-loop
     μ-loop
-    mul-at
+    (λ c. omega arith)
     loop-holds
-    shared-slice-read-files
-    add-files
+    (λ c. omega arith)
+    (λ c. omega arith)
     slice-write-files
-    add-i
-    loop-less
+    (λ c. omega arith)
+    (λ c. omega arith)
     loop-again
     same-length
     returns)

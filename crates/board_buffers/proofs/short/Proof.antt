@@ -10,8 +10,5 @@ returns c = inl (c .if1 .taken)
 returns-2 : tie.Need-returns-2
 returns-2 c = inr (c .if2 .taken)
 
-returns-3 : tie.Need-returns-3
-returns-3 c = search needs
-
 pub short-spec : {M : Type 1} → statement M
-short-spec = tie.close (tie.spec returns returns-2 returns-3)
+short-spec = tie.close (tie.spec returns returns-2 (λ c. search needs))

@@ -9,17 +9,11 @@ use Rattle.board_pass.proofs.Visited.{pass-refused, pass-absent, pass-a
 use Rattle.board_pass.proofs.visit.Statement.{statement}
 use Rattle.board_pass.proofs.visit.Tie as tie
 
-refuses-requires : tie.Need-refuses-requires
-refuses-requires c κs = search needs
-
 returns : tie.Need-returns
 returns c =
     let asked = c .before .refuses in
     let begin = c .before .before .before .before in
     (pass-refused _ _ _ _ (begin .pre .1 .1 .1) (said-refuses _ (asked .result) (asked .ensures) (c .if1 .taken)), refl)
-
-there-requires : tie.Need-there-requires
-there-requires c κs = search needs
 
 returns-2 : tie.Need-returns-2
 returns-2 c =
@@ -28,21 +22,6 @@ returns-2 c =
     let b = begin .args .board in
     let i = begin .args .i in
     (pass-absent _ _ _ _ (begin .pre .1 .1 .1) (absent-of b i (begin .pre .0) (said-absent b i (flag .result) (flag .ensures) (not-true _ (c .if2 .taken)))), refl)
-
-monitor-of-requires : tie.Need-monitor-of-requires
-monitor-of-requires c κs = search needs
-
-file-of-requires : tie.Need-file-of-requires
-file-of-requires c κs = search needs
-
-advance-requires : tie.Need-advance-requires
-advance-requires c κs = search needs
-
-told-requires : tie.Need-told-requires
-told-requires c κs = search needs
-
-same-length : tie.Need-same-length
-same-length c = search needs
 
 returns-3 : tie.Need-returns-3
 returns-3 c =
@@ -62,13 +41,13 @@ pub visit-spec : {M : Type 1} → statement M
 visit-spec =
     tie.close
     (tie.spec
-    refuses-requires
+    (λ c κs. search needs)
     returns
-    there-requires
+    (λ c κs. search needs)
     returns-2
-    monitor-of-requires
-    file-of-requires
-    advance-requires
-    told-requires
-    same-length
+    (λ c κs. search needs)
+    (λ c κs. search needs)
+    (λ c κs. search needs)
+    (λ c κs. search needs)
+    (λ c. search needs)
     returns-3)

@@ -24,12 +24,6 @@ visit-requires c κs =
     let begin = turn .before .before .before in
     (omega arith, (begin .pre .0, (subst Cleared (sym (turn .loop .inv .1)) (begin .pre .1), turn .loop .inv .0)))
 
-add-i : tie.Need-add-i Inv-loop μ-loop
-add-i c = omega arith
-
-loop-less : tie.Need-loop-less Inv-loop μ-loop
-loop-less c = omega arith
-
 loop-again : tie.Need-loop-again Inv-loop μ-loop
 loop-again c =
     let call = c .before .before in
@@ -52,8 +46,8 @@ visit-all-spec =
     μ-loop
     loop-holds
     visit-requires
-    add-i
-    loop-less
+    (λ c. omega arith)
+    (λ c. omega arith)
     loop-again
     same-length
     returns)

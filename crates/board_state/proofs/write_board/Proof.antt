@@ -20,53 +20,11 @@ abbrev μ-loop : tie.MeasureT-loop
 loop-holds : tie.Need-loop-holds Inv-loop μ-loop
 loop-holds c = (written-none _ _, omega arith, c .before .before .before .before .pre, refl)
 
-array-read-flag-byte : tie.Need-array-read-flag-byte Inv-loop μ-loop
-array-read-flag-byte c = search needs
-
-flag-byte-requires : tie.Need-flag-byte-requires Inv-loop μ-loop
-flag-byte-requires c κs = search needs
-
-mul-state : tie.Need-mul-state Inv-loop μ-loop
-mul-state c = omega arith
-
-slice-write-state : tie.Need-slice-write-state Inv-loop μ-loop
-slice-write-state c = omega arith
-
-mul-state-2 : tie.Need-mul-state-2 Inv-loop μ-loop
-mul-state-2 c = omega arith
-
-array-read-state : tie.Need-array-read-state Inv-loop μ-loop
-array-read-state c = search needs
-
-cast-state : tie.Need-cast-state Inv-loop μ-loop
-cast-state c = omega arith
-
-mul-state-3 : tie.Need-mul-state-3 Inv-loop μ-loop
-mul-state-3 c = omega arith
-
-add-state : tie.Need-add-state Inv-loop μ-loop
-add-state c = omega arith
-
 slice-write-state-2 : tie.Need-slice-write-state-2 Inv-loop μ-loop
 slice-write-state-2 c =
     let turn = c .before .before .loop in
     let room : 3 * turn .i + 1 < length (turn .state) = omega arith in
     lt-length-set (turn .state) (3 * turn .i) (c .flag-byte .result) room
-
-mul-state-4 : tie.Need-mul-state-4 Inv-loop μ-loop
-mul-state-4 c = omega arith
-
-array-read-state-2 : tie.Need-array-read-state-2 Inv-loop μ-loop
-array-read-state-2 c = search needs
-
-cast-state-2 : tie.Need-cast-state-2 Inv-loop μ-loop
-cast-state-2 c = omega arith
-
-mul-state-5 : tie.Need-mul-state-5 Inv-loop μ-loop
-mul-state-5 c = omega arith
-
-add-state-2 : tie.Need-add-state-2 Inv-loop μ-loop
-add-state-2 c = omega arith
 
 slice-write-state-3 : tie.Need-slice-write-state-3 Inv-loop μ-loop
 slice-write-state-3 c =
@@ -75,26 +33,11 @@ slice-write-state-3 c =
     let before = getD (c .before .before .before .before .before .before .before .args .board .before) (turn .i) 0 in
     lt-length-set (set (turn .state) (3 * turn .i) (c .flag-byte .result)) (3 * turn .i + 1) (before % 256) (lt-length-set (turn .state) (3 * turn .i) (c .flag-byte .result) room)
 
-add-i : tie.Need-add-i Inv-loop μ-loop
-add-i c = omega arith
-
-loop-less : tie.Need-loop-less Inv-loop μ-loop
-loop-less c = omega arith
-
 loop-again : tie.Need-loop-again Inv-loop μ-loop
 loop-again c =
     let so-far = c .before .before .loop .inv in
     let more = written-more (so-far .0) (so-far .2) (omega arith) (c .flag-byte .ensures) refl refl in
     (more, omega arith, so-far .2, more .same-length)
-
-cast-state-3 : tie.Need-cast-state-3 Inv-loop μ-loop
-cast-state-3 c = omega arith
-
-slice-write-state-4 : tie.Need-slice-write-state-4 Inv-loop μ-loop
-slice-write-state-4 c = omega arith
-
-same-length : tie.Need-same-length Inv-loop μ-loop
-same-length c = search needs
 
 returns : tie.Need-returns Inv-loop μ-loop
 returns c =
@@ -108,26 +51,26 @@ write-board-spec =
     Inv-loop
     μ-loop
     loop-holds
-    array-read-flag-byte
-    flag-byte-requires
-    mul-state
-    slice-write-state
-    mul-state-2
-    array-read-state
-    cast-state
-    mul-state-3
-    add-state
+    (λ c. search needs)
+    (λ c κs. search needs)
+    (λ c. omega arith)
+    (λ c. omega arith)
+    (λ c. omega arith)
+    (λ c. search needs)
+    (λ c. omega arith)
+    (λ c. omega arith)
+    (λ c. omega arith)
     slice-write-state-2
-    mul-state-4
-    array-read-state-2
-    cast-state-2
-    mul-state-5
-    add-state-2
+    (λ c. omega arith)
+    (λ c. search needs)
+    (λ c. omega arith)
+    (λ c. omega arith)
+    (λ c. omega arith)
     slice-write-state-3
-    add-i
-    loop-less
+    (λ c. omega arith)
+    (λ c. omega arith)
     loop-again
-    cast-state-3
-    slice-write-state-4
-    same-length
+    (λ c. omega arith)
+    (λ c. omega arith)
+    (λ c. search needs)
     returns)

@@ -7,9 +7,6 @@ use Rattle.board_values.proofs.FreeNames.{free-read}
 use Rattle.board_values.proofs.free.Statement.{statement}
 use Rattle.board_values.proofs.free.Tie as tie
 
-array-read-result : tie.Need-array-read-result
-array-read-result c = search needs
-
 returns : tie.Need-returns
 returns c =
     let a = c .before .before .args in
@@ -19,4 +16,4 @@ returns-2 : tie.Need-returns-2
 returns-2 c = inl (c .if1 .left)
 
 pub free-spec : {M : Type 1} → statement M
-free-spec = tie.close (tie.spec array-read-result returns returns-2)
+free-spec = tie.close (tie.spec (λ c. search needs) returns returns-2)

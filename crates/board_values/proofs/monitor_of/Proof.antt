@@ -5,18 +5,6 @@ use Rattle.board_promises.proofs.Moved.{monitor-read}
 use Rattle.board_values.proofs.monitor_of.Statement.{statement}
 use Rattle.board_values.proofs.monitor_of.Tie as tie
 
-mul-t5 : tie.Need-mul-t5
-mul-t5 c = search needs
-
-array-read-t8 : tie.Need-array-read-t8
-array-read-t8 c = search needs
-
-mul-t9 : tie.Need-mul-t9
-mul-t9 c = search needs
-
-array-read-t12 : tie.Need-array-read-t12
-array-read-t12 c = search needs
-
 returns : tie.Need-returns
 returns c =
     let s = c .before .before in
@@ -24,4 +12,4 @@ returns c =
     monitor-read whole (s .pre)
 
 pub monitor-of-spec : {M : Type 1} → statement M
-monitor-of-spec = tie.close (tie.spec mul-t5 array-read-t8 mul-t9 array-read-t12 returns)
+monitor-of-spec = tie.close (tie.spec (λ c. search needs) (λ c. search needs) (λ c. search needs) (λ c. search needs) returns)

@@ -6,9 +6,6 @@ use Rattle.board_values.proofs.Flags.{present-read}
 use Rattle.board_values.proofs.there.Statement.{statement}
 use Rattle.board_values.proofs.there.Tie as tie
 
-array-read-result : tie.Need-array-read-result
-array-read-result c = search needs
-
 returns : tie.Need-returns
 returns c = present-read (c .before .before .args .board) _ (c .if1 .taken) _ refl
 
@@ -16,4 +13,4 @@ returns-2 : tie.Need-returns-2
 returns-2 c = inl (c .if1 .left)
 
 pub there-spec : {M : Type 1} → statement M
-there-spec = tie.close (tie.spec array-read-result returns returns-2)
+there-spec = tie.close (tie.spec (λ c. search needs) returns returns-2)

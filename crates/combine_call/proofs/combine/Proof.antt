@@ -9,15 +9,6 @@ use Rattle.combine_call.proofs.combine.Tie as tie
 returns : tie.Need-returns
 returns c = out-short _ _ _ _ (c .if1 .taken)
 
-check-both-requires : tie.Need-check-both-requires
-check-both-requires c κs = search needs
-
-enum-known-refusal : tie.Need-enum-known-refusal
-enum-known-refusal c = search needs
-
-enum-known-one : tie.Need-enum-known-one
-enum-known-one c = search needs
-
 combine-checked-requires : tie.Need-combine-checked-requires
 combine-checked-requires c κs =
     let at-rules = c .before .before .before in
@@ -25,24 +16,12 @@ combine-checked-requires c κs =
     let at-if1 = at-check .before .before in
     both-place _ _ _ _ (at-if1 .if1 .left) (both-rules _ _ _ _ _ (at-check .check-both .ensures) (at-rules .one .given .1))
 
-zero-requires : tie.Need-zero-requires
-zero-requires c κs = search needs
-
-same-length : tie.Need-same-length
-same-length c = search needs
-
 returns-2 : tie.Need-returns-2
 returns-2 c =
     let at-refusal = c .before in
     let at-check = at-refusal .before .before .before .before in
     let at-if1 = at-check .before .before in
     file-refused _ _ _ _ (at-if1 .if1 .left) (both-refused _ _ _ _ _ (at-check .check-both .ensures) (at-refusal .refusal .given .1))
-
-same-length-2 : tie.Need-same-length-2
-same-length-2 c = search needs
-
-same-length-3 : tie.Need-same-length-3
-same-length-3 c = search needs
 
 returns-3 : tie.Need-returns-3
 returns-3 c =
@@ -59,13 +38,13 @@ combine-spec =
     tie.close
     (tie.spec
     returns
-    check-both-requires
-    enum-known-refusal
-    enum-known-one
+    (λ c κs. search needs)
+    (λ c. search needs)
+    (λ c. search needs)
     combine-checked-requires
-    zero-requires
-    same-length
+    (λ c κs. search needs)
+    (λ c. search needs)
     returns-2
-    same-length-2
-    same-length-3
+    (λ c. search needs)
+    (λ c. search needs)
     returns-3)

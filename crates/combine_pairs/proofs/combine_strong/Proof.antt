@@ -5,23 +5,11 @@ use Rattle.combine_pairs.proofs.Combining.{two-tables, some-letters, li
 use Rattle.combine_pairs.proofs.combine_strong.Statement.{statement}
 use Rattle.combine_pairs.proofs.combine_strong.Tie as tie
 
-zero-part-requires : tie.Need-zero-part-requires
-zero-part-requires c κs = search needs
-
 list-pairs-requires : tie.Need-list-pairs-requires
 list-pairs-requires c κs =
     let at-zero = c .before .before .before in
     let start = at-zero .before .before .before .before .before .before in
     (two-tables (start .pre), (list-empty (start .pre) (at-zero .zero-part .ensures), some-letters (start .pre)))
-
-enum-known-count : tie.Need-enum-known-count
-enum-known-count c = search needs
-
-enum-told : tie.Need-enum-told
-enum-told c = search needs
-
-same-length : tie.Need-same-length
-same-length c = search needs
 
 returns : tie.Need-returns
 returns c =
@@ -38,12 +26,6 @@ write-pairs-requires c κs =
     let start = at-zero .before .before .before .before .before .before in
     (two-tables (start .pre), write-place (start .pre) (at-zero .zero-part .ensures) _ (at-list .list-pairs .ensures) (at-count .count .given .1))
 
-same-length-2 : tie.Need-same-length-2
-same-length-2 c = search needs
-
-same-length-3 : tie.Need-same-length-3
-same-length-3 c = search needs
-
 returns-2 : tie.Need-returns-2
 returns-2 c =
     let at-write = c .before .before .before .before in
@@ -57,13 +39,13 @@ pub combine-strong-spec : {M : Type 1} → statement M
 combine-strong-spec =
     tie.close
     (tie.spec
-    zero-part-requires
+    (λ c κs. search needs)
     list-pairs-requires
-    enum-known-count
-    enum-told
-    same-length
+    (λ c. search needs)
+    (λ c. search needs)
+    (λ c. search needs)
     returns
     write-pairs-requires
-    same-length-2
-    same-length-3
+    (λ c. search needs)
+    (λ c. search needs)
     returns-2)

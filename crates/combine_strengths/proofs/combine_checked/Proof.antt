@@ -13,24 +13,12 @@ decide-both-requires c κs =
     let p = c .before .before .before .before .before .before .pre .checked in
     (first-table _ _ _ p, (second-table _ _ _ p, (first-needs _ _ _ p, second-needs _ _ _ p)))
 
-enum-told : tie.Need-enum-told
-enum-told c = search needs
-
-same-length : tie.Need-same-length
-same-length c = search needs
-
 returns-2 : tie.Need-returns-2
 returns-2 c =
     let at-decide = c .before .before .before .before in
     let at-if1 = at-decide .before .before in
     let start = at-if1 .before .before .before .before .before in
     first-weak (start .pre) (at-if1 .if1 .left) _ (at-decide .decide-both .ensures) (c .enum-told .given .1)
-
-enum-told-2 : tie.Need-enum-told-2
-enum-told-2 c = search needs
-
-same-length-2 : tie.Need-same-length-2
-same-length-2 c = search needs
 
 returns-3 : tie.Need-returns-3
 returns-3 c =
@@ -39,9 +27,6 @@ returns-3 c =
     let start = at-if1 .before .before .before .before .before in
     second-weak (start .pre) (at-if1 .if1 .left) _ (at-decide .decide-both .ensures) (c .enum-told2 .given .1)
 
-enum-told-3 : tie.Need-enum-told-3
-enum-told-3 c = search needs
-
 combine-strong-requires : tie.Need-combine-strong-requires
 combine-strong-requires c κs =
     let at-strong = c .before .before in
@@ -49,12 +34,6 @@ combine-strong-requires c κs =
     let at-if1 = at-decide .before .before in
     let start = at-if1 .before .before .before .before .before in
     strong-place (start .pre) (at-if1 .if1 .left) _ (at-decide .decide-both .ensures) (at-strong .enum-told3 .given .1)
-
-same-length-3 : tie.Need-same-length-3
-same-length-3 c = search needs
-
-same-length-4 : tie.Need-same-length-4
-same-length-4 c = search needs
 
 returns-4 : tie.Need-returns-4
 returns-4 c =
@@ -70,14 +49,14 @@ combine-checked-spec =
     (tie.spec
     returns
     decide-both-requires
-    enum-told
-    same-length
+    (λ c. search needs)
+    (λ c. search needs)
     returns-2
-    enum-told-2
-    same-length-2
+    (λ c. search needs)
+    (λ c. search needs)
     returns-3
-    enum-told-3
+    (λ c. search needs)
     combine-strong-requires
-    same-length-3
-    same-length-4
+    (λ c. search needs)
+    (λ c. search needs)
     returns-4)

@@ -6,35 +6,17 @@ use Rattle.confirm_call.proofs.Calling.{file-refused, files-ready, file
 use Rattle.confirm_call.proofs.confirm.Statement.{statement}
 use Rattle.confirm_call.proofs.confirm.Tie as tie
 
-check-both-requires : tie.Need-check-both-requires
-check-both-requires c κs = search needs
-
-enum-known-refusal : tie.Need-enum-known-refusal
-enum-known-refusal c = search needs
-
-enum-known-one : tie.Need-enum-known-one
-enum-known-one c = search needs
-
 confirm-checked-requires : tie.Need-confirm-checked-requires
 confirm-checked-requires c κs =
     let at-rules = c .before .before in
     let at-check = at-rules .before .before .before .before in
     files-ready (both-rules _ _ _ _ _ (at-check .check-both .ensures) (at-rules .one .given .1))
 
-zero-requires : tie.Need-zero-requires
-zero-requires c κs = search needs
-
-same-length : tie.Need-same-length
-same-length c = search needs
-
 returns : tie.Need-returns
 returns c =
     let at-refusal = c .before in
     let at-check = at-refusal .before .before .before .before in
     file-refused _ _ _ _ (both-refused _ _ _ _ _ (at-check .check-both .ensures) (at-refusal .refusal .given .1))
-
-same-length-2 : tie.Need-same-length-2
-same-length-2 c = search needs
 
 returns-2 : tie.Need-returns-2
 returns-2 c =
@@ -48,12 +30,12 @@ pub confirm-spec : {M : Type 1} → statement M
 confirm-spec =
     tie.close
     (tie.spec
-    check-both-requires
-    enum-known-refusal
-    enum-known-one
+    (λ c κs. search needs)
+    (λ c. search needs)
+    (λ c. search needs)
     confirm-checked-requires
-    zero-requires
-    same-length
+    (λ c κs. search needs)
+    (λ c. search needs)
     returns
-    same-length-2
+    (λ c. search needs)
     returns-2)

@@ -49,12 +49,6 @@ returns c =
     (outcome-differs (start .pre .0) (start .pre .1) (c .before .before .before .before .before .before .before .idempotent-power .ensures) _ (c .before .before .before .outcome .ensures)
     (c .before .before .mapped2 .ensures) (c .before .before .before .before .before .before .mapped .ensures) (c .before .outcome-at .ensures) (c .if1 .taken))
 
-add-s : tie.Need-add-s Inv-loop μ-loop
-add-s c = omega arith
-
-loop-less : tie.Need-loop-less Inv-loop μ-loop
-loop-less c = omega arith
-
 loop-again : tie.Need-loop-again Inv-loop μ-loop
 loop-again c =
     let start = c .before .before .before .before .before .before .before .before .before .before .before in
@@ -78,7 +72,7 @@ column-kept-spec =
     mapped-requires-2
     outcome-at-requires
     returns
-    add-s
-    loop-less
+    (λ c. omega arith)
+    (λ c. omega arith)
     loop-again
     returns-2)

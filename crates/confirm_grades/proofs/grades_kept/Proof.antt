@@ -24,12 +24,6 @@ column-kept-requires c κs = (c .before .before .before .before .before .pre, om
 returns : tie.Need-returns Inv-loop μ-loop
 returns c = grades-told (each-told-not (c .before .before .loop-test .taken) (c .before .column-kept .ensures) (c .if1 .taken))
 
-add-z : tie.Need-add-z Inv-loop μ-loop
-add-z c = omega arith
-
-loop-less : tie.Need-loop-less Inv-loop μ-loop
-loop-less c = omega arith
-
 loop-again : tie.Need-loop-again Inv-loop μ-loop
 loop-again c = each-told (c .before .before .before .loop .inv) (c .before .column-kept .ensures) (c .if1 .left)
 
@@ -45,7 +39,7 @@ grades-kept-spec =
     loop-holds
     column-kept-requires
     returns
-    add-z
-    loop-less
+    (λ c. omega arith)
+    (λ c. omega arith)
     loop-again
     returns-2)

@@ -36,12 +36,6 @@ returns c =
     each-not (omega arith)
     (image-differs (c .before .before .before .image .ensures) (c .before .before .image2 .ensures) (c .before .mapped .ensures) (c .if1 .taken))
 
-add-x : tie.Need-add-x Inv-loop μ-loop
-add-x c = omega arith
-
-loop-less : tie.Need-loop-less Inv-loop μ-loop
-loop-less c = omega arith
-
 loop-again : tie.Need-loop-again Inv-loop μ-loop
 loop-again c =
     each-more (c .before .before .before .before .before .loop .inv)
@@ -61,7 +55,7 @@ images-spec =
     image-requires-2
     mapped-requires
     returns
-    add-x
-    loop-less
+    (λ c. omega arith)
+    (λ c. omega arith)
     loop-again
     returns-2)

@@ -16,17 +16,8 @@ abbrev μ-loop : tie.MeasureT-loop
 loop-holds : tie.Need-loop-holds Inv-loop μ-loop
 loop-holds c = each-none
 
-mapped-requires : tie.Need-mapped-requires Inv-loop μ-loop
-mapped-requires c κs = omega arith
-
 returns : tie.Need-returns Inv-loop μ-loop
 returns c = each-not (c .before .before .loop-test .taken) (λ h. omega (arith, c .before .mapped .ensures, c .if1 .taken))
-
-add-s : tie.Need-add-s Inv-loop μ-loop
-add-s c = omega arith
-
-loop-less : tie.Need-loop-less Inv-loop μ-loop
-loop-less c = omega arith
 
 loop-again : tie.Need-loop-again Inv-loop μ-loop
 loop-again c = each-more (c .before .before .before .loop .inv) (omega (arith, c .before .mapped .ensures, c .if1 .left))
@@ -41,9 +32,9 @@ inside-spec =
     Inv-loop
     μ-loop
     loop-holds
-    mapped-requires
+    (λ c κs. omega arith)
     returns
-    add-s
-    loop-less
+    (λ c. omega arith)
+    (λ c. omega arith)
     loop-again
     returns-2)

@@ -22,12 +22,6 @@ taken-to-requires c κs = c .before .before .before .pre
 returns : tie.Need-returns Inv-loop μ-loop
 returns c = each-told-not (c .before .before .loop-test .taken) (c .before .taken-to .ensures) (c .if1 .taken)
 
-add-t : tie.Need-add-t Inv-loop μ-loop
-add-t c = omega arith
-
-loop-less : tie.Need-loop-less Inv-loop μ-loop
-loop-less c = omega arith
-
 loop-again : tie.Need-loop-again Inv-loop μ-loop
 loop-again c = each-told (c .before .before .before .loop .inv) (c .before .taken-to .ensures) (c .if1 .left)
 
@@ -43,7 +37,7 @@ onto-spec =
     loop-holds
     taken-to-requires
     returns
-    add-t
-    loop-less
+    (λ c. omega arith)
+    (λ c. omega arith)
     loop-again
     returns-2)

@@ -23,12 +23,6 @@ products-from-requires c κs = (c .before .before .before .before .before .pre, 
 returns : tie.Need-returns Inv-loop μ-loop
 returns c = each-told-not (c .before .before .loop-test .taken) (c .before .products-from .ensures) (c .if1 .taken)
 
-add-s : tie.Need-add-s Inv-loop μ-loop
-add-s c = omega arith
-
-loop-less : tie.Need-loop-less Inv-loop μ-loop
-loop-less c = omega arith
-
 loop-again : tie.Need-loop-again Inv-loop μ-loop
 loop-again c = each-told (c .before .before .before .loop .inv) (c .before .products-from .ensures) (c .if1 .left)
 
@@ -44,7 +38,7 @@ products-spec =
     loop-holds
     products-from-requires
     returns
-    add-s
-    loop-less
+    (λ c. omega arith)
+    (λ c. omega arith)
     loop-again
     returns-2)

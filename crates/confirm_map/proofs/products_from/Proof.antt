@@ -43,12 +43,6 @@ returns c =
     each-not (c .before .before .before .before .before .loop-test .taken)
     (product-differs (c .before .before .before .before .before .before .before .mapped .ensures) (c .before .before .before .before .mapped2 .ensures) (c .before .before .before .product .ensures) (c .before .before .product2 .ensures) (c .before .mapped3 .ensures) (c .if1 .taken))
 
-add-t : tie.Need-add-t Inv-loop μ-loop
-add-t c = omega arith
-
-loop-less : tie.Need-loop-less Inv-loop μ-loop
-loop-less c = omega arith
-
 loop-again : tie.Need-loop-again Inv-loop μ-loop
 loop-again c =
     each-more (c .before .before .before .before .before .before .loop .inv)
@@ -70,7 +64,7 @@ products-from-spec =
     product-requires-2
     mapped-requires-3
     returns
-    add-t
-    loop-less
+    (λ c. omega arith)
+    (λ c. omega arith)
     loop-again
     returns-2)

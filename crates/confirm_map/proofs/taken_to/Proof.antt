@@ -18,17 +18,8 @@ abbrev μ-loop : tie.MeasureT-loop
 loop-holds : tie.Need-loop-holds Inv-loop μ-loop
 loop-holds c = each-none
 
-mapped-requires : tie.Need-mapped-requires Inv-loop μ-loop
-mapped-requires c κs = omega arith
-
 returns : tie.Need-returns Inv-loop μ-loop
 returns c = taken-here (c .before .before .loop-test .taken) (c .before .mapped .ensures) (c .if1 .taken)
-
-add-s : tie.Need-add-s Inv-loop μ-loop
-add-s c = omega arith
-
-loop-less : tie.Need-loop-less Inv-loop μ-loop
-loop-less c = omega arith
 
 loop-again : tie.Need-loop-again Inv-loop μ-loop
 loop-again c = each-more (c .before .before .before .loop .inv) (λ e. c .if1 .left (c .before .mapped .ensures ∙ e))
@@ -43,9 +34,9 @@ taken-to-spec =
     Inv-loop
     μ-loop
     loop-holds
-    mapped-requires
+    (λ c κs. omega arith)
     returns
-    add-s
-    loop-less
+    (λ c. omega arith)
+    (λ c. omega arith)
     loop-again
     returns-2)

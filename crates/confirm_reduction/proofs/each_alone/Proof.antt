@@ -31,12 +31,6 @@ cast-least c = fits-8-64 (c .shared-slice-known .given _)
 returns : tie.Need-returns Inv-loop μ-loop
 returns c = each-not (c .before .before .loop-test .taken) (c .if1 .taken)
 
-add-s : tie.Need-add-s Inv-loop μ-loop
-add-s c = omega arith
-
-loop-less : tie.Need-loop-less Inv-loop μ-loop
-loop-less c = omega arith
-
 loop-again : tie.Need-loop-again Inv-loop μ-loop
 loop-again c = each-more (c .before .before .before .loop .inv) (c .if1 .left)
 
@@ -54,7 +48,7 @@ each-alone-spec =
     shared-slice-read-least
     cast-least
     returns
-    add-s
-    loop-less
+    (λ c. omega arith)
+    (λ c. omega arith)
     loop-again
     returns-2)

@@ -36,9 +36,6 @@ each-alone-requires c κs =
     let start = at-refine .before .before .before .before .before .before .before .before .before .before in
     (omega (arith, second-read (start .pre) .small), unchanged-room (at-refine .refine .ensures .kept) (start .pre .room))
 
-same-length : tie.Need-same-length
-same-length c = search needs
-
 returns-4 : tie.Need-returns-4
 returns-4 c =
     let at-alone = c .before in
@@ -54,9 +51,6 @@ grades-kept-requires c κs =
     let at-if1 = at-if2 .before in
     let start = at-if1 .before .before .before .before .before in
     grades-place _ (start .pre) (at-if1 .if1 .left) (at-if3 .before .maps-onto .ensures) (at-if3 .if3 .left) (at-if2 .if2 .left) (at-refine .refine .ensures)
-
-same-length-2 : tie.Need-same-length-2
-same-length-2 c = search needs
 
 returns-5 : tie.Need-returns-5
 returns-5 c =
@@ -80,8 +74,8 @@ reduces-spec =
     returns-3
     refine-requires
     each-alone-requires
-    same-length
+    (λ c. search needs)
     returns-4
     grades-kept-requires
-    same-length-2
+    (λ c. search needs)
     returns-5)

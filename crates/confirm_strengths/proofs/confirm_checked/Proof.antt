@@ -10,32 +10,17 @@ decide-both-requires c κs =
     let p = c .before .before .before .before .before .pre .checked in
     (first-table _ _ _ p, (second-table _ _ _ p, (first-needs _ _ _ p, second-needs _ _ _ p)))
 
-enum-told : tie.Need-enum-told
-enum-told c = search needs
-
-same-length : tie.Need-same-length
-same-length c = search needs
-
 returns : tie.Need-returns
 returns c =
     let at-decide = c .before .before .before .before in
     let start = at-decide .before .before .before .before .before .before in
     first-weak (start .pre) _ (at-decide .decide-both .ensures) (c .enum-told .given .1)
 
-enum-told-2 : tie.Need-enum-told-2
-enum-told-2 c = search needs
-
-same-length-2 : tie.Need-same-length-2
-same-length-2 c = search needs
-
 returns-2 : tie.Need-returns-2
 returns-2 c =
     let at-decide = c .before .before .before .before in
     let start = at-decide .before .before .before .before .before .before in
     second-weak (start .pre) _ (at-decide .decide-both .ensures) (c .enum-told2 .given .1)
-
-enum-told-3 : tie.Need-enum-told-3
-enum-told-3 c = search needs
 
 reduces-requires : tie.Need-reduces-requires
 reduces-requires c κs =
@@ -44,9 +29,6 @@ reduces-requires c κs =
     let start = at-decide .before .before .before .before .before .before in
     strong-place (start .pre) _ (at-decide .decide-both .ensures) (at-strong .enum-told3 .given .1)
 
-same-length-3 : tie.Need-same-length-3
-same-length-3 c = search needs
-
 returns-3 : tie.Need-returns-3
 returns-3 c =
     let at-reduces = c .before .before .before in
@@ -54,9 +36,6 @@ returns-3 c =
     let at-decide = at-strong .before .before .before .before in
     let start = at-decide .before .before .before .before .before .before in
     said-yes (start .pre) _ (at-decide .decide-both .ensures) (at-strong .enum-told3 .given .1) (at-reduces .reduces .ensures) (c .if1 .taken)
-
-same-length-4 : tie.Need-same-length-4
-same-length-4 c = search needs
 
 returns-4 : tie.Need-returns-4
 returns-4 c =
@@ -71,15 +50,15 @@ confirm-checked-spec =
     tie.close
     (tie.spec
     decide-both-requires
-    enum-told
-    same-length
+    (λ c. search needs)
+    (λ c. search needs)
     returns
-    enum-told-2
-    same-length-2
+    (λ c. search needs)
+    (λ c. search needs)
     returns-2
-    enum-told-3
+    (λ c. search needs)
     reduces-requires
-    same-length-3
+    (λ c. search needs)
     returns-3
-    same-length-4
+    (λ c. search needs)
     returns-4)

@@ -18,12 +18,6 @@ loop-holds c = entries-none (c .before .pre)
 entry-requires : tie.Need-entry-requires Inv-loop μ-loop
 entry-requires c κs = stored-inside (c .before .before .loop .inv .stored)
 
-add-i : tie.Need-add-i Inv-loop μ-loop
-add-i c = search needs
-
-loop-less : tie.Need-loop-less Inv-loop μ-loop
-loop-less c = search needs
-
 loop-again : tie.Need-loop-again Inv-loop μ-loop
 loop-again c =
     let turn = c .before .before .before .before in
@@ -43,8 +37,8 @@ entries-spec =
     μ-loop
     loop-holds
     entry-requires
-    add-i
-    loop-less
+    (λ c. search needs)
+    (λ c. search needs)
     loop-again
     same-length
     returns)

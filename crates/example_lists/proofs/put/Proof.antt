@@ -7,31 +7,10 @@ use Rattle.example_lists.proofs.put.Tie as tie
 returns : tie.Need-returns
 returns c = put-empty _ (c .if1 .taken) (c .before .before .before .pre)
 
-byte-at-requires : tie.Need-byte-at-requires
-byte-at-requires c κs = search needs
-
-entries-requires : tie.Need-entries-requires
-entries-requires c κs = search needs
-
-same-length : tie.Need-same-length
-same-length c = search needs
-
 returns-2 : tie.Need-returns-2
 returns-2 c =
     let named = c .before .before .before .before in
     put-named _ (named .before .before .if1 .left) (named .before .byte-at .ensures) (named .if2 .taken) (c .before .before .entries .ensures)
-
-part-requires : tie.Need-part-requires
-part-requires c κs = search needs
-
-decimal-requires : tie.Need-decimal-requires
-decimal-requires c κs = search needs
-
-store-requires : tie.Need-store-requires
-store-requires c κs = search needs
-
-same-length-2 : tie.Need-same-length-2
-same-length-2 c = search needs
 
 returns-3 : tie.Need-returns-3
 returns-3 c =
@@ -45,18 +24,6 @@ returns-3 c =
     (last .if3 .taken)
     (c .before .before .before .decimal .ensures)
     (c .before .before .store .ensures)
-
-decimal-requires-2 : tie.Need-decimal-requires-2
-decimal-requires-2 c κs = search needs
-
-repeats-requires : tie.Need-repeats-requires
-repeats-requires c κs = search needs
-
-entries-requires-2 : tie.Need-entries-requires-2
-entries-requires-2 c κs = search needs
-
-same-length-3 : tie.Need-same-length-3
-same-length-3 c = search needs
 
 returns-4 : tie.Need-returns-4
 returns-4 c =
@@ -77,17 +44,17 @@ put-spec =
     tie.close
     (tie.spec
     returns
-    byte-at-requires
-    entries-requires
-    same-length
+    (λ c κs. search needs)
+    (λ c κs. search needs)
+    (λ c. search needs)
     returns-2
-    part-requires
-    decimal-requires
-    store-requires
-    same-length-2
+    (λ c κs. search needs)
+    (λ c κs. search needs)
+    (λ c κs. search needs)
+    (λ c. search needs)
     returns-3
-    decimal-requires-2
-    repeats-requires
-    entries-requires-2
-    same-length-3
+    (λ c κs. search needs)
+    (λ c κs. search needs)
+    (λ c κs. search needs)
+    (λ c. search needs)
     returns-4)

@@ -5,12 +5,6 @@ use borrow.Author.Needs.{needs}
 use Rattle.example_lists.proofs.repeats.Statement.{statement}
 use Rattle.example_lists.proofs.repeats.Tie as tie
 
-part-requires : tie.Need-part-requires
-part-requires c κs = search needs
-
-decimal-requires : tie.Need-decimal-requires
-decimal-requires c κs = search needs
-
 returns : tie.Need-returns
 returns c = once _ (part-number (c .before .before .part .ensures) (c .before .decimal .ensures)) (c .if1 .taken)
 
@@ -18,4 +12,4 @@ returns-2 : tie.Need-returns-2
 returns-2 c = as-often _ (part-number (c .before .before .part .ensures) (c .before .decimal .ensures)) (c .if1 .left)
 
 pub repeats-spec : {M : Type 1} → statement M
-repeats-spec = tie.close (tie.spec part-requires decimal-requires returns returns-2)
+repeats-spec = tie.close (tie.spec (λ c κs. search needs) (λ c κs. search needs) returns returns-2)

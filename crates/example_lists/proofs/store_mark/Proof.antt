@@ -7,35 +7,8 @@ use Rattle.example_lists.proofs.store_mark.Tie as tie
 returns : tie.Need-returns
 returns c = unmarked _ _ (c .if1 .taken) (c .before .before .pre)
 
-add-if2 : tie.Need-add-if2
-add-if2 c = search needs
-
-add-if2-2 : tie.Need-add-if2-2
-add-if2-2 c = search needs
-
-add-if2-3 : tie.Need-add-if2-3
-add-if2-3 c = search needs
-
-add-if2-4 : tie.Need-add-if2-4
-add-if2-4 c = search needs
-
-add-if2-5 : tie.Need-add-if2-5
-add-if2-5 c = search needs
-
 returns-2 : tie.Need-returns-2
 returns-2 c = unmarked-odd _ _ (c .if2 .taken) (c .before .before .before .pre)
-
-store-requires : tie.Need-store-requires
-store-requires c κs = search needs
-
-store-requires-2 : tie.Need-store-requires-2
-store-requires-2 c κs = search needs
-
-store-requires-3 : tie.Need-store-requires-3
-store-requires-3 c κs = search needs
-
-same-length : tie.Need-same-length
-same-length c = search needs
 
 returns-3 : tie.Need-returns-3
 returns-3 c =
@@ -48,14 +21,14 @@ store-mark-spec =
     tie.close
     (tie.spec
     returns
-    add-if2
-    add-if2-2
-    add-if2-3
-    add-if2-4
-    add-if2-5
+    (λ c. search needs)
+    (λ c. search needs)
+    (λ c. search needs)
+    (λ c. search needs)
+    (λ c. search needs)
     returns-2
-    store-requires
-    store-requires-2
-    store-requires-3
-    same-length
+    (λ c κs. search needs)
+    (λ c κs. search needs)
+    (λ c κs. search needs)
+    (λ c. search needs)
     returns-3)

@@ -7,14 +7,8 @@ use borrow.Author.Needs.{needs}
 use Rattle.example_parts.proofs.command.Statement.{statement}
 use Rattle.example_parts.proofs.command.Tie as tie
 
-part-requires : tie.Need-part-requires
-part-requires c κs = search needs
-
-byte-at-requires : tie.Need-byte-at-requires
-byte-at-requires c κs = search needs
-
 returns : tie.Need-returns
 returns c = c .byte-at .ensures ∙ ap (λ (t : List ℕ). getD t 1 0) (c .before .part .ensures)
 
 pub command-spec : {M : Type 1} → statement M
-command-spec = tie.close (tie.spec part-requires byte-at-requires returns)
+command-spec = tie.close (tie.spec (λ c κs. search needs) (λ c κs. search needs) returns)

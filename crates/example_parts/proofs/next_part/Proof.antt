@@ -5,12 +5,6 @@ use borrow.Author.Needs.{needs}
 use Rattle.example_parts.proofs.next_part.Statement.{statement}
 use Rattle.example_parts.proofs.next_part.Tie as tie
 
-next-mark-requires : tie.Need-next-mark-requires
-next-mark-requires c κs = search needs
-
-add-result : tie.Need-add-result
-add-result c = search needs
-
 returns : tie.Need-returns
 returns c = next-after _ _ _ (search needs) (c .before .next-mark .ensures) (c .if1 .taken)
 
@@ -18,4 +12,4 @@ returns-2 : tie.Need-returns-2
 returns-2 c = next-end _ _ _ (search needs) (c .before .next-mark .ensures) (c .if1 .left)
 
 pub next-part-spec : {M : Type 1} → statement M
-next-part-spec = tie.close (tie.spec next-mark-requires add-result returns returns-2)
+next-part-spec = tie.close (tie.spec (λ c κs. search needs) (λ c. search needs) returns returns-2)

@@ -4,14 +4,8 @@ use borrow.Author.Needs.{needs}
 use Rattle.example_parts.proofs.number.Statement.{statement}
 use Rattle.example_parts.proofs.number.Tie as tie
 
-part-requires : tie.Need-part-requires
-part-requires c κs = search needs
-
-decimal-requires : tie.Need-decimal-requires
-decimal-requires c κs = search needs
-
 returns : tie.Need-returns
 returns c = part-number (c .before .part .ensures) (c .decimal .ensures)
 
 pub number-spec : {M : Type 1} → statement M
-number-spec = tie.close (tie.spec part-requires decimal-requires returns)
+number-spec = tie.close (tie.spec (λ c κs. search needs) (λ c κs. search needs) returns)

@@ -19,23 +19,11 @@ loop-holds c = (part-first _ _, omega arith)
 next-part-requires : tie.Need-next-part-requires Inv-loop μ-loop
 next-part-requires c κs = c .before .loop .inv .0 .inside
 
-add-i : tie.Need-add-i Inv-loop μ-loop
-add-i c = search needs
-
-loop-less : tie.Need-loop-less Inv-loop μ-loop
-loop-less c = search needs
-
 loop-again : tie.Need-loop-again Inv-loop μ-loop
 loop-again c = (part-next (c .before .before .loop .inv .0) (c .next-part .ensures), omega arith)
 
 next-mark-requires : tie.Need-next-mark-requires Inv-loop μ-loop
 next-mark-requires c κs = c .before .loop .inv .0 .inside
-
-sub-result : tie.Need-sub-result Inv-loop μ-loop
-sub-result c = search needs
-
-part-result-start : tie.Need-part-result-start Inv-loop μ-loop
-part-result-start c = search needs
 
 part-result-end : tie.Need-part-result-end Inv-loop μ-loop
 part-result-end c = end-inside _ _ _ (c .before .before .loop .inv .0 .inside) (c .next-mark .ensures)
@@ -51,11 +39,11 @@ part-spec =
     μ-loop
     loop-holds
     next-part-requires
-    add-i
-    loop-less
+    (λ c. search needs)
+    (λ c. search needs)
     loop-again
     next-mark-requires
-    sub-result
-    part-result-start
+    (λ c. search needs)
+    (λ c. search needs)
     part-result-end
     returns)

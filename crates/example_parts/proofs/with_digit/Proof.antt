@@ -11,15 +11,6 @@ returns c = digit-below (c .if1 .taken)
 returns-2 : tie.Need-returns-2
 returns-2 c = digit-above (c .if2 .taken)
 
-mul-result : tie.Need-mul-result
-mul-result c = search needs
-
-cast-result : tie.Need-cast-result
-cast-result c = search needs
-
-add-result : tie.Need-add-result
-add-result c = search needs
-
 returns-3 : tie.Need-returns-3
 returns-3 c = digit-fits (omega arith) (omega arith) (omega arith)
 
@@ -28,4 +19,4 @@ returns-4 c = digit-full (omega arith) (omega arith) (omega arith)
 
 pub with-digit-spec : {M : Type 1} → statement M
 with-digit-spec =
-    tie.close (tie.spec returns returns-2 mul-result cast-result add-result returns-3 returns-4)
+    tie.close (tie.spec returns returns-2 (λ c. search needs) (λ c. search needs) (λ c. search needs) returns-3 returns-4)

@@ -10,23 +10,8 @@ use Rattle.exports.proofs.Boards.{state-short, state-posted}
 use Rattle.exports.proofs.duknavet_board_empty.Statement.{statement}
 use Rattle.exports.proofs.duknavet_board_empty.Tie as tie
 
-pack-refusal-requires : tie.Need-pack-refusal-requires
-pack-refusal-requires c κs = search needs
-
 returns : tie.Need-returns
 returns c = state-short (c .before .if1 .taken) refl (c .pack-refusal .ensures)
-
-empty-requires : tie.Need-empty-requires
-empty-requires c κs = search needs
-
-write-board-requires : tie.Need-write-board-requires
-write-board-requires c κs = search needs
-
-pack-notice-requires : tie.Need-pack-notice-requires
-pack-notice-requires c κs = search needs
-
-same-length : tie.Need-same-length
-same-length c = search needs
 
 returns-2 : tie.Need-returns-2
 returns-2 c =
@@ -40,10 +25,10 @@ pub duknavet-board-empty-spec : {M : Type 1} → statement M
 duknavet-board-empty-spec =
     tie.close
     (tie.spec
-    pack-refusal-requires
+    (λ c κs. search needs)
     returns
-    empty-requires
-    write-board-requires
-    pack-notice-requires
-    same-length
+    (λ c κs. search needs)
+    (λ c κs. search needs)
+    (λ c κs. search needs)
+    (λ c. search needs)
     returns-2)

@@ -39,20 +39,11 @@ image-requires c κs =
     let p = c .before .before .before .before .pre in
     letter-place (record { table = p .0; law = p .1 .0; word = p .1 .1 .0 }) 0 (p .1 .1 .0 .some)
 
-cast-scratch : tie.Need-cast-scratch Inv-loop μ-loop
-cast-scratch c = omega arith
-
-slice-write-scratch : tie.Need-slice-write-scratch Inv-loop μ-loop
-slice-write-scratch c = omega arith
-
 loop-holds : tie.Need-loop-holds Inv-loop μ-loop
 loop-holds c =
     let s = c .before .before .before .before .before in
     let p = s .pre in
     (beginnings-start (s .args .scratch .now) (record { table = p .0; law = p .1 .0; word = p .1 .1 .0 }) (p .1 .1 .1) (c .image .ensures), refl)
-
-shared-slice-read-image-2 : tie.Need-shared-slice-read-image-2 Inv-loop μ-loop
-shared-slice-read-image-2 c = omega arith
 
 cast-image-2 : tie.Need-cast-image-2 Inv-loop μ-loop
 cast-image-2 c = fits-8-64 (c .shared-slice-known4 .given _)
@@ -64,21 +55,6 @@ product-requires : tie.Need-product-requires Inv-loop μ-loop
 product-requires c κs =
     let b = c .before .before .before .loop .inv .0 .begun in
     table-place (b .reading .table) (begun-inside b) (letter-inside (b .reading) _ _ (omega arith) (c .image2 .ensures))
-
-cast-scratch-2 : tie.Need-cast-scratch-2 Inv-loop μ-loop
-cast-scratch-2 c = omega arith
-
-add-scratch : tie.Need-add-scratch Inv-loop μ-loop
-add-scratch c = omega arith
-
-slice-write-scratch-2 : tie.Need-slice-write-scratch-2 Inv-loop μ-loop
-slice-write-scratch-2 c = omega arith
-
-add-j : tie.Need-add-j Inv-loop μ-loop
-add-j c = omega arith
-
-loop-less : tie.Need-loop-less Inv-loop μ-loop
-loop-less c = omega arith
 
 loop-again : tie.Need-loop-again Inv-loop μ-loop
 loop-again c = (
@@ -101,18 +77,18 @@ beginnings-spec =
     shared-slice-read-image
     cast-image
     image-requires
-    cast-scratch
-    slice-write-scratch
+    (λ c. omega arith)
+    (λ c. omega arith)
     loop-holds
-    shared-slice-read-image-2
+    (λ c. omega arith)
     cast-image-2
     image-requires-2
     product-requires
-    cast-scratch-2
-    add-scratch
-    slice-write-scratch-2
-    add-j
-    loop-less
+    (λ c. omega arith)
+    (λ c. omega arith)
+    (λ c. omega arith)
+    (λ c. omega arith)
+    (λ c. omega arith)
     loop-again
     same-length
     returns)

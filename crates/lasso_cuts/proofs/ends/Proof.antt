@@ -42,12 +42,6 @@ image-requires c κs =
     let p = c .before .before .before .before .pre in
     letter-place (record { table = p .0; law = p .1 .0; word = p .1 .1 .0 }) _ (omega (arith, p .1 .1 .0 .some))
 
-cast-scratch : tie.Need-cast-scratch Inv-loop μ-loop
-cast-scratch c = omega arith
-
-add-scratch : tie.Need-add-scratch Inv-loop μ-loop
-add-scratch c = omega arith
-
 slice-write-scratch : tie.Need-slice-write-scratch Inv-loop μ-loop
 slice-write-scratch c = omega (arith, c .before .before .before .before .before .pre .1 .1 .0 .some)
 
@@ -56,12 +50,6 @@ loop-holds c =
     let s = c .before .before .before .before .before in
     let p = s .pre in
     ends-start (s .args .scratch .now) (record { table = p .0; law = p .1 .0; word = p .1 .1 .0 }) (p .1 .1 .1) refl (c .image .ensures)
-
-sub-i-2 : tie.Need-sub-i-2 Inv-loop μ-loop
-sub-i-2 c = omega arith
-
-shared-slice-read-image-2 : tie.Need-shared-slice-read-image-2 Inv-loop μ-loop
-shared-slice-read-image-2 c = omega arith
 
 cast-image-2 : tie.Need-cast-image-2 Inv-loop μ-loop
 cast-image-2 c = fits-8-64 (c .shared-slice-known4 .given _)
@@ -73,18 +61,6 @@ product-requires : tie.Need-product-requires Inv-loop μ-loop
 product-requires c κs =
     let b = c .before .before .before .loop .inv .ended in
     table-place (b .reading .table) (letter-inside (b .reading) _ _ (omega arith) (c .image2 .ensures)) (ended-inside b)
-
-cast-scratch-2 : tie.Need-cast-scratch-2 Inv-loop μ-loop
-cast-scratch-2 c = omega arith
-
-add-scratch-2 : tie.Need-add-scratch-2 Inv-loop μ-loop
-add-scratch-2 c = omega arith
-
-slice-write-scratch-2 : tie.Need-slice-write-scratch-2 Inv-loop μ-loop
-slice-write-scratch-2 c = omega arith
-
-loop-less : tie.Need-loop-less Inv-loop μ-loop
-loop-less c = omega arith
 
 loop-again : tie.Need-loop-again Inv-loop μ-loop
 loop-again c =
@@ -107,19 +83,19 @@ ends-spec =
     shared-slice-read-image
     cast-image
     image-requires
-    cast-scratch
-    add-scratch
+    (λ c. omega arith)
+    (λ c. omega arith)
     slice-write-scratch
     loop-holds
-    sub-i-2
-    shared-slice-read-image-2
+    (λ c. omega arith)
+    (λ c. omega arith)
     cast-image-2
     image-requires-2
     product-requires
-    cast-scratch-2
-    add-scratch-2
-    slice-write-scratch-2
-    loop-less
+    (λ c. omega arith)
+    (λ c. omega arith)
+    (λ c. omega arith)
+    (λ c. omega arith)
     loop-again
     same-length
     returns)

@@ -14,9 +14,6 @@ mul-greatest c = omega (arith, c .before .before .before .before .before .pre .0
 greatest-requires : tie.Need-greatest-requires
 greatest-requires c κs = let p = c .before .before .before .before .before .pre in omega (arith, p .0 .small, p .1 .1 .1 .1)
 
-word-value-requires : tie.Need-word-value-requires
-word-value-requires c κs = search needs
-
 beginnings-requires : tie.Need-beginnings-requires
 beginnings-requires c κs =
     let p = c .before .before .before .before .before .before .before .before .pre in
@@ -64,12 +61,6 @@ highest-cut-requires c κs =
       ),
     )
 
-cast-grade : tie.Need-cast-grade
-cast-grade c = search needs
-
-same-length : tie.Need-same-length
-same-length c = search needs
-
 returns : tie.Need-returns
 returns c =
     let e = c .before .before .before .before in
@@ -83,10 +74,10 @@ grade-of-spec =
     (tie.spec
     mul-greatest
     greatest-requires
-    word-value-requires
+    (λ c κs. search needs)
     beginnings-requires
     ends-requires
     highest-cut-requires
-    cast-grade
-    same-length
+    (λ c. search needs)
+    (λ c. search needs)
     returns)

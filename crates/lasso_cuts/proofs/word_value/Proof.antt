@@ -31,9 +31,6 @@ loop-holds c =
     let p = c .before .before .before .before .pre in
     (begun-start (record { table = p .0; law = p .1 .0; word = p .1 .1 }) (c .image .ensures), refl)
 
-shared-slice-read-image-2 : tie.Need-shared-slice-read-image-2 Inv-loop μ-loop
-shared-slice-read-image-2 c = omega arith
-
 cast-image-2 : tie.Need-cast-image-2 Inv-loop μ-loop
 cast-image-2 c = fits-8-64 (c .shared-slice-known4 .given _)
 
@@ -44,12 +41,6 @@ product-requires : tie.Need-product-requires Inv-loop μ-loop
 product-requires c κs =
     let b = c .before .before .before .loop .inv .0 in
     table-place (b .reading .table) (begun-inside b) (letter-inside (b .reading) _ _ (omega arith) (c .image2 .ensures))
-
-add-j : tie.Need-add-j Inv-loop μ-loop
-add-j c = omega arith
-
-loop-less : tie.Need-loop-less Inv-loop μ-loop
-loop-less c = omega arith
 
 loop-again : tie.Need-loop-again Inv-loop μ-loop
 loop-again c = (
@@ -70,11 +61,11 @@ word-value-spec =
     cast-image
     image-requires
     loop-holds
-    shared-slice-read-image-2
+    (λ c. omega arith)
     cast-image-2
     image-requires-2
     product-requires
-    add-j
-    loop-less
+    (λ c. omega arith)
+    (λ c. omega arith)
     loop-again
     returns)

@@ -9,9 +9,6 @@ grade-of-requires c κs =
     let p = c .before .before .before .before .before .before .pre in
     (p .0, (p .1 .0, (p .1 .1 .1 .0, (p .1 .1 .1 .0, p .1 .1 .1 .1))))
 
-same-length : tie.Need-same-length
-same-length c = search needs
-
 returns : tie.Need-returns
 returns c =
     let a = c .before .before .grade-of .ensures in
@@ -22,13 +19,10 @@ grade-of-requires-2 c κs =
     let p = c .before .before .before .before .before .before .pre in
     (p .0, (p .1 .0, (start-itself _ _ (c .before .if1 .left) (p .1 .1 .0), (p .1 .1 .1 .0, p .1 .1 .1 .1))))
 
-same-length-2 : tie.Need-same-length-2
-same-length-2 c = search needs
-
 returns-2 : tie.Need-returns-2
 returns-2 c =
     let a = c .before .before .grade-of2 .ensures in
     (start-answer _ _ _ _ (c .before .before .before .before .if1 .left) (a .0), a .1)
 
 pub lasso-grade-spec : {M : Type 1} → statement M
-lasso-grade-spec = tie.close (tie.spec grade-of-requires same-length returns grade-of-requires-2 same-length-2 returns-2)
+lasso-grade-spec = tie.close (tie.spec grade-of-requires (λ c. search needs) returns grade-of-requires-2 (λ c. search needs) returns-2)

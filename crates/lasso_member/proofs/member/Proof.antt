@@ -5,35 +5,8 @@ use borrow.Author.Needs.{needs}
 use Rattle.lasso_member.proofs.member.Statement.{statement}
 use Rattle.lasso_member.proofs.member.Tie as tie
 
-check-requires : tie.Need-check-requires
-check-requires c κs = search needs
-
-enum-known-shape : tie.Need-enum-known-shape
-enum-known-shape c = search needs
-
-enum-known-refusal : tie.Need-enum-known-refusal
-enum-known-refusal c = search needs
-
-same-length : tie.Need-same-length
-same-length c = search needs
-
 returns : tie.Need-returns
 returns c = rule-refused _ _ _ _ (checked-refused 1 _ _ _ (c .before .before .before .before .before .check .result) (c .before .before .before .before .before .check .ensures) (c .before .refusal .given .1))
-
-lasso-fault-requires : tie.Need-lasso-fault-requires
-lasso-fault-requires c κs = search needs
-
-enum-told : tie.Need-enum-told
-enum-told c = search needs
-
-enum-known-refusal-2 : tie.Need-enum-known-refusal-2
-enum-known-refusal-2 c = search needs
-
-zero-requires : tie.Need-zero-requires
-zero-requires c κs = search needs
-
-same-length-2 : tie.Need-same-length-2
-same-length-2 c = search needs
 
 returns-2 : tie.Need-returns-2
 returns-2 c =
@@ -53,12 +26,6 @@ idempotent-power-requires c κs =
     let g = words-good _ _ _ (c .before .before .before .before .before .before .lasso-fault .result) (c .before .before .before .before .before .before .lasso-fault .ensures) (c .before .before .before .before .enum-told .given .1) in
     (table _ (a .u .now) (a .v .now) _ p, (lawful _ (a .u .now) (a .v .now) _ p, cycle-inside _ _ _ _ p g (c .before .before .lasso-grade .ensures .1)))
 
-zero-requires-2 : tie.Need-zero-requires-2
-zero-requires-2 c κs = search needs
-
-same-length-3 : tie.Need-same-length-3
-same-length-3 c = search needs
-
 returns-3 : tie.Need-returns-3
 returns-3 c =
     let p = checked-rule 1 _ _ _ (c .before .before .before .before .before .before .before .before .before .before .before .before .before .before .before .before .before .check .result) (c .before .before .before .before .before .before .before .before .before .before .before .before .before .before .before .before .before .check .ensures) (c .before .before .before .before .before .before .before .before .before .before .before .before .before .shape .given .1) in
@@ -70,19 +37,19 @@ pub member-spec : {M : Type 1} → statement M
 member-spec =
     tie.close
     (tie.spec
-    check-requires
-    enum-known-shape
-    enum-known-refusal
-    same-length
+    (λ c κs. search needs)
+    (λ c. search needs)
+    (λ c. search needs)
+    (λ c. search needs)
     returns
-    lasso-fault-requires
-    enum-told
-    enum-known-refusal-2
-    zero-requires
-    same-length-2
+    (λ c κs. search needs)
+    (λ c. search needs)
+    (λ c. search needs)
+    (λ c κs. search needs)
+    (λ c. search needs)
     returns-2
     lasso-grade-requires
     idempotent-power-requires
-    zero-requires-2
-    same-length-3
+    (λ c κs. search needs)
+    (λ c. search needs)
     returns-3)

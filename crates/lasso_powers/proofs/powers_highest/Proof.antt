@@ -24,28 +24,10 @@ loop-holds c =
     let p = c .before .before .before .pre in
     turn-start _ (p .0) (p .1 .0) (p .1 .1 .1 .0 .0) (p .1 .1 .1 .0 .1) (p .1 .1 .1 .1) (c .product .ensures)
 
-mul-higher : tie.Need-mul-higher Inv-loop μ-loop
-mul-higher c = omega arith
-
-add-higher : tie.Need-add-higher Inv-loop μ-loop
-add-higher c = omega arith
-
-shared-slice-read-higher : tie.Need-shared-slice-read-higher Inv-loop μ-loop
-shared-slice-read-higher c = omega arith
-
-higher-requires : tie.Need-higher-requires Inv-loop μ-loop
-higher-requires c κs = search needs
-
 product-requires-2 : tie.Need-product-requires-2 Inv-loop μ-loop
 product-requires-2 c κs =
     let i = c .before .before .before .loop .inv in
     table-place (i .table) (i .s-inside) (i .r-inside)
-
-add-j : tie.Need-add-j Inv-loop μ-loop
-add-j c = omega arith
-
-loop-less : tie.Need-loop-less Inv-loop μ-loop
-loop-less c = omega arith
 
 loop-again : tie.Need-loop-again Inv-loop μ-loop
 loop-again c =
@@ -63,12 +45,12 @@ powers-highest-spec =
     μ-loop
     product-requires
     loop-holds
-    mul-higher
-    add-higher
-    shared-slice-read-higher
-    higher-requires
+    (λ c. omega arith)
+    (λ c. omega arith)
+    (λ c. omega arith)
+    (λ c κs. search needs)
     product-requires-2
-    add-j
-    loop-less
+    (λ c. omega arith)
+    (λ c. omega arith)
     loop-again
     returns)

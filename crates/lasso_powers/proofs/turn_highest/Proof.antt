@@ -3,21 +3,15 @@ use borrow.Author.Needs.{needs}
 use Rattle.lasso_powers.proofs.turn_highest.Statement.{statement}
 use Rattle.lasso_powers.proofs.turn_highest.Tie as tie
 
-idempotent-power-requires : tie.Need-idempotent-power-requires
-idempotent-power-requires c κs = search needs
-
 powers-highest-requires : tie.Need-powers-highest-requires
 powers-highest-requires c κs =
     let b = c .before .before .before .pre in
     (b .0, (b .1 .0, (b .1 .1 .0, (b .1 .1 .1, c .idempotent-power .ensures))))
 
-returns : tie.Need-returns
-returns c = search needs
-
 pub turn-highest-spec : {M : Type 1} → statement M
 turn-highest-spec =
     tie.close
     (tie.spec
-    idempotent-power-requires
+    (λ c κs. search needs)
     powers-highest-requires
-    returns)
+    (λ c. search needs))

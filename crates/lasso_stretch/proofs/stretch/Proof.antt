@@ -8,32 +8,14 @@ use borrow.Author.Needs.{needs}
 use Rattle.lasso_stretch.proofs.stretch.Statement.{statement}
 use Rattle.lasso_stretch.proofs.stretch.Tie as tie
 
-slice-aggregate-result : tie.Need-slice-aggregate-result
-slice-aggregate-result c = search needs
-
 returns : tie.Need-returns
 returns c = let h = long (c .before .if1 .taken) in (start-unfit _ _ h, start-unfit-place _ _ _ _ h)
-
-slice-aggregate-result-2 : tie.Need-slice-aggregate-result-2
-slice-aggregate-result-2 c = search needs
 
 returns-2 : tie.Need-returns-2
 returns-2 c = let h = empty (c .before .if2 .taken) in (cycle-unfit _ _ h, cycle-unfit-place _ _ _ _ h)
 
-slice-aggregate-result-3 : tie.Need-slice-aggregate-result-3
-slice-aggregate-result-3 c = search needs
-
 returns-3 : tie.Need-returns-3
 returns-3 c = let h = long (c .before .if3 .taken) in (cycle-unfit _ _ h, cycle-unfit-place _ _ _ _ h)
-
-sub-result : tie.Need-sub-result
-sub-result c = search needs
-
-part-result-start : tie.Need-part-result-start
-part-result-start c = search needs
-
-part-result-end : tie.Need-part-result-end
-part-result-end c = search needs
 
 returns-4 : tie.Need-returns-4
 returns-4 c =
@@ -42,12 +24,6 @@ returns-4 c =
     let fv : Fit 1 (a .v .now) = record { some = omega arith; short = omega arith } in
     let h = c .before .if4 .taken in
     (in-start fu fv _ h, in-start-place (a .u .ptr) (a .v .ptr) fu fv _ h (omega arith))
-
-sub-at : tie.Need-sub-at
-sub-at c = search needs
-
-rem-at : tie.Need-rem-at
-rem-at c = search needs
 
 sub-result-2 : tie.Need-sub-result-2
 sub-result-2 c =
@@ -58,9 +34,6 @@ part-result-start-2 : tie.Need-part-result-start-2
 part-result-start-2 c =
     let a = c .before .before .before .before .args in
     omega (arith, mod-lt (a .position - length (a .u .now)) {m = length (a .v .now)} (omega arith))
-
-part-result-end-2 : tie.Need-part-result-end-2
-part-result-end-2 c = search needs
 
 returns-5 : tie.Need-returns-5
 returns-5 c =
@@ -74,19 +47,19 @@ pub stretch-spec : {M : Type 1} → statement M
 stretch-spec =
     tie.close
     (tie.spec
-    slice-aggregate-result
+    (λ c. search needs)
     returns
-    slice-aggregate-result-2
+    (λ c. search needs)
     returns-2
-    slice-aggregate-result-3
+    (λ c. search needs)
     returns-3
-    sub-result
-    part-result-start
-    part-result-end
+    (λ c. search needs)
+    (λ c. search needs)
+    (λ c. search needs)
     returns-4
-    sub-at
-    rem-at
+    (λ c. search needs)
+    (λ c. search needs)
     sub-result-2
     part-result-start-2
-    part-result-end-2
+    (λ c. search needs)
     returns-5)

@@ -7,12 +7,6 @@ use Rattle.lasso_turns.proofs.Searching.{cut-inner, cut-last, end-behin
 use Rattle.lasso_turns.proofs.cut_at.Statement.{statement}
 use Rattle.lasso_turns.proofs.cut_at.Tie as tie
 
-add-x : tie.Need-add-x
-add-x c = search needs
-
-shared-slice-read-x : tie.Need-shared-slice-read-x
-shared-slice-read-x c = search needs
-
 cast-x : tie.Need-cast-x
 cast-x c = fits-8-64 (c .shared-slice-known3 .given _)
 
@@ -20,18 +14,6 @@ product-requires : tie.Need-product-requires
 product-requires c κs =
     let p = c .before .before .before .pre in
     table-place (p .0) (p .1 .1 .0) (p .1 .0 .beginning-inside _ (p .1 .1 .1))
-
-add-if1 : tie.Need-add-if1
-add-if1 c = search needs
-
-add-product : tie.Need-add-product
-add-product c = search needs
-
-add-product-2 : tie.Need-add-product-2
-add-product-2 c = search needs
-
-shared-slice-read-product : tie.Need-shared-slice-read-product
-shared-slice-read-product c = search needs
 
 cast-product : tie.Need-cast-product
 cast-product c = fits-8-64 (c .shared-slice-known4 .given _)
@@ -55,14 +37,14 @@ pub cut-at-spec : {M : Type 1} → statement M
 cut-at-spec =
     tie.close
     (tie.spec
-    add-x
-    shared-slice-read-x
+    (λ c. search needs)
+    (λ c. search needs)
     cast-x
     product-requires
-    add-if1
-    add-product
-    add-product-2
-    shared-slice-read-product
+    (λ c. search needs)
+    (λ c. search needs)
+    (λ c. search needs)
+    (λ c. search needs)
     cast-product
     product-requires-2
     returns

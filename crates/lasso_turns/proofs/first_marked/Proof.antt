@@ -30,12 +30,6 @@ turn-marked-requires c κs =
 returns : tie.Need-returns Inv-loop μ-loop
 returns c = cut-unmarked (c .before .before .before .before .loop .inv)
 
-add-j : tie.Need-add-j Inv-loop μ-loop
-add-j c = omega arith
-
-loop-less : tie.Need-loop-less Inv-loop μ-loop
-loop-less c = omega arith
-
 loop-again : tie.Need-loop-again Inv-loop μ-loop
 loop-again c =
     let d = c .before .before in
@@ -54,7 +48,7 @@ first-marked-spec =
     cut-at-requires
     turn-marked-requires
     returns
-    add-j
-    loop-less
+    (λ c. omega arith)
+    (λ c. omega arith)
     loop-again
     returns-2)

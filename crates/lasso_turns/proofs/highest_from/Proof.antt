@@ -34,12 +34,6 @@ returns c =
     let p = d .before .before .before .before .before .pre in
     cut-top (cut-next (d .before .before .loop .inv) (d .before .loop-test .taken) (d .cut-at .ensures) (c .before .turn-highest .ensures)) (p .1 .1 .1 .1 .0) (c .if1 .taken)
 
-add-j : tie.Need-add-j Inv-loop μ-loop
-add-j c = omega arith
-
-loop-less : tie.Need-loop-less Inv-loop μ-loop
-loop-less c = omega arith
-
 loop-again : tie.Need-loop-again Inv-loop μ-loop
 loop-again c =
     let d = c .before .before in
@@ -58,7 +52,7 @@ highest-from-spec =
     cut-at-requires
     turn-highest-requires
     returns
-    add-j
-    loop-less
+    (λ c. omega arith)
+    (λ c. omega arith)
     loop-again
     returns-2)

@@ -15,29 +15,11 @@ returns-2 c = cycle-out _ _ _ (record { some = omega arith; short = omega arith 
 returns-3 : tie.Need-returns-3
 returns-3 c = cycle-out _ _ _ (record { some = omega arith; short = omega arith }) (inr (c .if3 .taken))
 
-first-out-requires : tie.Need-first-out-requires
-first-out-requires c κs = search needs
-
-enum-known-i : tie.Need-enum-known-i
-enum-known-i c = search needs
-
 returns-4 : tie.Need-returns-4
 returns-4 c =
     let a = c .before .before .before .before .before .before .before .before .before .args in
     start-foreign _ _ _ (record { some = omega arith; short = omega arith }) (record { some = omega arith; short = omega arith })
     (foreign-at (a .k) (a .u .now) (c .before .before .before .first-out .result) (c .before .before .before .first-out .ensures) (c .before .i .given .1))
-
-enum-told : tie.Need-enum-told
-enum-told c = search needs
-
-first-out-requires-2 : tie.Need-first-out-requires-2
-first-out-requires-2 c κs = search needs
-
-enum-known-i-2 : tie.Need-enum-known-i-2
-enum-known-i-2 c = search needs
-
-enum-told-2 : tie.Need-enum-told-2
-enum-told-2 c = search needs
 
 returns-5 : tie.Need-returns-5
 returns-5 c =
@@ -60,12 +42,12 @@ lasso-fault-spec =
     returns
     returns-2
     returns-3
-    first-out-requires
-    enum-known-i
+    (λ c κs. search needs)
+    (λ c. search needs)
     returns-4
-    enum-told
-    first-out-requires-2
-    enum-known-i-2
-    enum-told-2
+    (λ c. search needs)
+    (λ c κs. search needs)
+    (λ c. search needs)
+    (λ c. search needs)
     returns-5
     returns-6)

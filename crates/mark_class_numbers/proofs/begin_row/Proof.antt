@@ -49,12 +49,6 @@ store-requires : tie.Need-store-requires Inv-loop μ-loop
 store-requires c κs =
     (place (c .before .before) .inside, attained-small (c .before .before .before .before .before .before .pre .0 .small) (c .before .first-number .ensures .attained))
 
-add-e : tie.Need-add-e Inv-loop μ-loop
-add-e c = omega arith
-
-loop-less : tie.Need-loop-less Inv-loop μ-loop
-loop-less c = omega arith
-
 loop-again : tie.Need-loop-again Inv-loop μ-loop
 loop-again c =
     let t = c .before .before .before .before .before in
@@ -81,8 +75,8 @@ begin-row-spec =
     add-store
     mul-store-2
     store-requires
-    add-e
-    loop-less
+    (λ c. omega arith)
+    (λ c. omega arith)
     loop-again
     same-length
     returns)

@@ -6,9 +6,6 @@ use Rattle.mark_class_numbers.proofs.Factors.{first-own, first-none}
 use Rattle.mark_class_numbers.proofs.first_number.Statement.{statement}
 use Rattle.mark_class_numbers.proofs.first_number.Tie as tie
 
-linked-requires : tie.Need-linked-requires
-linked-requires c κs = search needs
-
 returns : tie.Need-returns
 returns c = first-none (said-unlinked _ _ _ (c .before .linked .result) (c .before .linked .ensures) (c .if1 .taken))
 
@@ -22,4 +19,4 @@ returns-2 : tie.Need-returns-2
 returns-2 c = first-own (c .before .before .before .pre .1 .0) (said-linked _ _ _ (c .before .linked .result) (c .before .linked .ensures) (c .if1 .left))
 
 pub first-number-spec : {M : Type 1} → statement M
-first-number-spec = tie.close (tie.spec linked-requires returns mul-result add-result returns-2)
+first-number-spec = tie.close (tie.spec (λ c κs. search needs) returns mul-result add-result returns-2)

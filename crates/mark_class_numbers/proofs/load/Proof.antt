@@ -8,17 +8,8 @@ use Rattle.formats.specs.Sections.{twoBytes}
 use Rattle.mark_class_numbers.proofs.load.Statement.{statement}
 use Rattle.mark_class_numbers.proofs.load.Tie as tie
 
-shared-slice-read-low : tie.Need-shared-slice-read-low
-shared-slice-read-low c = search needs
-
 cast-low : tie.Need-cast-low
 cast-low c = fits-8-64 (c .shared-slice-known .given _)
-
-add-top : tie.Need-add-top
-add-top c = search needs
-
-shared-slice-read-top : tie.Need-shared-slice-read-top
-shared-slice-read-top c = search needs
 
 cast-top : tie.Need-cast-top
 cast-top c = fits-8-64 (c .shared-slice-known2 .given _)
@@ -37,10 +28,10 @@ pub load-spec : {M : Type 1} → statement M
 load-spec =
     tie.close
     (tie.spec
-    shared-slice-read-low
+    (λ c. search needs)
     cast-low
-    add-top
-    shared-slice-read-top
+    (λ c. search needs)
+    (λ c. search needs)
     cast-top
     mul-result
     add-result

@@ -49,12 +49,6 @@ store-requires : tie.Need-store-requires Inv-loop μ-loop
 store-requires c κs =
     (place (c .before .before .before .before) .inside, omega (arith, lowest-le (c .before .lowest .ensures), c .before .before .load .ensures .small))
 
-add-s : tie.Need-add-s Inv-loop μ-loop
-add-s c = omega arith
-
-loop-less : tie.Need-loop-less Inv-loop μ-loop
-loop-less c = omega arith
-
 loop-again : tie.Need-loop-again Inv-loop μ-loop
 loop-again c =
     let t = c .before .before .before .before .before .before .before in
@@ -88,8 +82,8 @@ lower-spec =
     load-requires
     lowest-requires
     store-requires
-    add-s
-    loop-less
+    (λ c. omega arith)
+    (λ c. omega arith)
     loop-again
     same-length
     returns)

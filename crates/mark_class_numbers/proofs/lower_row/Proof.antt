@@ -32,12 +32,6 @@ lower-by-requires c κs =
       ),
     )
 
-add-y : tie.Need-add-y Inv-loop μ-loop
-add-y c = omega arith
-
-loop-less : tie.Need-loop-less Inv-loop μ-loop
-loop-less c = omega arith
-
 loop-again : tie.Need-loop-again Inv-loop μ-loop
 loop-again c = (advanced-both (c .before .before .before .before .before .loop .inv .0) (c .before .before .lower-by .ensures), omega arith)
 
@@ -58,8 +52,8 @@ lower-row-spec =
     μ-loop
     loop-holds
     lower-by-requires
-    add-y
-    loop-less
+    (λ c. omega arith)
+    (λ c. omega arith)
     loop-again
     same-length
     returns)

@@ -7,14 +7,8 @@ use Rattle.mark_class_numbers.proofs.Factors.{lowest-less, lowest-not}
 use Rattle.mark_class_numbers.proofs.lowest.Statement.{statement}
 use Rattle.mark_class_numbers.proofs.lowest.Tie as tie
 
-product-requires : tie.Need-product-requires
-product-requires c κs = search needs
-
 returns : tie.Need-returns
 returns c = better-moved (c .before .product .ensures) (c .if1 .taken)
-
-product-requires-2 : tie.Need-product-requires-2
-product-requires-2 c κs = search needs
 
 mul-number : tie.Need-mul-number
 mul-number c =
@@ -42,9 +36,9 @@ pub lowest-spec : {M : Type 1} → statement M
 lowest-spec =
     tie.close
     (tie.spec
-    product-requires
+    (λ c κs. search needs)
     returns
-    product-requires-2
+    (λ c κs. search needs)
     mul-number
     add-number
     returns-2

@@ -17,23 +17,11 @@ abbrev μ-loop : tie.MeasureT-loop
 loop-holds : tie.Need-loop-holds Inv-loop μ-loop
 loop-holds c = (counts-none _, omega arith)
 
-mul-load : tie.Need-mul-load Inv-loop μ-loop
-mul-load c = omega arith
-
-load-requires : tie.Need-load-requires Inv-loop μ-loop
-load-requires c κs = omega arith
-
 add-linked : tie.Need-add-linked Inv-loop μ-loop
 add-linked c = omega (arith, counted-le (c .before .before .before .loop .inv .0 .linked-cells))
 
 add-classes : tie.Need-add-classes Inv-loop μ-loop
 add-classes c = omega (arith, counted-le (c .before .before .before .before .loop .inv .0 .own-cells))
-
-add-i : tie.Need-add-i Inv-loop μ-loop
-add-i c = omega arith
-
-loop-less : tie.Need-loop-less Inv-loop μ-loop
-loop-less c = omega arith
 
 loop-again : tie.Need-loop-again Inv-loop μ-loop
 loop-again c =
@@ -60,11 +48,11 @@ count-spec =
     Inv-loop
     μ-loop
     loop-holds
-    mul-load
-    load-requires
+    (λ c. omega arith)
+    (λ c κs. omega arith)
     add-linked
     add-classes
-    add-i
-    loop-less
+    (λ c. omega arith)
+    (λ c. omega arith)
     loop-again
     returns)

@@ -14,25 +14,10 @@ use Rattle.mark_classes.proofs.list_classes.Tie as tie
 returns : tie.Need-returns
 returns c = out-short _ _ _ (c .if1 .taken)
 
-check-requires : tie.Need-check-requires
-check-requires c κs = search needs
-
-enum-known-shape : tie.Need-enum-known-shape
-enum-known-shape c = search needs
-
-enum-known-refusal : tie.Need-enum-known-refusal
-enum-known-refusal c = search needs
-
-same-length : tie.Need-same-length
-same-length c = search needs
-
 returns-2 : tie.Need-returns-2
 returns-2 c =
     let u = c .before .before .before .before .before in
     listed-refused _ _ _ _ _ (u .before .before .if1 .left) (u .check .ensures) (c .before .refusal .given .1)
-
-zero-requires : tie.Need-zero-requires
-zero-requires c κs = search needs
 
 -- of a checked rule: its table, that it is lawful, and that it has few pairs
 table : (d : tie.After-shape) → Table (d .before .before .before .before .before .before .before .before .before .before .args .rule .now) (d .shape .given .0 .0 .elements) (d .shape .given .0 .0 .letters)
@@ -57,15 +42,6 @@ count-requires c κs =
     let d = c .before .before .before .before .before .before .before .before .before .before in
     (few d, omega (arith, few d, d .before .before .before .before .before .before .if1 .left, c .before .before .before .write-classes .ensures .same-length))
 
-sub-t14 : tie.Need-sub-t14
-sub-t14 c = search needs
-
-same-length-2 : tie.Need-same-length-2
-same-length-2 c = search needs
-
-same-length-3 : tie.Need-same-length-3
-same-length-3 c = search needs
-
 returns-3 : tie.Need-returns-3
 returns-3 c =
     let d = c .before .before .before .before .before .before .before .before .before .before .before in
@@ -78,16 +54,16 @@ list-classes-spec =
     tie.close
     (tie.spec
     returns
-    check-requires
-    enum-known-shape
-    enum-known-refusal
-    same-length
+    (λ c κs. search needs)
+    (λ c. search needs)
+    (λ c. search needs)
+    (λ c. search needs)
     returns-2
-    zero-requires
+    (λ c κs. search needs)
     write-classes-requires
     mul-count
     count-requires
-    sub-t14
-    same-length-2
-    same-length-3
+    (λ c. search needs)
+    (λ c. search needs)
+    (λ c. search needs)
     returns-3)

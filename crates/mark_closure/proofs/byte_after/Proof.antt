@@ -8,26 +8,8 @@ use Rattle.mark_closure.proofs.Columns.{after-lower, after-higher}
 use Rattle.mark_closure.proofs.byte_after.Statement.{statement}
 use Rattle.mark_closure.proofs.byte_after.Tie as tie
 
-mul-old : tie.Need-mul-old
-mul-old c = search needs
-
-add-old : tie.Need-add-old
-add-old c = search needs
-
-add-old-2 : tie.Need-add-old-2
-add-old-2 c = search needs
-
-shared-slice-read-old : tie.Need-shared-slice-read-old
-shared-slice-read-old c = search needs
-
-product-requires : tie.Need-product-requires
-product-requires c κs = search needs
-
 returns : tie.Need-returns
 returns c = better-moved (c .before .product .ensures) (c .if1 .taken)
-
-product-requires-2 : tie.Need-product-requires-2
-product-requires-2 c κs = search needs
 
 -- s·x is an element
 start-below : (c : tie.After-product2) → c .product2 .result < c .before .before .before .before .before .before .args .n
@@ -58,13 +40,13 @@ pub byte-after-spec : {M : Type 1} → statement M
 byte-after-spec =
     tie.close
     (tie.spec
-    mul-old
-    add-old
-    add-old-2
-    shared-slice-read-old
-    product-requires
+    (λ c. search needs)
+    (λ c. search needs)
+    (λ c. search needs)
+    (λ c. search needs)
+    (λ c κs. search needs)
     returns
-    product-requires-2
+    (λ c κs. search needs)
     mul-mark
     add-mark
     shared-slice-read-mark

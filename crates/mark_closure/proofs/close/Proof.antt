@@ -6,18 +6,6 @@ use Rattle.mark_closure.proofs.Answers.{closure-answer}
 use Rattle.mark_closure.proofs.close.Statement.{statement}
 use Rattle.mark_closure.proofs.close.Tie as tie
 
-close-pairs-requires : tie.Need-close-pairs-requires
-close-pairs-requires c κs = search needs
-
-mul-within : tie.Need-mul-within
-mul-within c = search needs
-
-within-requires : tie.Need-within-requires
-within-requires c κs = search needs
-
-same-length : tie.Need-same-length
-same-length c = search needs
-
 returns : tie.Need-returns
 returns c =
     let u = c .before .before .before .before in
@@ -27,4 +15,4 @@ returns c =
 
 pub close-spec : {M : Type 1} → statement M
 close-spec =
-    tie.close (tie.spec close-pairs-requires mul-within within-requires same-length returns)
+    tie.close (tie.spec (λ c κs. search needs) (λ c. search needs) (λ c κs. search needs) (λ c. search needs) returns)

@@ -23,23 +23,8 @@ byte-after-requires c κs =
     let b = a .before .before .before in
     (b .pre .0, (omega (arith, b .pre .1 .0, a .loop .inv .0 .kept .same-length), (b .pre .1 .1 .0, b .pre .1 .1 .1, b .pre .1 .1 .2, c .before .loop-test .taken)))
 
-mul-scratch : tie.Need-mul-scratch Inv-loop μ-loop
-mul-scratch c = omega arith
-
-add-scratch : tie.Need-add-scratch Inv-loop μ-loop
-add-scratch c = omega arith
-
-add-scratch-2 : tie.Need-add-scratch-2 Inv-loop μ-loop
-add-scratch-2 c = omega arith
-
 slice-write-scratch : tie.Need-slice-write-scratch Inv-loop μ-loop
 slice-write-scratch c = omega (arith, c .before .before .before .loop .inv .0 .kept .same-length)
-
-add-s : tie.Need-add-s Inv-loop μ-loop
-add-s c = omega arith
-
-loop-less : tie.Need-loop-less Inv-loop μ-loop
-loop-less c = omega arith
 
 loop-again : tie.Need-loop-again Inv-loop μ-loop
 loop-again c =
@@ -69,12 +54,12 @@ close-column-spec =
     μ-loop
     loop-holds
     byte-after-requires
-    mul-scratch
-    add-scratch
-    add-scratch-2
+    (λ c. omega arith)
+    (λ c. omega arith)
+    (λ c. omega arith)
     slice-write-scratch
-    add-s
-    loop-less
+    (λ c. omega arith)
+    (λ c. omega arith)
     loop-again
     same-length
     returns)

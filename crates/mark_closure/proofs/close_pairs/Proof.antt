@@ -27,12 +27,6 @@ close-row-requires c κs =
     let b = d .before .before .before in
     (b .pre .0, (b .pre .1 .0, (c .before .loop-test .taken, d .loop .inv .0 .so-far)))
 
-add-x : tie.Need-add-x Inv-loop μ-loop
-add-x c = omega arith
-
-loop-less : tie.Need-loop-less Inv-loop μ-loop
-loop-less c = omega arith
-
 loop-again : tie.Need-loop-again Inv-loop μ-loop
 loop-again c =
     let d = c .before .before .before .before .before in
@@ -55,8 +49,8 @@ close-pairs-spec =
     μ-loop
     loop-holds
     close-row-requires
-    add-x
-    loop-less
+    (λ c. omega arith)
+    (λ c. omega arith)
     loop-again
     same-length
     returns)

@@ -27,12 +27,6 @@ close-by-requires c κs =
     let b = d .before .before .before in
     (b .pre .0, (b .pre .1 .0, ((b .pre .1 .1 .0, c .before .loop-test .taken), d .loop .inv .0 .so-far)))
 
-add-y : tie.Need-add-y Inv-loop μ-loop
-add-y c = omega arith
-
-loop-less : tie.Need-loop-less Inv-loop μ-loop
-loop-less c = omega arith
-
 loop-again : tie.Need-loop-again Inv-loop μ-loop
 loop-again c = (advanced-both (c .before .before .before .before .before .loop .inv .0) (c .before .before .close-by .ensures), omega arith)
 
@@ -53,8 +47,8 @@ close-row-spec =
     μ-loop
     loop-holds
     close-by-requires
-    add-y
-    loop-less
+    (λ c. omega arith)
+    (λ c. omega arith)
     loop-again
     same-length
     returns)

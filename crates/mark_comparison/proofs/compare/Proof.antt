@@ -7,38 +7,14 @@ use Rattle.mark_comparison.proofs.compare.Tie as tie
 highest-escape-requires : tie.Need-highest-escape-requires
 highest-escape-requires c κs = (c .before .before .before .before .before .pre .0, compare-search (c .before .before .before .before .before .pre .1 .0))
 
-enum-told : tie.Need-enum-told
-enum-told c = search needs
-
-zero-requires : tie.Need-zero-requires
-zero-requires c κs = search needs
-
-enum-known-start : tie.Need-enum-known-start
-enum-known-start c = search needs
-
 write-start-requires : tie.Need-write-start-requires
 write-start-requires c κs = (c .before .before .before .before .before .before .before .before .before .before .before .before .pre .0, start-room (c .before .before .before .before .before .before .before .before .before .before .before .before .pre .1 .0) (c .before .before .before .before .before .before .highest-escape .ensures) (c .before .before .start .given .1) (c .before .before .before .before .before .before .before .before .before .before .before .before .pre .1 .1 .0))
 
 write-cycle-requires : tie.Need-write-cycle-requires
 write-cycle-requires c κs = cycle-room (c .before .before .before .before .before .before .before .before .before .before .before .before .before .before .before .before .before .pre .1 .0) (c .before .before .before .before .before .before .before .before .before .before .before .highest-escape .ensures) (c .before .before .before .before .before .before .before .start .given .1) (c .before .before .before .before .before .before .before .before .before .before .before .before .before .before .before .before .before .pre .1 .1 .1)
 
-zero-requires-2 : tie.Need-zero-requires-2
-zero-requires-2 c κs = search needs
-
-same-length : tie.Need-same-length
-same-length c = search needs
-
 returns : tie.Need-returns
 returns c = compared-within (c .before .before .before .before .before .before .before .before .before .before .before .before .before .before .pre .1 .0) (c .before .before .before .before .before .before .before .before .highest-escape .ensures) _ _ (c .before .before .before .before .enum-told .given .1) (c .before .before .zero .ensures)
-
-same-length-2 : tie.Need-same-length-2
-same-length-2 c = search needs
-
-same-length-3 : tie.Need-same-length-3
-same-length-3 c = search needs
-
-same-length-4 : tie.Need-same-length-4
-same-length-4 c = search needs
 
 returns-2 : tie.Need-returns-2
 returns-2 c = compared-apart (c .before .before .before .before .before .before .before .before .before .before .before .before .before .before .before .before .before .before .before .before .before .before .before .before .pre .1 .0) (c .before .before .before .before .before .before .before .before .before .before .before .before .before .before .before .before .before .before .highest-escape .ensures) (c .before .before .before .before .before .before .before .before .before .before .before .before .before .before .start .given .1) (c .before .before .before .before .before .before .before .before .before .before .before .write-start .ensures) (c .before .before .before .before .before .before .write-cycle .ensures) (c .before .before .zero2 .ensures)
@@ -48,15 +24,15 @@ compare-spec =
     tie.close
     (tie.spec
     highest-escape-requires
-    enum-told
-    zero-requires
-    enum-known-start
+    (λ c. search needs)
+    (λ c κs. search needs)
+    (λ c. search needs)
     write-start-requires
     write-cycle-requires
-    zero-requires-2
-    same-length
+    (λ c κs. search needs)
+    (λ c. search needs)
     returns
-    same-length-2
-    same-length-3
-    same-length-4
+    (λ c. search needs)
+    (λ c. search needs)
+    (λ c. search needs)
     returns-2)

@@ -4,20 +4,11 @@ use Rattle.mark_comparison.proofs.Comparing.{start-place, start-written
 use Rattle.mark_comparison.proofs.write_start.Statement.{statement}
 use Rattle.mark_comparison.proofs.write_start.Tie as tie
 
-slice-aggregate-reach : tie.Need-slice-aggregate-reach
-slice-aggregate-reach c = search needs
-
 reach-requires : tie.Need-reach-requires
 reach-requires c κs = (c .before .before .before .pre .0, blank-queue)
 
-slice-aggregate-write-first-word : tie.Need-slice-aggregate-write-first-word
-slice-aggregate-write-first-word c = search needs
-
 write-first-word-requires : tie.Need-write-first-word-requires
 write-first-word-requires c κs = start-place (c .before .before .before .before .before .before .before .pre .0) (c .before .before .before .before .before .before .before .pre .1) (c .before .before .before .reach .ensures) blank-queue
-
-same-length : tie.Need-same-length
-same-length c = search needs
 
 returns : tie.Need-returns
 returns c = start-written (c .before .before .before .before .before .before .before .before .before .before .pre .0) (c .before .before .before .before .before .before .before .before .before .before .pre .1) (c .before .before .before .before .before .before .reach .ensures) blank-queue (c .before .before .write-first-word .ensures)
@@ -26,9 +17,9 @@ pub write-start-spec : {M : Type 1} → statement M
 write-start-spec =
     tie.close
     (tie.spec
-    slice-aggregate-reach
+    (λ c. search needs)
     reach-requires
-    slice-aggregate-write-first-word
+    (λ c. search needs)
     write-first-word-requires
-    same-length
+    (λ c. search needs)
     returns)

@@ -9,29 +9,11 @@ use Rattle.mark_complement.proofs.complement.Tie as tie
 returns : tie.Need-returns
 returns c = out-short _ _ _ (c .if1 .taken)
 
-check-requires : tie.Need-check-requires
-check-requires c κs = search needs
-
-enum-known-shape : tie.Need-enum-known-shape
-enum-known-shape c = search needs
-
-enum-known-refusal : tie.Need-enum-known-refusal
-enum-known-refusal c = search needs
-
-same-length : tie.Need-same-length
-same-length c = search needs
-
 returns-2 : tie.Need-returns-2
 returns-2 c = rule-refused _ _ _ (c .before .before .before .before .before .before .before .if1 .left) (checked-refused 1 _ _ _ _ (c .before .before .before .before .before .check .ensures) (c .before .refusal .given .1))
 
 decide-requires : tie.Need-decide-requires
 decide-requires c κs = let p = checked-rule 1 _ _ _ _ (c .before .before .before .before .before .before .check .ensures) (c .before .before .shape .given .1) in (checked-table 1 _ _ p, decide-place 1 _ _ p)
-
-zero-requires : tie.Need-zero-requires
-zero-requires c κs = search needs
-
-same-length-2 : tie.Need-same-length-2
-same-length-2 c = search needs
 
 returns-3 : tie.Need-returns-3
 returns-3 c = weak-refused _ _ _ (c .before .before .before .before .before .before .before .before .before .before .before .before .before .before .before .before .if1 .left) (checked-rule 1 _ _ _ _ (c .before .before .before .before .before .before .before .before .before .before .before .before .before .before .check .ensures) (c .before .before .before .before .before .before .before .before .before .before .shape .given .1)) (c .before .before .before .before .before .before .before .decide .ensures) (c .before .before .before .before .if2 .taken) (c .before .before .zero .ensures)
@@ -42,15 +24,6 @@ complement-marks-requires c κs = let p = checked-rule 1 _ _ _ _ (c .before .bef
 write-marked-requires : tie.Need-write-marked-requires
 write-marked-requires c κs = let p = checked-rule 1 _ _ _ _ (c .before .before .before .before .before .before .before .before .before .before .before .before .before .before .before .before .check .ensures) (c .before .before .before .before .before .before .before .before .before .before .before .before .shape .given .1) in (checked-table 1 _ _ p, write-place _ _ _ (c .before .before .before .before .before .before .before .before .before .before .before .before .before .before .before .before .before .before .if1 .left) p (c .before .before .before .before .before .before .before .before .before .decide .ensures) (c .before .before .before .before .complement-marks .ensures))
 
-zero-requires-2 : tie.Need-zero-requires-2
-zero-requires-2 c κs = search needs
-
-same-length-3 : tie.Need-same-length-3
-same-length-3 c = search needs
-
-same-length-4 : tie.Need-same-length-4
-same-length-4 c = search needs
-
 returns-4 : tie.Need-returns-4
 returns-4 c = complement-written _ _ _ (c .before .before .before .before .before .before .before .before .before .before .before .before .before .before .before .before .before .before .before .before .before .before .before .before .before .if1 .left) (checked-rule 1 _ _ _ _ (c .before .before .before .before .before .before .before .before .before .before .before .before .before .before .before .before .before .before .before .before .before .before .before .check .ensures) (c .before .before .before .before .before .before .before .before .before .before .before .before .before .before .before .before .before .before .before .shape .given .1)) (c .before .before .before .before .before .before .before .before .before .before .before .before .before .before .before .before .decide .ensures) (c .before .before .before .before .before .before .before .before .before .before .before .complement-marks .ensures) (c .before .before .before .before .before .before .before .before .before .before .before .before .before .if2 .left) (c .before .before .before .before .before .before .write-marked .ensures) (c .before .before .zero2 .ensures)
 
@@ -59,18 +32,18 @@ complement-spec =
     tie.close
     (tie.spec
     returns
-    check-requires
-    enum-known-shape
-    enum-known-refusal
-    same-length
+    (λ c κs. search needs)
+    (λ c. search needs)
+    (λ c. search needs)
+    (λ c. search needs)
     returns-2
     decide-requires
-    zero-requires
-    same-length-2
+    (λ c κs. search needs)
+    (λ c. search needs)
     returns-3
     complement-marks-requires
     write-marked-requires
-    zero-requires-2
-    same-length-3
-    same-length-4
+    (λ c κs. search needs)
+    (λ c. search needs)
+    (λ c. search needs)
     returns-4)

@@ -7,23 +7,8 @@ use Rattle.mark_complement_marks.proofs.Turned.{turned-unlinked, turned
 use Rattle.mark_complement_marks.proofs.complement_byte.Statement.{statement}
 use Rattle.mark_complement_marks.proofs.complement_byte.Tie as tie
 
-linked-requires : tie.Need-linked-requires
-linked-requires c κs = search needs
-
 returns : tie.Need-returns
 returns c = turned-unlinked _ _ _ _ (said-unlinked _ _ _ (c .before .linked .result) (c .before .linked .ensures) (c .if1 .taken))
-
-mul-mark : tie.Need-mul-mark
-mul-mark c = search needs
-
-add-mark : tie.Need-add-mark
-add-mark c = search needs
-
-add-mark-2 : tie.Need-add-mark-2
-add-mark-2 c = search needs
-
-shared-slice-read-mark : tie.Need-shared-slice-read-mark
-shared-slice-read-mark c = search needs
 
 returns-2 : tie.Need-returns-2
 returns-2 c =
@@ -41,12 +26,12 @@ pub complement-byte-spec : {M : Type 1} → statement M
 complement-byte-spec =
     tie.close
     (tie.spec
-    linked-requires
+    (λ c κs. search needs)
     returns
-    mul-mark
-    add-mark
-    add-mark-2
-    shared-slice-read-mark
+    (λ c. search needs)
+    (λ c. search needs)
+    (λ c. search needs)
+    (λ c. search needs)
     returns-2
     sub-result
     returns-3)

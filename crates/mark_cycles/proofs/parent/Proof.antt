@@ -7,20 +7,8 @@ use Rattle.mark_search_list.specs.Queue.{parentAt}
 use Rattle.mark_cycles.proofs.parent.Statement.{statement}
 use Rattle.mark_cycles.proofs.parent.Tie as tie
 
-add-low : tie.Need-add-low
-add-low c = search needs
-
-shared-slice-read-low : tie.Need-shared-slice-read-low
-shared-slice-read-low c = search needs
-
 cast-low : tie.Need-cast-low
 cast-low c = fits-8-64 (c .shared-slice-known .given _)
-
-add-high : tie.Need-add-high
-add-high c = search needs
-
-shared-slice-read-high : tie.Need-shared-slice-read-high
-shared-slice-read-high c = search needs
 
 cast-high : tie.Need-cast-high
 cast-high c = fits-8-64 (c .shared-slice-known2 .given _)
@@ -39,11 +27,11 @@ pub parent-spec : {M : Type 1} → statement M
 parent-spec =
     tie.close
     (tie.spec
-    add-low
-    shared-slice-read-low
+    (λ c. search needs)
+    (λ c. search needs)
     cast-low
-    add-high
-    shared-slice-read-high
+    (λ c. search needs)
+    (λ c. search needs)
     cast-high
     mul-result
     add-result

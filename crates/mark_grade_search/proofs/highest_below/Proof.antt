@@ -18,9 +18,6 @@ wrapping-sub-u8-requires c κs = tt
 loop-holds : tie.Need-loop-holds Inv-loop μ-loop
 loop-holds c = top-none _ (c .before .before .pre .0) (c .wrapping-sub-u8 .ensures)
 
-add-wrapping-sub-u8 : tie.Need-add-wrapping-sub-u8 Inv-loop μ-loop
-add-wrapping-sub-u8 c = search needs
-
 shared-slice-read-wrapping-sub-u8 : tie.Need-shared-slice-read-wrapping-sub-u8 Inv-loop μ-loop
 shared-slice-read-wrapping-sub-u8 c = omega (arith, c .before .before .before .before .before .pre .1)
 
@@ -29,12 +26,6 @@ wrapping-sub-u8-requires-2 c κs = tt
 
 greater-requires : tie.Need-greater-requires Inv-loop μ-loop
 greater-requires c κs = tt
-
-add-i : tie.Need-add-i Inv-loop μ-loop
-add-i c = omega arith
-
-loop-less : tie.Need-loop-less Inv-loop μ-loop
-loop-less c = omega arith
 
 loop-again : tie.Need-loop-again Inv-loop μ-loop
 loop-again c = top-more (c .before .before .before .before .loop .inv) (c .before .wrapping-sub-u82 .ensures) (c .greater .ensures)
@@ -53,12 +44,12 @@ highest-below-spec =
     μ-loop
     wrapping-sub-u8-requires
     loop-holds
-    add-wrapping-sub-u8
+    (λ c. search needs)
     shared-slice-read-wrapping-sub-u8
     wrapping-sub-u8-requires-2
     greater-requires
-    add-i
-    loop-less
+    (λ c. omega arith)
+    (λ c. omega arith)
     loop-again
     shifted-back-requires
     returns)

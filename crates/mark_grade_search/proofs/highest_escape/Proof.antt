@@ -41,9 +41,6 @@ first-escape-requires c κs =
     let start = loop .before .before .before in
     (start .pre .0, next-place (start .pre .0 .small) (start .pre .1) (loop .loop .inv))
 
-enum-known-start : tie.Need-enum-known-start Inv-loop μ-loop
-enum-known-start c = search needs
-
 returns-2 : tie.Need-returns-2 Inv-loop μ-loop
 returns-2 c =
     let search = c .before .before .before .before .before in
@@ -55,9 +52,6 @@ returns-2 c =
 
 same-length-2 : tie.Need-same-length-2 Inv-loop μ-loop
 same-length-2 c = returns-2 c .same-length
-
-enum-told : tie.Need-enum-told Inv-loop μ-loop
-enum-told c = search needs
 
 loop-less : tie.Need-loop-less Inv-loop μ-loop
 loop-less c = omega (arith, c .before .before .before .before .before .before .before .highest-below .ensures .less)
@@ -91,10 +85,10 @@ highest-escape-spec =
     same-length
     returns
     first-escape-requires
-    enum-known-start
+    (λ c. search needs)
     same-length-2
     returns-2
-    enum-told
+    (λ c. search needs)
     loop-less
     loop-again
     same-length-3

@@ -5,9 +5,6 @@ use Rattle.mark_preimages.proofs.Letters.{letter-below, after-element, 
 use Rattle.mark_preimages.proofs.after_letter.Statement.{statement}
 use Rattle.mark_preimages.proofs.after_letter.Tie as tie
 
-image-requires : tie.Need-image-requires
-image-requires c κs = search needs
-
 product-requires : tie.Need-product-requires
 product-requires c κs =
     let table = c .before .before .before .pre .0 in
@@ -25,4 +22,4 @@ returns-2 c =
     after-empty (b .pre .0) (b .pre .1) (c .before .image .ensures) (c .if1 .left)
 
 pub after-letter-spec : {M : Type 1} → statement M
-after-letter-spec = tie.close (tie.spec image-requires product-requires returns returns-2)
+after-letter-spec = tie.close (tie.spec (λ c κs. search needs) product-requires returns returns-2)

@@ -43,9 +43,6 @@ list-value-requires c κs =
 add-c : tie.Need-add-c Inv-loop μ-loop
 add-c c = omega (arith, c .before .before .before .before .before .before .before .before .before .pre .0 .small)
 
-loop-less : tie.Need-loop-less Inv-loop μ-loop
-loop-less c = omega arith
-
 loop-again : tie.Need-loop-again Inv-loop μ-loop
 loop-again c =
     let d = c .before .before .before .before .before in
@@ -76,7 +73,7 @@ list-letter-spec =
     after-letter-requires
     list-value-requires
     add-c
-    loop-less
+    (λ c. omega arith)
     loop-again
     same-length
     returns)

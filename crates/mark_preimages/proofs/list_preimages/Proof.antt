@@ -24,12 +24,6 @@ list-letter-requires c κs =
     let b = d .before .before .before in
     (b .pre .0, (c .before .loop-test .taken, letters-room (d .loop .inv .0) (b .pre .1 .room) (c .before .loop-test .taken)))
 
-add-a : tie.Need-add-a Inv-loop μ-loop
-add-a c = omega arith
-
-loop-less : tie.Need-loop-less Inv-loop μ-loop
-loop-less c = omega arith
-
 loop-again : tie.Need-loop-again Inv-loop μ-loop
 loop-again c =
     let d = c .before .before .before .before in
@@ -50,8 +44,8 @@ list-preimages-spec =
     μ-loop
     loop-holds
     list-letter-requires
-    add-a
-    loop-less
+    (λ c. omega arith)
+    (λ c. omega arith)
     loop-again
     same-length
     returns)

@@ -18,23 +18,11 @@ loop-holds c = searched-start _ (c .before .before .pre .0 .small) (c .before .b
 search-from-requires : tie.Need-search-from-requires Inv-loop μ-loop
 search-from-requires c κs = (c .before .before .before .before .before .pre .0, next-place _ (c .before .before .before .before .before .pre .0 .small) (c .before .before .before .before .before .pre .1) (c .before .before .loop .inv) (c .before .loop-test .taken))
 
-enum-known-entry : tie.Need-enum-known-entry Inv-loop μ-loop
-enum-known-entry c = search needs
-
 same-length : tie.Need-same-length Inv-loop μ-loop
 same-length c = escaped-at _ (c .before .before .before .before .before .before .before .before .before .before .before .pre .0 .small) (c .before .before .before .before .before .before .before .before .before .before .before .pre .1) (c .before .before .before .before .before .before .before .before .loop .inv) (c .before .before .before .before .before .before .before .loop-test .taken) (c .before .before .before .before .before .search-from .ensures) (c .before .entry .given .1) .same-length
 
 returns : tie.Need-returns Inv-loop μ-loop
 returns c = escaped-at _ (c .before .before .before .before .before .before .before .before .before .before .before .pre .0 .small) (c .before .before .before .before .before .before .before .before .before .before .before .pre .1) (c .before .before .before .before .before .before .before .before .loop .inv) (c .before .before .before .before .before .before .before .loop-test .taken) (c .before .before .before .before .before .search-from .ensures) (c .before .entry .given .1)
-
-enum-told : tie.Need-enum-told Inv-loop μ-loop
-enum-told c = search needs
-
-add-s : tie.Need-add-s Inv-loop μ-loop
-add-s c = omega arith
-
-loop-less : tie.Need-loop-less Inv-loop μ-loop
-loop-less c = omega arith
 
 loop-again : tie.Need-loop-again Inv-loop μ-loop
 loop-again c = searched-next _ (c .before .before .before .before .before .before .before .before .before .before .pre .0 .small) (c .before .before .before .before .before .before .before .before .before .before .pre .1) (c .before .before .before .before .before .before .before .loop .inv) (c .before .before .before .before .search-from .ensures) (c .enum-told .given .1)
@@ -53,12 +41,12 @@ search-all-spec =
     μ-loop
     loop-holds
     search-from-requires
-    enum-known-entry
+    (λ c. search needs)
     same-length
     returns
-    enum-told
-    add-s
-    loop-less
+    (λ c. search needs)
+    (λ c. omega arith)
+    (λ c. omega arith)
     loop-again
     same-length-2
     returns-2)

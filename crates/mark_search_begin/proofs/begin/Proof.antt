@@ -19,12 +19,6 @@ loop-holds c = begun-start _ (c .before .pre .base) (c .before .pre)
 begin-with-requires : tie.Need-begin-with-requires Inv-loop μ-loop
 begin-with-requires c κs = (begun-place _ (c .before .before .before .before .pre .base) (c .before .before .loop .inv), c .before .loop-test .taken)
 
-add-e : tie.Need-add-e Inv-loop μ-loop
-add-e c = omega arith
-
-loop-less : tie.Need-loop-less Inv-loop μ-loop
-loop-less c = omega arith
-
 loop-again : tie.Need-loop-again Inv-loop μ-loop
 loop-again c = begun-next _ (c .before .before .before .before .before .before .before .pre .base) (c .before .before .before .before .before .loop .inv) (c .before .before .before .before .loop-test .taken) (c .before .before .begin-with .ensures)
 
@@ -42,8 +36,8 @@ begin-spec =
     μ-loop
     loop-holds
     begin-with-requires
-    add-e
-    loop-less
+    (λ c. omega arith)
+    (λ c. omega arith)
     loop-again
     same-length
     returns)

@@ -4,24 +4,6 @@ use Rattle.mark_search_begin.proofs.Beginning.{not-begun, begun-with}
 use Rattle.mark_search_begin.proofs.begin_with.Statement.{statement}
 use Rattle.mark_search_begin.proofs.begin_with.Tie as tie
 
-mul-mark : tie.Need-mul-mark
-mul-mark c = search needs
-
-add-mark : tie.Need-add-mark
-add-mark c = search needs
-
-add-mark-2 : tie.Need-add-mark-2
-add-mark-2 c = search needs
-
-slice-read-mark : tie.Need-slice-read-mark
-slice-read-mark c = search needs
-
-add-requires : tie.Need-add-requires
-add-requires c κs = search needs
-
-same-length : tie.Need-same-length
-same-length c = search needs
-
 returns : tie.Need-returns
 returns c = begun-with _ (c .before .before .before .before .before .before .before .pre .0) (c .before .before .before .before .before .before .before .pre .1) (c .before .before .before .before .if1 .taken) (c .before .before .add .ensures)
 
@@ -32,11 +14,11 @@ pub begin-with-spec : {M : Type 1} → statement M
 begin-with-spec =
     tie.close
     (tie.spec
-    mul-mark
-    add-mark
-    add-mark-2
-    slice-read-mark
-    add-requires
-    same-length
+    (λ c. search needs)
+    (λ c. search needs)
+    (λ c. search needs)
+    (λ c. search needs)
+    (λ c κs. search needs)
+    (λ c. search needs)
     returns
     returns-2)

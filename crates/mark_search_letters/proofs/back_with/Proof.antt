@@ -3,9 +3,6 @@ use Rattle.mark_search_letters.proofs.Values.{image-inside, product-pla
 use Rattle.mark_search_letters.proofs.back_with.Statement.{statement}
 use Rattle.mark_search_letters.proofs.back_with.Tie as tie
 
-image-requires : tie.Need-image-requires
-image-requires c κs = search needs
-
 product-requires : tie.Need-product-requires
 product-requires c κs = product-place _ _ _ (c .before .before .before .pre .0) (image-inside _ _ _ (c .before .before .before .pre .0) (c .before .before .before .pre .1 .0) (c .before .image .ensures)) (c .if1 .taken)
 
@@ -16,4 +13,4 @@ returns-2 : tie.Need-returns-2
 returns-2 c = back-none _ _ _ (c .before .before .before .pre .0) _ (c .if1 .left) (c .before .image .ensures)
 
 pub back-with-spec : {M : Type 1} → statement M
-back-with-spec = tie.close (tie.spec image-requires product-requires returns returns-2)
+back-with-spec = tie.close (tie.spec (λ c κs. search needs) product-requires returns returns-2)

@@ -19,12 +19,6 @@ loop-holds c = expanded-start (c .before .before .pre .1)
 take-letter-requires : tie.Need-take-letter-requires Inv-loop μ-loop
 take-letter-requires c κs = (c .before .before .before .before .before .pre .0, (expanded-place (c .before .before .before .before .before .pre .1) (c .before .before .loop .inv), c .before .loop-test .taken))
 
-add-a : tie.Need-add-a Inv-loop μ-loop
-add-a c = omega arith
-
-loop-less : tie.Need-loop-less Inv-loop μ-loop
-loop-less c = omega arith
-
 loop-again : tie.Need-loop-again Inv-loop μ-loop
 loop-again c = expanded-next (c .before .before .before .before .before .before .before .before .pre .1) (c .before .before .before .before .before .loop .inv) (c .before .before .take-letter .ensures)
 
@@ -42,8 +36,8 @@ expand-spec =
     μ-loop
     loop-holds
     take-letter-requires
-    add-a
-    loop-less
+    (λ c. omega arith)
+    (λ c. omega arith)
     loop-again
     same-length
     returns)

@@ -58,9 +58,6 @@ loop-holds : tie.Need-loop-holds Inv-loop μ-loop
 unfolding frontAt
 loop-holds c = taking-start (morphismAt _ _ _) (c .before .before .before .before .before .before .pre .1 .0) (c .before .before .before .before .before .before .pre .1 .1)
 
-sub-c : tie.Need-sub-c Inv-loop μ-loop
-sub-c c = omega arith
-
 add-requires : tie.Need-add-requires Inv-loop μ-loop
 unfolding backAt
 add-requires c κs = taking-add (morphismAt _ _ _) (c .before .before .before .before .before .before .before .before .before .pre .1 .0) (c .before .before .before .before .before .before .before .before .before .pre .1 .1) (c .before .before .loop .inv) _ _ (c .before .before .before .before .before .before .before .before .before .pre .0 .letters-small) (omega arith) (c .before .before .before .before .back-with .ensures) (omega (arith, before-inside _ _ _ (c .before .before .before .before .before .before .before .before .before .pre .0) (c .before .before .before .before .before .before .before .before .before .pre .1 .1) (c .before .before .before .before .before .before .before .before .before .pre .1 .0 .queue .back-inside _ (c .before .before .before .before .before .before .before .before .before .pre .1 .0 .there)) _ (c .before .before .before .before .back-with .ensures)))
@@ -112,7 +109,7 @@ take-letter-spec =
     slice-read-rest
     cast-rest
     loop-holds
-    sub-c
+    (λ c. omega arith)
     add-requires
     mul-rest-2
     add-rest-3

@@ -7,35 +7,11 @@ use Rattle.mark_search_list.proofs.Growth.{add-there, add-room, new-pla
 use Rattle.mark_search_list.proofs.add.Statement.{statement}
 use Rattle.mark_search_list.proofs.add.Tie as tie
 
-mul-place : tie.Need-mul-place
-mul-place c = search needs
-
-add-place : tie.Need-add-place
-add-place c = search needs
-
-add-place-2 : tie.Need-add-place-2
-add-place-2 c = search needs
-
-slice-read-seen : tie.Need-slice-read-seen
-slice-read-seen c = search needs
-
 cast-seen : tie.Need-cast-seen
 cast-seen c = fits-8-64 (c .slice-known2 .given _)
 
-add-if1 : tie.Need-add-if1
-add-if1 c = search needs
-
 returns : tie.Need-returns
 returns c = add-there (c .before .before .before .pre) (c .if1 .taken)
-
-add-scratch : tie.Need-add-scratch
-add-scratch c = search needs
-
-cast-scratch : tie.Need-cast-scratch
-cast-scratch c = search needs
-
-slice-write-scratch : tie.Need-slice-write-scratch
-slice-write-scratch c = search needs
 
 store-requires : tie.Need-store-requires
 store-requires c κs = new-place (c .before .before .before .before .pre) (c .before .if1 .left)
@@ -57,16 +33,16 @@ pub add-spec : {M : Type 1} → statement M
 add-spec =
     tie.close
     (tie.spec
-    mul-place
-    add-place
-    add-place-2
-    slice-read-seen
+    (λ c. search needs)
+    (λ c. search needs)
+    (λ c. search needs)
+    (λ c. search needs)
     cast-seen
-    add-if1
+    (λ c. search needs)
     returns
-    add-scratch
-    cast-scratch
-    slice-write-scratch
+    (λ c. search needs)
+    (λ c. search needs)
+    (λ c. search needs)
     store-requires
     add-result
     same-length

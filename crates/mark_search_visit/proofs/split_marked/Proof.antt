@@ -7,18 +7,12 @@ use Rattle.mark_search_visit.proofs.Values.{product-inside, turned-insi
 use Rattle.mark_search_visit.proofs.split_marked.Statement.{statement}
 use Rattle.mark_search_visit.proofs.split_marked.Tie as tie
 
-turn-requires : tie.Need-turn-requires
-turn-requires c κs = search needs
-
 -- the values are elements
 turned-below : (c : tie.After-turn) → c .turn .result < c .before .before .before .args .n
 turned-below c = turned-inside _ _ _ (c .before .before .before .pre .0) _ (c .before .before .before .pre .1 .0 .1) _ (c .turn .ensures)
 
 product-requires : tie.Need-product-requires
 product-requires c κs = product-place _ _ _ (c .before .before .before .pre .0) (turned-below c) (turned-below c)
-
-product-requires-2 : tie.Need-product-requires-2
-product-requires-2 c κs = search needs
 
 square-below : (c : tie.After-product2) → c .before .product .result < c .before .before .before .before .before .args .n
 square-below c = product-inside _ _ _ (c .before .before .before .before .before .pre .0) (turned-below (c .before .before)) (turned-below (c .before .before)) (c .before .product .ensures)
@@ -45,9 +39,9 @@ pub split-marked-spec : {M : Type 1} → statement M
 split-marked-spec =
     tie.close
     (tie.spec
-    turn-requires
+    (λ c κs. search needs)
     product-requires
-    product-requires-2
+    (λ c κs. search needs)
     mul-result
     add-result
     add-result-2

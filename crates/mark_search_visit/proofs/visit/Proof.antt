@@ -32,9 +32,6 @@ split-marked-requires : tie.Need-split-marked-requires
 unfolding frontAt backAt
 split-marked-requires c κs = (c .before .before .before .before .before .pre .0, ((c .before .before .before .before .before .pre .1 .0 .queue .start-inside, c .before .before .before .before .before .pre .1 .0 .has-front, c .before .before .before .before .before .pre .1 .0 .queue .back-inside _ (c .before .before .before .before .before .pre .1 .0 .there)), (c .before .before .before .before .before .pre .1 .1, c .before .before .before .before .before .pre .1 .0 .queue .room)))
 
-same-length : tie.Need-same-length
-same-length c = search needs
-
 returns : tie.Need-returns
 returns c = visited-stop (level _ (marksFrom _ _)) (c .before .before .before .before .before .before .before .pre .1 .0) (c .before .split-marked .ensures) (c .if1 .taken)
 
@@ -58,7 +55,7 @@ visit-spec =
     slice-read-y
     cast-y
     split-marked-requires
-    same-length
+    (λ c. search needs)
     returns
     expand-requires
     same-length-2

@@ -15,9 +15,6 @@ abbrev μ-loop : tie.MeasureT-loop
 loop-holds : tie.Need-loop-holds Inv-loop μ-loop
 loop-holds c = counted-none (c .pre)
 
-sub-i : tie.Need-sub-i Inv-loop μ-loop
-sub-i c = omega arith
-
 add-place : tie.Need-add-place Inv-loop μ-loop
 add-place c = omega (arith, entry-small (c .before .loop .inv .here))
 
@@ -46,7 +43,7 @@ count-letters-spec =
     Inv-loop
     μ-loop
     loop-holds
-    sub-i
+    (λ c. omega arith)
     add-place
     shared-slice-read-place
     cast-place

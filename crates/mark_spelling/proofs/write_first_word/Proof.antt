@@ -8,12 +8,6 @@ use Rattle.mark_spelling.proofs.Entries.{spell-entry, spell-room}
 use Rattle.mark_spelling.proofs.write_first_word.Statement.{statement}
 use Rattle.mark_spelling.proofs.write_first_word.Tie as tie
 
-add-at : tie.Need-add-at
-add-at c = search needs
-
-shared-slice-read-at : tie.Need-shared-slice-read-at
-shared-slice-read-at c = search needs
-
 cast-at : tie.Need-cast-at
 cast-at c = fits-8-64 (c .shared-slice-known2 .given _)
 
@@ -28,9 +22,6 @@ write-letters-requires c κs =
     let counted = c .before .count-letters .ensures in
     (spell-entry place, (counted, omega (arith, counted, spell-room place)))
 
-same-length : tie.Need-same-length
-same-length c = search needs
-
 returns : tie.Need-returns
 unfolding placeAt
 returns c = c .before .before .write-letters .ensures
@@ -39,10 +30,10 @@ pub write-first-word-spec : {M : Type 1} → statement M
 write-first-word-spec =
     tie.close
     (tie.spec
-    add-at
-    shared-slice-read-at
+    (λ c. search needs)
+    (λ c. search needs)
     cast-at
     count-letters-requires
     write-letters-requires
-    same-length
+    (λ c. search needs)
     returns)

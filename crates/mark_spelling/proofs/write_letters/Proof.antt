@@ -16,9 +16,6 @@ abbrev μ-loop : tie.MeasureT-loop
 loop-holds : tie.Need-loop-holds Inv-loop μ-loop
 loop-holds c = spelling-none (c .pre .0) (c .pre .1 .0) (c .pre .1 .1)
 
-sub-i : tie.Need-sub-i Inv-loop μ-loop
-sub-i c = omega arith
-
 sub-left : tie.Need-sub-left Inv-loop μ-loop
 sub-left c = spelling-some (c .before .loop .inv) (c .loop-test .taken)
 
@@ -61,7 +58,7 @@ write-letters-spec =
     Inv-loop
     μ-loop
     loop-holds
-    sub-i
+    (λ c. omega arith)
     sub-left
     add-out
     shared-slice-read-out

@@ -26,12 +26,6 @@ highest-escape-requires c κs =
     let start = c .before .before .before .before .before .before .before .before .before .before .before .before in
     (start .pre .0, search-place (start .pre .0 .small) (start .pre .1) (c .before .before .before .before .before .before .before .before .zero-part .ensures) (c .before .before .before .before .close .ensures))
 
-enum-told : tie.Need-enum-told
-enum-told c = search needs
-
-enum-told-2 : tie.Need-enum-told-2
-enum-told-2 c = search needs
-
 returns-2 : tie.Need-returns-2
 returns-2 c =
     let start = c .before .before .before .before .before .before .before .before .before .before .before .before .before .before .before .before .before in
@@ -57,8 +51,8 @@ decide-spec =
     same-length
     returns
     highest-escape-requires
-    enum-told
-    enum-told-2
+    (λ c. search needs)
+    (λ c. search needs)
     same-length-2
     returns-2
     same-length-3

@@ -4,35 +4,14 @@ use Rattle.mark_strong.proofs.Calling.{checked-table, decide-place, str
 use Rattle.mark_strong.proofs.strong.Statement.{statement}
 use Rattle.mark_strong.proofs.strong.Tie as tie
 
-check-requires : tie.Need-check-requires
-check-requires c κs = search needs
-
-enum-known-shape : tie.Need-enum-known-shape
-enum-known-shape c = search needs
-
-enum-known-refusal : tie.Need-enum-known-refusal
-enum-known-refusal c = search needs
-
-same-length : tie.Need-same-length
-same-length c = search needs
-
 returns : tie.Need-returns
 returns c = strong-refused _ _ (checked-refused 1 _ _ _ _ (c .before .before .before .before .before .check .ensures) (c .before .refusal .given .1))
 
 decide-requires : tie.Need-decide-requires
 decide-requires c κs = let p = checked-rule 1 _ _ _ _ (c .before .before .before .before .before .before .check .ensures) (c .before .before .shape .given .1) in (checked-table 1 _ _ p, decide-place 1 _ _ p)
 
-zero-requires : tie.Need-zero-requires
-zero-requires c κs = search needs
-
-same-length-2 : tie.Need-same-length-2
-same-length-2 c = search needs
-
 returns-2 : tie.Need-returns-2
 returns-2 c = says-strong _ _ (checked-rule 1 _ _ _ _ (c .before .before .before .before .before .before .before .before .before .before .before .before .before .before .check .ensures) (c .before .before .before .before .before .before .before .before .before .before .shape .given .1)) (c .before .before .before .before .before .before .before .decide .ensures) _ (c .before .before .before .zero .ensures) (c .if1 .taken)
-
-same-length-3 : tie.Need-same-length-3
-same-length-3 c = search needs
 
 returns-3 : tie.Need-returns-3
 returns-3 c = says-weak _ _ (checked-rule 1 _ _ _ _ (c .before .before .before .before .before .before .before .before .before .before .before .before .before .before .check .ensures) (c .before .before .before .before .before .before .before .before .before .before .shape .given .1)) (c .before .before .before .before .before .before .before .decide .ensures) _ (c .before .before .before .zero .ensures) (c .if1 .left)
@@ -41,14 +20,14 @@ pub strong-spec : {M : Type 1} → statement M
 strong-spec =
     tie.close
     (tie.spec
-    check-requires
-    enum-known-shape
-    enum-known-refusal
-    same-length
+    (λ c κs. search needs)
+    (λ c. search needs)
+    (λ c. search needs)
+    (λ c. search needs)
     returns
     decide-requires
-    zero-requires
-    same-length-2
+    (λ c κs. search needs)
+    (λ c. search needs)
     returns-2
-    same-length-3
+    (λ c. search needs)
     returns-3)

@@ -7,31 +7,10 @@ use Rattle.monitor_advance.proofs.Ways.{rule-refused, monitor-stray, an
 use Rattle.monitor_advance.proofs.advance.Statement.{statement}
 use Rattle.monitor_advance.proofs.advance.Tie as tie
 
-check-requires : tie.Need-check-requires
-check-requires c κs = search needs
-
-enum-known-shape : tie.Need-enum-known-shape
-enum-known-shape c = search needs
-
-enum-known-refusal : tie.Need-enum-known-refusal
-enum-known-refusal c = search needs
-
-same-length : tie.Need-same-length
-same-length c = search needs
-
 returns : tie.Need-returns
 returns c =
     let a = c .before .before .before .before .before .check in
     rule-refused _ _ _ _ _ (checked-refused _ _ _ _ (a .result) (a .ensures) (c .before .refusal .given .1))
-
-stray-requires : tie.Need-stray-requires
-stray-requires c κs = search needs
-
-zero-requires : tie.Need-zero-requires
-zero-requires c κs = search needs
-
-same-length-2 : tie.Need-same-length-2
-same-length-2 c = search needs
 
 returns-2 : tie.Need-returns-2
 returns-2 c =
@@ -57,12 +36,6 @@ answer-from-requires c κs =
     let p = checked-rule _ _ _ _ (a .result) (a .ensures) (e .shape .given .1) in
     (checked-table _ _ _ p, (checked-lawful _ _ _ p, (said-monitor _ _ (s .stray .result) (s .stray .ensures) (d .before .before .if1 .left), decided-room _ _ _ p (d .decide .ensures))))
 
-zero-requires-2 : tie.Need-zero-requires-2
-zero-requires-2 c κs = search needs
-
-same-length-3 : tie.Need-same-length-3
-same-length-3 c = search needs
-
 returns-3 : tie.Need-returns-3
 returns-3 c =
     let told = c .before .before .before .before in
@@ -78,17 +51,17 @@ pub advance-spec : {M : Type 1} → statement M
 advance-spec =
     tie.close
     (tie.spec
-    check-requires
-    enum-known-shape
-    enum-known-refusal
-    same-length
+    (λ c κs. search needs)
+    (λ c. search needs)
+    (λ c. search needs)
+    (λ c. search needs)
     returns
-    stray-requires
-    zero-requires
-    same-length-2
+    (λ c κs. search needs)
+    (λ c κs. search needs)
+    (λ c. search needs)
     returns-2
     decide-requires
     answer-from-requires
-    zero-requires-2
-    same-length-3
+    (λ c κs. search needs)
+    (λ c. search needs)
     returns-3)

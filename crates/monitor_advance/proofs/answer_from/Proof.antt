@@ -6,9 +6,6 @@ use Rattle.monitor_advance.proofs.Stepping.{said-foreign, said-known}
 use Rattle.monitor_advance.proofs.answer_from.Statement.{statement}
 use Rattle.monitor_advance.proofs.answer_from.Tie as tie
 
-foreign-requires : tie.Need-foreign-requires
-foreign-requires c κs = search needs
-
 returns : tie.Need-returns
 returns c = (not-true _ (c .if1 .taken), refl)
 
@@ -41,4 +38,4 @@ returns-3 c =
     )
 
 pub answer-from-spec : {M : Type 1} → statement M
-answer-from-spec = tie.close (tie.spec foreign-requires returns returns-2 moved-requires monitor-grade-requires returns-3)
+answer-from-spec = tie.close (tie.spec (λ c κs. search needs) returns returns-2 moved-requires monitor-grade-requires returns-3)

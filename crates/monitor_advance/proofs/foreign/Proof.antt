@@ -4,20 +4,8 @@ use Rattle.monitor_advance.proofs.Stepping.{event-foreign, event-known,
 use Rattle.monitor_advance.proofs.foreign.Statement.{statement}
 use Rattle.monitor_advance.proofs.foreign.Tie as tie
 
-enum-known-step : tie.Need-enum-known-step
-enum-known-step c = search needs
-
-cast-if1 : tie.Need-cast-if1
-cast-if1 c = search needs
-
 returns : tie.Need-returns
 returns c = event-foreign _ (c .before .before .step .given .1) (c .if1 .taken)
-
-enum-told : tie.Need-enum-told
-enum-told c = search needs
-
-enum-told-2 : tie.Need-enum-told-2
-enum-told-2 c = search needs
 
 returns-2 : tie.Need-returns-2
 returns-2 c = event-known _ (c .before .before .step .given .1) (c .if1 .left)
@@ -29,4 +17,4 @@ returns-4 : tie.Need-returns-4
 returns-4 c = stay-known _ (c .enum-told2 .given .1)
 
 pub foreign-spec : {M : Type 1} → statement M
-foreign-spec = tie.close (tie.spec enum-known-step cast-if1 returns enum-told enum-told-2 returns-2 returns-3 returns-4)
+foreign-spec = tie.close (tie.spec (λ c. search needs) (λ c. search needs) returns (λ c. search needs) (λ c. search needs) returns-2 returns-3 returns-4)

@@ -8,9 +8,6 @@ use Rattle.monitor_advance.proofs.monitor_grade.Tie as tie
 returns : tie.Need-returns
 returns c = grade-none (c .if1 .taken)
 
-start-element-requires : tie.Need-start-element-requires
-start-element-requires c κs = search needs
-
 values-grade-requires : tie.Need-values-grade-requires
 values-grade-requires c κs =
     let b = c .before .before .before .before .pre in
@@ -22,4 +19,4 @@ returns-2 : tie.Need-returns-2
 returns-2 c = grade-some (c .before .before .if1 .left) (c .before .start-element .ensures) (c .values-grade .ensures .0)
 
 pub monitor-grade-spec : {M : Type 1} → statement M
-monitor-grade-spec = tie.close (tie.spec returns start-element-requires values-grade-requires returns-2)
+monitor-grade-spec = tie.close (tie.spec returns (λ c κs. search needs) values-grade-requires returns-2)

@@ -6,12 +6,6 @@ use Rattle.monitor_advance.proofs.Stepping.{event-letter, event-taken, 
 use Rattle.monitor_advance.proofs.moved.Statement.{statement}
 use Rattle.monitor_advance.proofs.moved.Tie as tie
 
-enum-known-step : tie.Need-enum-known-step
-enum-known-step c = search needs
-
-cast-image : tie.Need-cast-image
-cast-image c = search needs
-
 image-requires : tie.Need-image-requires
 image-requires c κs =
     let b = c .before .before .before .before .pre in
@@ -22,16 +16,10 @@ join-requires c κs =
     let b = c .before .before .before .before .before .pre in
     (b .0, (b .1 .0 .since-good, image-good (b .0) (event-letter _ (c .before .before .step .given .1) (b .1 .1)) (c .image .ensures)))
 
-enum-told : tie.Need-enum-told
-enum-told c = search needs
-
 join-requires-2 : tie.Need-join-requires-2
 join-requires-2 c κs =
     let b = c .before .before .before .pre in
     (b .0, (b .1 .0 .before-good, b .1 .0 .since-good))
-
-enum-told-2 : tie.Need-enum-told-2
-enum-told-2 c = search needs
 
 returns : tie.Need-returns
 returns c =
@@ -53,13 +41,13 @@ pub moved-spec : {M : Type 1} → statement M
 moved-spec =
     tie.close
     (tie.spec
-    enum-known-step
-    cast-image
+    (λ c. search needs)
+    (λ c. search needs)
     image-requires
     join-requires
-    enum-told
+    (λ c. search needs)
     join-requires-2
-    enum-told-2
+    (λ c. search needs)
     returns
     returns-2
     returns-3)

@@ -5,27 +5,15 @@ use Rattle.monitor_judging.proofs.Judging.{look-room, judged-weak, judg
 use Rattle.monitor_judging.proofs.judge.Statement.{statement}
 use Rattle.monitor_judging.proofs.judge.Tie as tie
 
-decide-requires : tie.Need-decide-requires
-decide-requires c κs = search needs
-
 values-grade-requires : tie.Need-values-grade-requires
 values-grade-requires c κs =
     let b = c .before .before .before .before .before .before .before .pre in
     (b .0, (b .1 .0 .lawful, (b .1 .1, look-room (b .1 .0) (b .1 .1 .0) (b .1 .1 .1) (c .before .before .before .decide .ensures))))
 
-zero-requires : tie.Need-zero-requires
-zero-requires c κs = search needs
-
-same-length : tie.Need-same-length
-same-length c = search needs
-
 returns : tie.Need-returns
 returns c =
     let b = c .before .before .before .before .before .before .before .before .before .before .before .before .before .pre .1 in
     judged-weak (b .0) (b .1 .0) (b .1 .1) (c .before .before .before .before .before .before .before .before .before .decide .ensures) (c .before .before .before .zero .ensures) (not-true _ (c .if1 .taken))
-
-same-length-2 : tie.Need-same-length-2
-same-length-2 c = search needs
 
 returns-2 : tie.Need-returns-2
 returns-2 c =
@@ -37,10 +25,10 @@ pub judge-spec : {M : Type 1} → statement M
 judge-spec =
     tie.close
     (tie.spec
-    decide-requires
+    (λ c κs. search needs)
     values-grade-requires
-    zero-requires
-    same-length
+    (λ c κs. search needs)
+    (λ c. search needs)
     returns
-    same-length-2
+    (λ c. search needs)
     returns-2)

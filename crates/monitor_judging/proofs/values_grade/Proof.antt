@@ -8,9 +8,6 @@ use Rattle.monitor_judging.proofs.Settled.{pair-below, settled-byte}
 use Rattle.monitor_judging.proofs.values_grade.Statement.{statement}
 use Rattle.monitor_judging.proofs.values_grade.Tie as tie
 
-idempotent-power-requires : tie.Need-idempotent-power-requires
-idempotent-power-requires c κs = search needs
-
 product-requires : tie.Need-product-requires
 product-requires c κs =
     let b = c .before .before .before .pre in
@@ -49,7 +46,7 @@ pub values-grade-spec : {M : Type 1} → statement M
 values-grade-spec =
     tie.close
     (tie.spec
-    idempotent-power-requires
+    (λ c κs. search needs)
     product-requires
     mul-grade
     add-grade

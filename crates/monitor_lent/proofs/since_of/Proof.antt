@@ -5,17 +5,8 @@ use borrow.Author.Needs.{needs}
 use Rattle.monitor_lent.proofs.since_of.Statement.{statement}
 use Rattle.monitor_lent.proofs.since_of.Tie as tie
 
-enum-known-moved : tie.Need-enum-known-moved
-enum-known-moved c = search needs
-
-enum-known-moved-2 : tie.Need-enum-known-moved-2
-enum-known-moved-2 c = search needs
-
-returns : tie.Need-returns
-returns c = search needs
-
 returns-2 : tie.Need-returns-2
 returns-2 c = sym (ap sinceOf (c .before .moved2 .given .1))
 
 pub since-of-spec : {M : Type 1} → statement M
-since-of-spec = tie.close (tie.spec enum-known-moved enum-known-moved-2 returns returns-2)
+since-of-spec = tie.close (tie.spec (λ c. search needs) (λ c. search needs) (λ c. search needs) returns-2)

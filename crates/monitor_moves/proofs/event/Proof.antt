@@ -6,23 +6,8 @@ use borrow.Author.Needs.{needs}
 use Rattle.monitor_moves.proofs.event.Statement.{statement}
 use Rattle.monitor_moves.proofs.event.Tie as tie
 
-prepare-requires : tie.Need-prepare-requires
-prepare-requires c κs = search needs
-
-enum-known-shape : tie.Need-enum-known-shape
-enum-known-shape c = search needs
-
-enum-known-refusal : tie.Need-enum-known-refusal
-enum-known-refusal c = search needs
-
-same-length : tie.Need-same-length
-same-length c = search needs
-
 returns : tie.Need-returns
 returns c = event-refused _ _ _ _ _ (not-ready _ _ _ _ (c .before .before .before .before .before .prepare .result) (c .before .before .before .before .before .prepare .ensures) (c .before .refusal .given .1))
-
-same-length-2 : tie.Need-same-length-2
-same-length-2 c = search needs
 
 returns-2 : tie.Need-returns-2
 returns-2 c = event-foreign _ _ _ _ _ (ready-said _ _ _ _ (c .before .before .before .before .before .before .prepare .result) (c .before .before .before .before .before .before .prepare .ensures) (c .before .before .shape .given .1)) (c .if1 .taken)
@@ -36,9 +21,6 @@ join-requires c κs =
     let p = ready-said _ _ _ _ (a .result) (a .ensures) (c .before .before .before .shape .given .1) in
     (ready-table _ _ _ _ p, (ready-since _ _ _ _ p, image-good (ready-table _ _ _ _ p) (c .before .if1 .left) (c .image .ensures)))
 
-same-length-3 : tie.Need-same-length-3
-same-length-3 c = search needs
-
 returns-3 : tie.Need-returns-3
 returns-3 c = event-moved _ _ _ _ _ (ready-said _ _ _ _ (c .before .before .before .before .before .before .before .before .prepare .result) (c .before .before .before .before .before .before .before .before .prepare .ensures) (c .before .before .before .before .shape .given .1)) (c .before .before .if1 .left) (c .before .image .ensures) (c .join .ensures)
 
@@ -46,14 +28,14 @@ pub event-spec : {M : Type 1} → statement M
 event-spec =
     tie.close
     (tie.spec
-    prepare-requires
-    enum-known-shape
-    enum-known-refusal
-    same-length
+    (λ c κs. search needs)
+    (λ c. search needs)
+    (λ c. search needs)
+    (λ c. search needs)
     returns
-    same-length-2
+    (λ c. search needs)
     returns-2
     image-requires
     join-requires
-    same-length-3
+    (λ c. search needs)
     returns-3)

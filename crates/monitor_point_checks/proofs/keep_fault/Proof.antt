@@ -7,9 +7,6 @@ use Rattle.monitor_point_checks.proofs.keep_fault.Tie as tie
 returns : tie.Need-returns
 returns c = keep-name _ _ _ _ (c .if1 .taken)
 
-values-out-of-range-requires : tie.Need-values-out-of-range-requires
-values-out-of-range-requires c κs = search needs
-
 returns-2 : tie.Need-returns-2
 returns-2 c =
     let a = c .before .values-out-of-range in
@@ -21,4 +18,4 @@ returns-3 c =
     keep-good _ _ _ _ (c .before .before .if1 .left) (said-all-good _ _ _ (a .result) (a .ensures) (c .if2 .left))
 
 pub keep-fault-spec : {M : Type 1} → statement M
-keep-fault-spec = tie.close (tie.spec returns values-out-of-range-requires returns-2 returns-3)
+keep-fault-spec = tie.close (tie.spec returns (λ c κs. search needs) returns-2 returns-3)

@@ -7,49 +7,19 @@ use Rattle.monitor_point_checks.proofs.PointChecks.{never-kept-good, be
 use Rattle.monitor_point_checks.proofs.name_out_of_range.Statement.{statement}
 use Rattle.monitor_point_checks.proofs.name_out_of_range.Tie as tie
 
-mul-if1 : tie.Need-mul-if1
-mul-if1 c = search needs
-
-shared-slice-read-if1 : tie.Need-shared-slice-read-if1
-shared-slice-read-if1 c = search needs
-
 returns : tie.Need-returns
 returns c = never-kept-good _ _ _ (c .if1 .taken)
-
-mul-before : tie.Need-mul-before
-mul-before c = search needs
-
-add-before : tie.Need-add-before
-add-before c = search needs
-
-shared-slice-read-before : tie.Need-shared-slice-read-before
-shared-slice-read-before c = search needs
 
 cast-before : tie.Need-cast-before
 cast-before c = fits-8-64 (c .shared-slice-known3 .given _)
 
-mul-since : tie.Need-mul-since
-mul-since c = search needs
-
-add-since : tie.Need-add-since
-add-since c = search needs
-
-shared-slice-read-since : tie.Need-shared-slice-read-since
-shared-slice-read-since c = search needs
-
 cast-since : tie.Need-cast-since
 cast-since c = fits-8-64 (c .shared-slice-known4 .given _)
-
-out-of-range-requires : tie.Need-out-of-range-requires
-out-of-range-requires c κs = search needs
 
 returns-2 : tie.Need-returns-2
 returns-2 c =
     let e = c .before .before .before .before in
     before-stray _ _ _ (e .if1 .left) (said-stray _ _ (c .before .out-of-range .result) (c .before .out-of-range .ensures) (c .if2 .taken))
-
-out-of-range-requires-2 : tie.Need-out-of-range-requires-2
-out-of-range-requires-2 c κs = search needs
 
 returns-3 : tie.Need-returns-3
 returns-3 c =
@@ -61,18 +31,18 @@ pub name-out-of-range-spec : {M : Type 1} → statement M
 name-out-of-range-spec =
     tie.close
     (tie.spec
-    mul-if1
-    shared-slice-read-if1
+    (λ c. search needs)
+    (λ c. search needs)
     returns
-    mul-before
-    add-before
-    shared-slice-read-before
+    (λ c. search needs)
+    (λ c. search needs)
+    (λ c. search needs)
     cast-before
-    mul-since
-    add-since
-    shared-slice-read-since
+    (λ c. search needs)
+    (λ c. search needs)
+    (λ c. search needs)
     cast-since
-    out-of-range-requires
+    (λ c κs. search needs)
     returns-2
-    out-of-range-requires-2
+    (λ c κs. search needs)
     returns-3)

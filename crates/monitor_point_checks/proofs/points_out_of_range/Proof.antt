@@ -24,12 +24,6 @@ returns c =
     let a = c .before .name-out-of-range in
     found-stray (c .before .before .loop-test .taken) (said-kept-stray _ _ _ (a .result) (a .ensures) (c .if1 .taken))
 
-add-name : tie.Need-add-name Inv-loop μ-loop
-add-name c = omega arith
-
-loop-less : tie.Need-loop-less Inv-loop μ-loop
-loop-less c = omega arith
-
 loop-again : tie.Need-loop-again Inv-loop μ-loop
 loop-again c =
     let a = c .before .name-out-of-range in
@@ -47,7 +41,7 @@ points-out-of-range-spec =
     loop-holds
     name-out-of-range-requires
     returns
-    add-name
-    loop-less
+    (λ c. omega arith)
+    (λ c. omega arith)
     loop-again
     returns-2)

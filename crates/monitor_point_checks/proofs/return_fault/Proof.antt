@@ -7,17 +7,8 @@ use Rattle.monitor_point_checks.proofs.return_fault.Tie as tie
 returns : tie.Need-returns
 returns c = return-name _ _ _ _ (c .if1 .taken)
 
-mul-if2 : tie.Need-mul-if2
-mul-if2 c = search needs
-
-shared-slice-read-if2 : tie.Need-shared-slice-read-if2
-shared-slice-read-if2 c = search needs
-
 returns-2 : tie.Need-returns-2
 returns-2 c = return-never _ _ _ _ (c .before .before .if1 .left) (c .if2 .taken)
-
-values-out-of-range-requires : tie.Need-values-out-of-range-requires
-values-out-of-range-requires c κs = search needs
 
 returns-3 : tie.Need-returns-3
 returns-3 c =
@@ -36,9 +27,9 @@ return-fault-spec =
     tie.close
     (tie.spec
     returns
-    mul-if2
-    shared-slice-read-if2
+    (λ c. search needs)
+    (λ c. search needs)
     returns-2
-    values-out-of-range-requires
+    (λ c κs. search needs)
     returns-3
     returns-4)

@@ -6,20 +6,11 @@ use Rattle.monitor_point_checks.proofs.PointChecks.{points-decide}
 use Rattle.monitor_point_checks.proofs.values_out_of_range.Statement.{statement}
 use Rattle.monitor_point_checks.proofs.values_out_of_range.Tie as tie
 
-out-of-range-requires : tie.Need-out-of-range-requires
-out-of-range-requires c κs = search needs
-
 returns : tie.Need-returns
 returns c = let a = c .before .out-of-range in inl (inl (said-stray _ _ (a .result) (a .ensures) (c .if1 .taken)))
 
-out-of-range-requires-2 : tie.Need-out-of-range-requires-2
-out-of-range-requires-2 c κs = search needs
-
 returns-2 : tie.Need-returns-2
 returns-2 c = let a = c .before .out-of-range2 in inl (inr (said-stray _ _ (a .result) (a .ensures) (c .if2 .taken)))
-
-points-out-of-range-requires : tie.Need-points-out-of-range-requires
-points-out-of-range-requires c κs = search needs
 
 returns-3 : tie.Need-returns-3
 returns-3 c =
@@ -32,9 +23,9 @@ pub values-out-of-range-spec : {M : Type 1} → statement M
 values-out-of-range-spec =
     tie.close
     (tie.spec
-    out-of-range-requires
+    (λ c κs. search needs)
     returns
-    out-of-range-requires-2
+    (λ c κs. search needs)
     returns-2
-    points-out-of-range-requires
+    (λ c κs. search needs)
     returns-3)

@@ -12,40 +12,10 @@ use Rattle.monitor_points.proofs.keep.Tie as tie
 returns : tie.Need-returns
 returns c = keep-short _ _ _ _ _ (c .if1 .taken)
 
-check-requires : tie.Need-check-requires
-check-requires c κs = search needs
-
-enum-known-shape : tie.Need-enum-known-shape
-enum-known-shape c = search needs
-
-enum-known-refusal : tie.Need-enum-known-refusal
-enum-known-refusal c = search needs
-
-same-length : tie.Need-same-length
-same-length c = search needs
-
 returns-2 : tie.Need-returns-2
 returns-2 c =
     let a = c .before .before .before .before .before in
     keep-rule _ _ _ _ _ _ (a .check .result) (a .before .before .if1 .left) (a .check .ensures) (c .before .refusal .given .1)
-
-zero-requires : tie.Need-zero-requires
-zero-requires c κs = search needs
-
-keep-fault-requires : tie.Need-keep-fault-requires
-keep-fault-requires c κs = search needs
-
-enum-told : tie.Need-enum-told
-enum-told c = search needs
-
-enum-known-refusal-2 : tie.Need-enum-known-refusal-2
-enum-known-refusal-2 c = search needs
-
-same-length-2 : tie.Need-same-length-2
-same-length-2 c = search needs
-
-same-length-3 : tie.Need-same-length-3
-same-length-3 c = search needs
 
 returns-3 : tie.Need-returns-3
 returns-3 c =
@@ -120,12 +90,6 @@ add-points-2 c = omega (arith, named c)
 slice-write-points-3 : tie.Need-slice-write-points-3
 slice-write-points-3 c = simp length-set (omega (arith, named c, room c))
 
-same-length-4 : tie.Need-same-length-4
-same-length-4 c = search needs
-
-same-length-5 : tie.Need-same-length-5
-same-length-5 c = search needs
-
 returns-4 : tie.Need-returns-4
 returns-4 c =
     let k = c .before .before in
@@ -139,17 +103,17 @@ keep-spec =
     tie.close
     (tie.spec
     returns
-    check-requires
-    enum-known-shape
-    enum-known-refusal
-    same-length
+    (λ c κs. search needs)
+    (λ c. search needs)
+    (λ c. search needs)
+    (λ c. search needs)
     returns-2
-    zero-requires
-    keep-fault-requires
-    enum-told
-    enum-known-refusal-2
-    same-length-2
-    same-length-3
+    (λ c κs. search needs)
+    (λ c κs. search needs)
+    (λ c. search needs)
+    (λ c. search needs)
+    (λ c. search needs)
+    (λ c. search needs)
     returns-3
     mul-points
     slice-write-points
@@ -161,6 +125,6 @@ keep-spec =
     mul-points-3
     add-points-2
     slice-write-points-3
-    same-length-4
-    same-length-5
+    (λ c. search needs)
+    (λ c. search needs)
     returns-4)

@@ -13,37 +13,10 @@ use Rattle.monitor_points.proofs.return_to.Tie as tie
 returns : tie.Need-returns
 returns c = return-short _ _ _ _ _ (c .if1 .taken)
 
-check-requires : tie.Need-check-requires
-check-requires c κs = search needs
-
-enum-known-shape : tie.Need-enum-known-shape
-enum-known-shape c = search needs
-
-enum-known-refusal : tie.Need-enum-known-refusal
-enum-known-refusal c = search needs
-
-same-length : tie.Need-same-length
-same-length c = search needs
-
 returns-2 : tie.Need-returns-2
 returns-2 c =
     let a = c .before .before .before .before .before in
     return-rule _ _ _ _ _ _ (a .check .result) (a .before .before .if1 .left) (a .check .ensures) (c .before .refusal .given .1)
-
-zero-requires : tie.Need-zero-requires
-zero-requires c κs = search needs
-
-return-fault-requires : tie.Need-return-fault-requires
-return-fault-requires c κs = search needs
-
-enum-told : tie.Need-enum-told
-enum-told c = search needs
-
-enum-known-refusal-2 : tie.Need-enum-known-refusal-2
-enum-known-refusal-2 c = search needs
-
-same-length-2 : tie.Need-same-length-2
-same-length-2 c = search needs
 
 returns-3 : tie.Need-returns-3
 returns-3 c =
@@ -94,9 +67,6 @@ shared-slice-read-since c = omega (arith, named (c .before .before), room (c .be
 cast-since : tie.Need-cast-since
 cast-since c = fits-8-64 (c .shared-slice-known4 .given _)
 
-same-length-3 : tie.Need-same-length-3
-same-length-3 c = search needs
-
 returns-4 : tie.Need-returns-4
 returns-4 c =
     let d = c .before .before in
@@ -111,16 +81,16 @@ return-to-spec =
     tie.close
     (tie.spec
     returns
-    check-requires
-    enum-known-shape
-    enum-known-refusal
-    same-length
+    (λ c κs. search needs)
+    (λ c. search needs)
+    (λ c. search needs)
+    (λ c. search needs)
     returns-2
-    zero-requires
-    return-fault-requires
-    enum-told
-    enum-known-refusal-2
-    same-length-2
+    (λ c κs. search needs)
+    (λ c κs. search needs)
+    (λ c. search needs)
+    (λ c. search needs)
+    (λ c. search needs)
     returns-3
     mul-before
     add-before
@@ -130,5 +100,5 @@ return-to-spec =
     add-since
     shared-slice-read-since
     cast-since
-    same-length-3
+    (λ c. search needs)
     returns-4)

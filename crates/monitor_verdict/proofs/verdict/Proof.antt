@@ -7,37 +7,10 @@ use Rattle.monitor_verdict.proofs.Ways.{rule-refused, value-refused, ju
 use Rattle.monitor_verdict.proofs.verdict.Statement.{statement}
 use Rattle.monitor_verdict.proofs.verdict.Tie as tie
 
-check-requires : tie.Need-check-requires
-check-requires c κs = search needs
-
-enum-known-shape : tie.Need-enum-known-shape
-enum-known-shape c = search needs
-
-enum-known-refusal : tie.Need-enum-known-refusal
-enum-known-refusal c = search needs
-
-same-length : tie.Need-same-length
-same-length c = search needs
-
 returns : tie.Need-returns
 returns c =
     let a = c .before .before .before .before .before .check in
     rule-refused _ _ _ (checked-refused 1 _ _ _ (a .result) (a .ensures) (c .before .refusal .given .1))
-
-values-fault-requires : tie.Need-values-fault-requires
-values-fault-requires c κs = search needs
-
-enum-told : tie.Need-enum-told
-enum-told c = search needs
-
-enum-known-refusal-2 : tie.Need-enum-known-refusal-2
-enum-known-refusal-2 c = search needs
-
-zero-requires : tie.Need-zero-requires
-zero-requires c κs = search needs
-
-same-length-2 : tie.Need-same-length-2
-same-length-2 c = search needs
 
 returns-2 : tie.Need-returns-2
 returns-2 c =
@@ -45,9 +18,6 @@ returns-2 c =
     let p = checked-rule 1 _ _ _ (a .result) (a .ensures) (c .before .before .before .before .before .before .before .before .before .shape .given .1) in
     let v = c .before .before .before .before .before .before .before .values-fault in
     value-refused _ _ _ p (said-fault _ _ (v .result) (v .ensures) (c .before .before .before .before .before .refusal2 .given .1)) (c .before .before .zero .ensures)
-
-start-element-requires : tie.Need-start-element-requires
-start-element-requires c κs = search needs
 
 judge-requires : tie.Need-judge-requires
 judge-requires c κs =
@@ -57,9 +27,6 @@ judge-requires c κs =
     let v = e .before .before .values-fault in
     let b = said-judgeable _ _ (v .result) (v .ensures) (e .enum-told .given .1) in
     (checked-table 1 _ _ p, (decide-place 1 _ _ p, (start-below b (c .before .start-element .ensures), b .since-inside)))
-
-same-length-3 : tie.Need-same-length-3
-same-length-3 c = search needs
 
 returns-3 : tie.Need-returns-3
 returns-3 c =
@@ -74,18 +41,18 @@ pub verdict-spec : {M : Type 1} → statement M
 verdict-spec =
     tie.close
     (tie.spec
-    check-requires
-    enum-known-shape
-    enum-known-refusal
-    same-length
+    (λ c κs. search needs)
+    (λ c. search needs)
+    (λ c. search needs)
+    (λ c. search needs)
     returns
-    values-fault-requires
-    enum-told
-    enum-known-refusal-2
-    zero-requires
-    same-length-2
+    (λ c κs. search needs)
+    (λ c. search needs)
+    (λ c. search needs)
+    (λ c κs. search needs)
+    (λ c. search needs)
     returns-2
-    start-element-requires
+    (λ c κs. search needs)
     judge-requires
-    same-length-3
+    (λ c. search needs)
     returns-3)

@@ -7,21 +7,6 @@ use Rattle.packing_counts.specs.Counts.{packPartition}
 use Rattle.packing_counts.proofs.pack_partition.Statement.{statement}
 use Rattle.packing_counts.proofs.pack_partition.Tie as tie
 
-enum-known-answer : tie.Need-enum-known-answer
-enum-known-answer c = search needs
-
-bit-of-requires : tie.Need-bit-of-requires
-bit-of-requires c κs = search needs
-
-pack-fields-requires : tie.Need-pack-fields-requires
-pack-fields-requires c κs = search needs
-
-enum-known-answer-2 : tie.Need-enum-known-answer-2
-enum-known-answer-2 c = search needs
-
-pack-refusal-requires : tie.Need-pack-refusal-requires
-pack-refusal-requires c κs = search needs
-
 returns : tie.Need-returns
 returns c =
     c .pack-fields .ensures
@@ -35,10 +20,10 @@ pub pack-partition-spec : {M : Type 1} → statement M
 pack-partition-spec =
     tie.close
     (tie.spec
-    enum-known-answer
-    bit-of-requires
-    pack-fields-requires
-    enum-known-answer-2
-    pack-refusal-requires
+    (λ c. search needs)
+    (λ c κs. search needs)
+    (λ c κs. search needs)
+    (λ c. search needs)
+    (λ c κs. search needs)
     returns
     returns-2)

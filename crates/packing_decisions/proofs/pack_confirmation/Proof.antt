@@ -5,24 +5,6 @@ use Rattle.packing_decisions.specs.Decisions.{packConfirmation}
 use Rattle.packing_decisions.proofs.pack_confirmation.Statement.{statement}
 use Rattle.packing_decisions.proofs.pack_confirmation.Tie as tie
 
-enum-told : tie.Need-enum-told
-enum-told c = search needs
-
-pack-fields-requires : tie.Need-pack-fields-requires
-pack-fields-requires c κs = search needs
-
-enum-told-2 : tie.Need-enum-told-2
-enum-told-2 c = search needs
-
-pack-fields-requires-2 : tie.Need-pack-fields-requires-2
-pack-fields-requires-2 c κs = search needs
-
-enum-known-answer : tie.Need-enum-known-answer
-enum-known-answer c = search needs
-
-pack-refusal-requires : tie.Need-pack-refusal-requires
-pack-refusal-requires c κs = search needs
-
 returns : tie.Need-returns
 returns c = c .pack-fields .ensures ∙ sym (ap packConfirmation (c .before .enum-told .given .1))
 
@@ -36,12 +18,12 @@ pub pack-confirmation-spec : {M : Type 1} → statement M
 pack-confirmation-spec =
     tie.close
     (tie.spec
-    enum-told
-    pack-fields-requires
-    enum-told-2
-    pack-fields-requires-2
-    enum-known-answer
-    pack-refusal-requires
+    (λ c. search needs)
+    (λ c κs. search needs)
+    (λ c. search needs)
+    (λ c κs. search needs)
+    (λ c. search needs)
+    (λ c κs. search needs)
     returns
     returns-2
     returns-3)

@@ -5,18 +5,6 @@ use Rattle.packing_monitors.specs.Monitors.{packNotice}
 use Rattle.packing_monitors.proofs.pack_notice.Statement.{statement}
 use Rattle.packing_monitors.proofs.pack_notice.Tie as tie
 
-enum-told : tie.Need-enum-told
-enum-told c = search needs
-
-pack-fields-requires : tie.Need-pack-fields-requires
-pack-fields-requires c κs = search needs
-
-enum-known-answer : tie.Need-enum-known-notice
-enum-known-answer c = search needs
-
-pack-refusal-requires : tie.Need-pack-refusal-requires
-pack-refusal-requires c κs = search needs
-
 returns : tie.Need-returns
 returns c = c .pack-fields .ensures ∙ sym (ap (packNotice _) (c .before .enum-told .given .1))
 
@@ -24,4 +12,4 @@ returns-2 : tie.Need-returns-2
 returns-2 c = c .pack-refusal .ensures ∙ sym (ap (packNotice _) (c .before .before .notice .given .1))
 
 pub pack-notice-spec : {M : Type 1} → statement M
-pack-notice-spec = tie.close (tie.spec enum-told pack-fields-requires enum-known-answer pack-refusal-requires returns returns-2)
+pack-notice-spec = tie.close (tie.spec (λ c. search needs) (λ c κs. search needs) (λ c. search needs) (λ c κs. search needs) returns returns-2)

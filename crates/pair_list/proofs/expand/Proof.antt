@@ -18,23 +18,11 @@ loop-holds c = expanding-start (c .before .before .before .pre .0) (c .before .b
 try-letter-requires : tie.Need-try-letter-requires Inv-loop μ-loop
 try-letter-requires c κs = (c .before .before .loop .inv .tables, (c .before .before .loop .inv .trying, c .before .loop-test .taken))
 
-enum-known-c : tie.Need-enum-known-c Inv-loop μ-loop
-enum-known-c c = search needs
-
-enum-told : tie.Need-enum-told Inv-loop μ-loop
-enum-told c = search needs
-
 same-length : tie.Need-same-length Inv-loop μ-loop
 same-length c = expanding-full (c .before .before .before .before .before .before .before .loop .inv) (c .before .before .before .before .try-letter .ensures) (c .enum-told .given .1) .kept .same-length
 
 returns : tie.Need-returns Inv-loop μ-loop
 returns c = expanding-full (c .before .before .before .before .before .before .before .loop .inv) (c .before .before .before .before .try-letter .ensures) (c .enum-told .given .1)
-
-add-letter : tie.Need-add-letter Inv-loop μ-loop
-add-letter c = omega arith
-
-loop-less : tie.Need-loop-less Inv-loop μ-loop
-loop-less c = omega arith
 
 loop-again : tie.Need-loop-again Inv-loop μ-loop
 loop-again c = expanding-next (c .before .before .before .before .before .before .before .before .loop .inv) (c .before .before .before .before .before .before .before .loop-test .taken) (c .before .before .before .before .before .try-letter .ensures) (c .before .c .given .1)
@@ -53,12 +41,12 @@ expand-spec =
     μ-loop
     loop-holds
     try-letter-requires
-    enum-known-c
-    enum-told
+    (λ c. search needs)
+    (λ c. search needs)
     same-length
     returns
-    add-letter
-    loop-less
+    (λ c. omega arith)
+    (λ c. omega arith)
     loop-again
     same-length-2
     returns-2)

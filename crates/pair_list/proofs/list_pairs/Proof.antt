@@ -19,12 +19,6 @@ loop-holds c = listing-start (c .before .before .before .pre .0) (c .before .bef
 expand-requires : tie.Need-expand-requires Inv-loop μ-loop
 expand-requires c κs = (c .before .before .loop .inv .tables, listing-try (c .before .before .loop .inv) (c .before .loop-test .taken))
 
-enum-known-c : tie.Need-enum-known-c Inv-loop μ-loop
-enum-known-c c = search needs
-
-enum-told : tie.Need-enum-told Inv-loop μ-loop
-enum-told c = search needs
-
 same-length : tie.Need-same-length Inv-loop μ-loop
 same-length c = listing-full (c .before .before .before .before .before .before .before .loop .inv) (c .before .before .before .before .expand .ensures) (c .enum-told .given .1) .kept .same-length
 
@@ -54,8 +48,8 @@ list-pairs-spec =
     μ-loop
     loop-holds
     expand-requires
-    enum-known-c
-    enum-told
+    (λ c. search needs)
+    (λ c. search needs)
     same-length
     returns
     add-from

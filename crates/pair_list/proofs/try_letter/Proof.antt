@@ -4,35 +4,14 @@ use Rattle.pair_list.proofs.Laws.{left-place, right-place, add-place, t
 use Rattle.pair_list.proofs.try_letter.Statement.{statement}
 use Rattle.pair_list.proofs.try_letter.Tie as tie
 
-sub-step : tie.Need-sub-step
-sub-step c = search needs
-
-part-step-start : tie.Need-part-step-start
-part-step-start c = search needs
-
-part-step-end : tie.Need-part-step-end
-part-step-end c = search needs
-
 step-requires : tie.Need-step-requires
 step-requires c κs = left-place (c .before .before .before .before .before .pre .0) (c .before .before .before .before .before .pre .1 .0) (c .before .before .before .before .before .pre .1 .1)
-
-sub-step-2 : tie.Need-sub-step-2
-sub-step-2 c = search needs
-
-part-step-start-2 : tie.Need-part-step-start-2
-part-step-start-2 c = search needs
-
-part-step-end-2 : tie.Need-part-step-end-2
-part-step-end-2 c = search needs
 
 step-requires-2 : tie.Need-step-requires-2
 step-requires-2 c κs = right-place (c .before .before .before .before .before .before .before .before .pre .0) (c .before .before .before .before .before .before .before .before .pre .1 .0) (c .before .before .before .before .before .before .before .before .pre .1 .1)
 
 add-pair-requires : tie.Need-add-pair-requires
 add-pair-requires c κs = add-place (c .before .before .before .before .before .before .before .before .before .before .pre .0) (c .before .before .before .before .before .before .before .before .before .before .pre .1 .0) (c .before .before .before .before .before .before .before .before .before .before .pre .1 .1) (c .before .before .before .before .step .ensures) (c .before .step2 .ensures)
-
-same-length : tie.Need-same-length
-same-length c = search needs
 
 returns : tie.Need-returns
 returns c = tried (c .before .before .before .before .before .before .before .before .before .before .before .before .before .pre .0) (c .before .before .before .before .before .before .before .before .before .before .before .before .before .pre .1 .0) (c .before .before .before .before .before .before .before .before .before .before .before .before .before .pre .1 .1) (c .before .before .before .before .before .before .before .step .ensures) (c .before .before .before .before .step2 .ensures) _ (c .before .before .add-pair .ensures)
@@ -41,14 +20,14 @@ pub try-letter-spec : {M : Type 1} → statement M
 try-letter-spec =
     tie.close
     (tie.spec
-    sub-step
-    part-step-start
-    part-step-end
+    (λ c. search needs)
+    (λ c. search needs)
+    (λ c. search needs)
     step-requires
-    sub-step-2
-    part-step-start-2
-    part-step-end-2
+    (λ c. search needs)
+    (λ c. search needs)
+    (λ c. search needs)
     step-requires-2
     add-pair-requires
-    same-length
+    (λ c. search needs)
     returns)

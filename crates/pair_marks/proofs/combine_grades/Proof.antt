@@ -4,32 +4,17 @@ use Rattle.pair_marks.proofs.Ways.{both-first, both-second, either-seco
 use Rattle.pair_marks.proofs.combine_grades.Statement.{statement}
 use Rattle.pair_marks.proofs.combine_grades.Tie as tie
 
-enum-told : tie.Need-enum-told
-enum-told c = search needs
-
 returns : tie.Need-returns
 returns c = both-first _ _ (c .before .enum-told .given .1) (c .if1 .taken)
-
-enum-told-2 : tie.Need-enum-told-2
-enum-told-2 c = search needs
 
 returns-2 : tie.Need-returns-2
 returns-2 c = either-second _ _ (c .before .enum-told2 .given .1) (c .if2 .taken)
 
-enum-told-3 : tie.Need-enum-told-3
-enum-told-3 c = search needs
-
 returns-3 : tie.Need-returns-3
 returns-3 c = without-none _ _ (c .before .enum-told3 .given .1) (c .if3 .taken)
 
-sub-if4 : tie.Need-sub-if4
-sub-if4 c = search needs
-
 returns-4 : tie.Need-returns-4
 returns-4 c = without-first _ _ (c .before .before .enum-told3 .given .1) (c .if4 .taken)
-
-sub-result : tie.Need-sub-result
-sub-result c = search needs
 
 returns-5 : tie.Need-returns-5
 returns-5 c = both-second _ _ (c .before .enum-told .given .1) (c .if1 .left)
@@ -44,15 +29,15 @@ pub combine-grades-spec : {M : Type 1} → statement M
 combine-grades-spec =
     tie.close
     (tie.spec
-    enum-told
+    (λ c. search needs)
     returns
-    enum-told-2
+    (λ c. search needs)
     returns-2
-    enum-told-3
+    (λ c. search needs)
     returns-3
-    sub-if4
+    (λ c. search needs)
     returns-4
-    sub-result
+    (λ c. search needs)
     returns-5
     returns-6
     returns-7)

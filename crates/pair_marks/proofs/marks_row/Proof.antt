@@ -38,12 +38,6 @@ slice-write-scratch c =
     let start = c .before .before .before .before .before in
     omega (arith, start .pre .0 .few, start .pre .0 .room, c .before .before .before .loop .inv .0 .kept .same-length)
 
-add-j : tie.Need-add-j Inv-loop μ-loop
-add-j c = omega arith
-
-loop-less : tie.Need-loop-less Inv-loop μ-loop
-loop-less c = omega arith
-
 loop-again : tie.Need-loop-again Inv-loop μ-loop
 loop-again c =
     let at-test = c .before .before in
@@ -74,8 +68,8 @@ marks-row-spec =
     add-scratch
     add-scratch-2
     slice-write-scratch
-    add-j
-    loop-less
+    (λ c. omega arith)
+    (λ c. omega arith)
     loop-again
     same-length
     returns)

@@ -7,38 +7,14 @@ use Rattle.pair_marks.specs.Marks.{pairGrade}
 use Rattle.pair_marks.proofs.pair_grade.Statement.{statement}
 use Rattle.pair_marks.proofs.pair_grade.Tie as tie
 
-add-a : tie.Need-add-a
-add-a c = search needs
-
-shared-slice-read-a : tie.Need-shared-slice-read-a
-shared-slice-read-a c = search needs
-
 cast-a : tie.Need-cast-a
 cast-a c = fits-8-64 (c .shared-slice-known2 .given _)
-
-add-b : tie.Need-add-b
-add-b c = search needs
-
-shared-slice-read-b : tie.Need-shared-slice-read-b
-shared-slice-read-b c = search needs
 
 cast-b : tie.Need-cast-b
 cast-b c = fits-8-64 (c .shared-slice-known3 .given _)
 
-add-c : tie.Need-add-c
-add-c c = search needs
-
-shared-slice-read-c : tie.Need-shared-slice-read-c
-shared-slice-read-c c = search needs
-
 cast-c : tie.Need-cast-c
 cast-c c = fits-8-64 (c .shared-slice-known4 .given _)
-
-add-d : tie.Need-add-d
-add-d c = search needs
-
-shared-slice-read-d : tie.Need-shared-slice-read-d
-shared-slice-read-d c = search needs
 
 cast-d : tie.Need-cast-d
 cast-d c = fits-8-64 (c .shared-slice-known5 .given _)
@@ -79,9 +55,6 @@ shared-slice-read-combine-grades-2 c =
     let start = c .before .before .before .before .before .before .before in
     omega (arith, start .pre .0 .rights _ (start .pre .1 .0), start .pre .0 .rights _ (start .pre .1 .1), start .pre .0 .room)
 
-combine-grades-requires : tie.Need-combine-grades-requires
-combine-grades-requires c κs = search needs
-
 returns : tie.Need-returns
 unfolding pairGrade marksFrom
 returns c = c .combine-grades .ensures
@@ -90,17 +63,17 @@ pub pair-grade-spec : {M : Type 1} → statement M
 pair-grade-spec =
     tie.close
     (tie.spec
-    add-a
-    shared-slice-read-a
+    (λ c. search needs)
+    (λ c. search needs)
     cast-a
-    add-b
-    shared-slice-read-b
+    (λ c. search needs)
+    (λ c. search needs)
     cast-b
-    add-c
-    shared-slice-read-c
+    (λ c. search needs)
+    (λ c. search needs)
     cast-c
-    add-d
-    shared-slice-read-d
+    (λ c. search needs)
+    (λ c. search needs)
     cast-d
     mul-combine-grades
     add-combine-grades
@@ -110,5 +83,5 @@ pair-grade-spec =
     add-combine-grades-3
     add-combine-grades-4
     shared-slice-read-combine-grades-2
-    combine-grades-requires
+    (λ c κs. search needs)
     returns)

@@ -19,9 +19,6 @@ lay-marks-requires c κs =
     let start = c .before .before .before .before .before .before .before .before .before .before .before .before in
     marks-place (start .pre .0) (start .pre .1) (c .before .before .before .before .before .before .before .lay-products .ensures) (c .before .before .before .lay-images .ensures)
 
-same-length : tie.Need-same-length
-same-length c = search needs
-
 returns : tie.Need-returns
 returns c =
     let start = c .before .before .before .before .before .before .before .before .before .before .before .before .before .before .before in
@@ -30,4 +27,4 @@ returns c =
 pub lay-pairs-spec : {M : Type 1} → statement M
 lay-pairs-spec =
     tie.close
-    (tie.spec lay-products-requires lay-images-requires lay-marks-requires same-length returns)
+    (tie.spec lay-products-requires lay-images-requires lay-marks-requires (λ c. search needs) returns)

@@ -12,12 +12,6 @@ write-laid-requires c κs =
     let start = c .before .before .before .before .before .before .before .before .before .before in
     laid-place (start .pre .0) (start .pre .1) (c .before .before .before .before .lay-pairs .ensures)
 
-same-length : tie.Need-same-length
-same-length c = search needs
-
-same-length-2 : tie.Need-same-length-2
-same-length-2 c = search needs
-
 returns : tie.Need-returns
 returns c =
     let start = c .before .before .before .before .before .before .before .before .before .before .before .before .before in
@@ -25,4 +19,4 @@ returns c =
 
 pub write-pairs-spec : {M : Type 1} → statement M
 write-pairs-spec =
-    tie.close (tie.spec lay-pairs-requires write-laid-requires same-length same-length-2 returns)
+    tie.close (tie.spec lay-pairs-requires write-laid-requires (λ c. search needs) (λ c. search needs) returns)

@@ -43,9 +43,6 @@ slice-write-scratch c =
 add-x : tie.Need-add-x Inv-loop μ-loop
 add-x c = omega (arith, c .before .before .before .before .before .before .before .before .before .pre .0 .first-table .letters-small)
 
-loop-less : tie.Need-loop-less Inv-loop μ-loop
-loop-less c = omega arith
-
 loop-again : tie.Need-loop-again Inv-loop μ-loop
 loop-again c =
     let at-test = c .before .before .before .before in
@@ -78,7 +75,7 @@ lay-images-spec =
     add-scratch
     slice-write-scratch
     add-x
-    loop-less
+    (λ c. omega arith)
     loop-again
     same-length
     returns)

@@ -25,12 +25,6 @@ products-row-requires c κs =
     let start = c .before .before .before .before .before .before in
     (start .pre .0, (pairs-kept (c .before .before .loop .inv .0 .kept) (omega arith) (start .pre .0) (start .pre .1), c .before .loop-test .taken))
 
-add-i : tie.Need-add-i Inv-loop μ-loop
-add-i c = omega arith
-
-loop-less : tie.Need-loop-less Inv-loop μ-loop
-loop-less c = omega arith
-
 loop-again : tie.Need-loop-again Inv-loop μ-loop
 loop-again c =
     let at-loop = c .before .before .before .before .before in
@@ -54,8 +48,8 @@ lay-products-spec =
     μ-loop
     loop-holds
     products-row-requires
-    add-i
-    loop-less
+    (λ c. omega arith)
+    (λ c. omega arith)
     loop-again
     same-length
     returns)

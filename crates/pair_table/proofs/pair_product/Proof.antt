@@ -7,38 +7,14 @@ use Rattle.pair_table.proofs.Kept.{product-number, product-numbered}
 use Rattle.pair_table.proofs.pair_product.Statement.{statement}
 use Rattle.pair_table.proofs.pair_product.Tie as tie
 
-add-a : tie.Need-add-a
-add-a c = search needs
-
-shared-slice-read-a : tie.Need-shared-slice-read-a
-shared-slice-read-a c = search needs
-
 cast-a : tie.Need-cast-a
 cast-a c = fits-8-64 (c .shared-slice-known4 .given _)
-
-add-b : tie.Need-add-b
-add-b c = search needs
-
-shared-slice-read-b : tie.Need-shared-slice-read-b
-shared-slice-read-b c = search needs
 
 cast-b : tie.Need-cast-b
 cast-b c = fits-8-64 (c .shared-slice-known5 .given _)
 
-add-c : tie.Need-add-c
-add-c c = search needs
-
-shared-slice-read-c : tie.Need-shared-slice-read-c
-shared-slice-read-c c = search needs
-
 cast-c : tie.Need-cast-c
 cast-c c = fits-8-64 (c .shared-slice-known6 .given _)
-
-add-d : tie.Need-add-d
-add-d c = search needs
-
-shared-slice-read-d : tie.Need-shared-slice-read-d
-shared-slice-read-d c = search needs
 
 cast-d : tie.Need-cast-d
 cast-d c = fits-8-64 (c .shared-slice-known7 .given _)
@@ -68,17 +44,17 @@ pub pair-product-spec : {M : Type 1} → statement M
 pair-product-spec =
     tie.close
     (tie.spec
-    add-a
-    shared-slice-read-a
+    (λ c. search needs)
+    (λ c. search needs)
     cast-a
-    add-b
-    shared-slice-read-b
+    (λ c. search needs)
+    (λ c. search needs)
     cast-b
-    add-c
-    shared-slice-read-c
+    (λ c. search needs)
+    (λ c. search needs)
     cast-c
-    add-d
-    shared-slice-read-d
+    (λ c. search needs)
+    (λ c. search needs)
     cast-d
     product-requires
     product-requires-2

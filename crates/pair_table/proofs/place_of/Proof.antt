@@ -5,18 +5,6 @@ use Rattle.pair_list.specs.Pairs.{numberAt}
 use Rattle.pair_table.proofs.place_of.Statement.{statement}
 use Rattle.pair_table.proofs.place_of.Tie as tie
 
-mul-result : tie.Need-mul-result
-mul-result c = search needs
-
-add-result : tie.Need-add-result
-add-result c = search needs
-
-add-result-2 : tie.Need-add-result-2
-add-result-2 c = search needs
-
-shared-slice-read-result : tie.Need-shared-slice-read-result
-shared-slice-read-result c = search needs
-
 sub-result : tie.Need-sub-result
 unfolding numberAt
 sub-result c = c .before .pre .some
@@ -28,4 +16,4 @@ returns c = omega (arith, c .before .pre .some)
 pub place-of-spec : {M : Type 1} → statement M
 place-of-spec =
     tie.close
-    (tie.spec mul-result add-result add-result-2 shared-slice-read-result sub-result returns)
+    (tie.spec (λ c. search needs) (λ c. search needs) (λ c. search needs) (λ c. search needs) sub-result returns)

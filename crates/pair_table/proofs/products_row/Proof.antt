@@ -45,12 +45,6 @@ slice-write-scratch c =
     omega
     (arith, pair-small _ _ _ (start .pre .1 .0 .halves .few) (start .pre .1 .1) (c .before .before .loop-test .taken), start .pre .1 .0 .halves .room, c .before .before .before .loop .inv .0 .kept .same-length)
 
-add-j : tie.Need-add-j Inv-loop μ-loop
-add-j c = omega arith
-
-loop-less : tie.Need-loop-less Inv-loop μ-loop
-loop-less c = omega arith
-
 loop-again : tie.Need-loop-again Inv-loop μ-loop
 loop-again c =
     let at-test = c .before .before in
@@ -81,8 +75,8 @@ products-row-spec =
     add-scratch
     add-scratch-2
     slice-write-scratch
-    add-j
-    loop-less
+    (λ c. omega arith)
+    (λ c. omega arith)
     loop-again
     same-length
     returns)

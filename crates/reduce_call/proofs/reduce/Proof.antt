@@ -14,18 +14,6 @@ returns c = out-short _ _ _ _ (c .if1 .taken)
 returns-2 : tie.Need-returns-2
 returns-2 c = map-short _ _ _ _ (c .before .if1 .left) (c .if2 .taken)
 
-check-requires : tie.Need-check-requires
-check-requires c κs = search needs
-
-enum-known-shape : tie.Need-enum-known-shape
-enum-known-shape c = search needs
-
-enum-known-refusal : tie.Need-enum-known-refusal
-enum-known-refusal c = search needs
-
-same-length : tie.Need-same-length
-same-length c = search needs
-
 returns-3 : tie.Need-returns-3
 returns-3 c =
     let at-check = c .before .before .before .before .before in
@@ -38,12 +26,6 @@ decide-requires c κs =
     let at-check = at-shape .before .before .before .before in
     let p = checked-rule 1 _ _ _ _ (at-check .check .ensures) (at-shape .shape .given .1) in
     (checked-table 1 _ _ p, decide-place 1 _ _ p)
-
-zero-requires : tie.Need-zero-requires
-zero-requires c κs = search needs
-
-same-length-2 : tie.Need-same-length-2
-same-length-2 c = search needs
 
 returns-4 : tie.Need-returns-4
 returns-4 c =
@@ -65,18 +47,6 @@ write-reduced-requires c κs =
     let p = checked-rule 1 _ _ _ _ (at-check .check .ensures) (at-shape .shape .given .1) in
     (checked-table 1 _ _ p, reduce-place _ _ _ _ (at-if2 .before .if1 .left) (at-if2 .if2 .left) p (at-decide .decide .ensures))
 
-zero-requires-2 : tie.Need-zero-requires-2
-zero-requires-2 c κs = search needs
-
-same-length-3 : tie.Need-same-length-3
-same-length-3 c = search needs
-
-same-length-4 : tie.Need-same-length-4
-same-length-4 c = search needs
-
-same-length-5 : tie.Need-same-length-5
-same-length-5 c = search needs
-
 returns-5 : tie.Need-returns-5
 returns-5 c =
     let at-zero2 = c .before .before in
@@ -95,18 +65,18 @@ reduce-spec =
     (tie.spec
     returns
     returns-2
-    check-requires
-    enum-known-shape
-    enum-known-refusal
-    same-length
+    (λ c κs. search needs)
+    (λ c. search needs)
+    (λ c. search needs)
+    (λ c. search needs)
     returns-3
     decide-requires
-    zero-requires
-    same-length-2
+    (λ c κs. search needs)
+    (λ c. search needs)
     returns-4
     write-reduced-requires
-    zero-requires-2
-    same-length-3
-    same-length-4
-    same-length-5
+    (λ c κs. search needs)
+    (λ c. search needs)
+    (λ c. search needs)
+    (λ c. search needs)
     returns-5)

@@ -6,9 +6,6 @@ use Rattle.reduce_first_round.proofs.OutcomeBytes.{look-mark}
 use Rattle.reduce_first_round.proofs.outcome.Statement.{statement}
 use Rattle.reduce_first_round.proofs.outcome.Tie as tie
 
-product-requires : tie.Need-product-requires
-product-requires c κs = search needs
-
 mul-result : tie.Need-mul-result
 mul-result c =
     let b = c .before .before .before in
@@ -33,4 +30,4 @@ returns : tie.Need-returns
 returns c = look-mark _ _ _ (c .before .product .ensures)
 
 pub outcome-spec : {M : Type 1} → statement M
-outcome-spec = tie.close (tie.spec product-requires mul-result add-result add-result-2 shared-slice-read-result returns)
+outcome-spec = tie.close (tie.spec (λ c κs. search needs) mul-result add-result add-result-2 shared-slice-read-result returns)

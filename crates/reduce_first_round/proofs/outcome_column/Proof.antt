@@ -42,12 +42,6 @@ slice-write-scratch c =
     let b = c .before .before .before .before .before .before .before in
     omega (arith, b .pre .0 .small, unchanged-room (c .before .before .before .loop .inv .kept) (b .pre .1 .1 .1))
 
-add-s : tie.Need-add-s Inv-loop μ-loop
-add-s c = omega arith
-
-loop-less : tie.Need-loop-less Inv-loop μ-loop
-loop-less c = omega arith
-
 loop-again : tie.Need-loop-again Inv-loop μ-loop
 loop-again c =
     let b = c .before .before .before .before .before .before .before in
@@ -75,8 +69,8 @@ outcome-column-spec =
     add-scratch
     add-scratch-2
     slice-write-scratch
-    add-s
-    loop-less
+    (λ c. omega arith)
+    (λ c. omega arith)
     loop-again
     same-length
     returns)

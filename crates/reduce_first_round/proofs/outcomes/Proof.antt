@@ -22,12 +22,6 @@ outcome-column-requires c κs =
     let b = c .before .before .before .before .before in
     (b .pre .0, (b .pre .1 .0, (c .before .loop-test .taken, unchanged-room (c .before .before .loop .inv .kept) (b .pre .1 .1))))
 
-add-z : tie.Need-add-z Inv-loop μ-loop
-add-z c = omega arith
-
-loop-less : tie.Need-loop-less Inv-loop μ-loop
-loop-less c = omega arith
-
 loop-again : tie.Need-loop-again Inv-loop μ-loop
 loop-again c =
     let b = c .before .before .before .before .before .before .before .before in
@@ -50,8 +44,8 @@ outcomes-spec =
     μ-loop
     loop-holds
     outcome-column-requires
-    add-z
-    loop-less
+    (λ c. omega arith)
+    (λ c. omega arith)
     loop-again
     same-length
     returns)

@@ -41,12 +41,6 @@ outcome-at-requires-4 c κs =
 returns-2 : tie.Need-returns-2 Inv-loop μ-loop
 returns-2 c = cycle-differs (c .before .before .before .before .before .before .loop-test .taken) (c .before .before .outcome-at3 .ensures) (c .before .outcome-at4 .ensures) (c .if2 .taken)
 
-add-z : tie.Need-add-z Inv-loop μ-loop
-add-z c = omega arith
-
-loop-less : tie.Need-loop-less Inv-loop μ-loop
-loop-less c = omega arith
-
 loop-again : tie.Need-loop-again Inv-loop μ-loop
 loop-again c =
     let d = c .before .before .before in
@@ -69,7 +63,7 @@ same-outcomes-spec =
     outcome-at-requires-3
     outcome-at-requires-4
     returns-2
-    add-z
-    loop-less
+    (λ c. omega arith)
+    (λ c. omega arith)
     loop-again
     returns-3)

@@ -9,20 +9,8 @@ use Rattle.reduce_table.specs.Layout.{blockOutcome}
 use Rattle.reduce_marks.proofs.block_outcome.Statement.{statement}
 use Rattle.reduce_marks.proofs.block_outcome.Tie as tie
 
-add-a : tie.Need-add-a
-add-a c = search needs
-
-shared-slice-read-a : tie.Need-shared-slice-read-a
-shared-slice-read-a c = search needs
-
 cast-a : tie.Need-cast-a
 cast-a c = omega (arith, c .shared-slice-known .given (leadersBase + c .before .args .i))
-
-add-b : tie.Need-add-b
-add-b c = search needs
-
-shared-slice-read-b : tie.Need-shared-slice-read-b
-shared-slice-read-b c = search needs
 
 cast-b : tie.Need-cast-b
 cast-b c = omega (arith, c .shared-slice-known2 .given (leadersBase + c .before .before .args .j))
@@ -53,11 +41,11 @@ pub block-outcome-spec : {M : Type 1} → statement M
 block-outcome-spec =
     tie.close
     (tie.spec
-    add-a
-    shared-slice-read-a
+    (λ c. search needs)
+    (λ c. search needs)
     cast-a
-    add-b
-    shared-slice-read-b
+    (λ c. search needs)
+    (λ c. search needs)
     cast-b
     mul-result
     add-result

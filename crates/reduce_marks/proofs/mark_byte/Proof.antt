@@ -4,23 +4,14 @@ use Rattle.reduce_table.proofs.Blocks.{mark-not-square, mark-moves, mark-linked
 use Rattle.reduce_marks.proofs.mark_byte.Statement.{statement}
 use Rattle.reduce_marks.proofs.mark_byte.Tie as tie
 
-laid-product-requires : tie.Need-laid-product-requires
-laid-product-requires c κs = search needs
-
 returns : tie.Need-returns
 returns c = mark-not-square _ _ _ _ (c .before .laid-product .ensures) (c .if1 .taken)
-
-laid-product-requires-2 : tie.Need-laid-product-requires-2
-laid-product-requires-2 c κs = search needs
 
 returns-2 : tie.Need-returns-2
 returns-2 c =
     let at-if1 = c .before .before in
     let at-laid-product = at-if1 .before in
     mark-moves _ _ _ _ (at-laid-product .laid-product .ensures) (at-if1 .if1 .left) (c .before .laid-product2 .ensures) (c .if2 .taken)
-
-block-outcome-requires : tie.Need-block-outcome-requires
-block-outcome-requires c κs = search needs
 
 returns-3 : tie.Need-returns-3
 returns-3 c =
@@ -35,9 +26,9 @@ pub mark-byte-spec : {M : Type 1} → statement M
 mark-byte-spec =
     tie.close
     (tie.spec
-    laid-product-requires
+    (λ c κs. search needs)
     returns
-    laid-product-requires-2
+    (λ c κs. search needs)
     returns-2
-    block-outcome-requires
+    (λ c κs. search needs)
     returns-3)

@@ -39,12 +39,6 @@ slice-write-scratch c =
     let start = at-loop .before .before in
     omega (arith, start .pre .0 .small, start .pre .0 .room, at-loop .loop .inv .0 .kept .same-length)
 
-add-j : tie.Need-add-j Inv-loop μ-loop
-add-j c = omega arith
-
-loop-less : tie.Need-loop-less Inv-loop μ-loop
-loop-less c = omega arith
-
 loop-again : tie.Need-loop-again Inv-loop μ-loop
 loop-again c =
     let at-test = c .before .before in
@@ -75,8 +69,8 @@ marks-row-spec =
     add-scratch
     add-scratch-2
     slice-write-scratch
-    add-j
-    loop-less
+    (λ c. omega arith)
+    (λ c. omega arith)
     loop-again
     same-length
     returns)

@@ -13,20 +13,8 @@ Inv-loop scratch c s block j₀ j = NoneSo scratch s j
 abbrev μ-loop : tie.MeasureT-loop
 μ-loop scratch c s block j₀ j = c - j
 
-add-block : tie.Need-add-block Inv-loop μ-loop
-add-block c = search needs
-
-shared-slice-read-block : tie.Need-shared-slice-read-block Inv-loop μ-loop
-shared-slice-read-block c = search needs
-
 loop-holds : tie.Need-loop-holds Inv-loop μ-loop
 loop-holds c = none-start
-
-add-leader : tie.Need-add-leader Inv-loop μ-loop
-add-leader c = omega arith
-
-shared-slice-read-leader : tie.Need-shared-slice-read-leader Inv-loop μ-loop
-shared-slice-read-leader c = omega arith
 
 cast-leader : tie.Need-cast-leader Inv-loop μ-loop
 cast-leader c = omega (arith, c .shared-slice-known2 .given (leadersBase + c .before .before .loop .j))
@@ -43,12 +31,6 @@ shared-slice-read-if1 c =
 returns : tie.Need-returns Inv-loop μ-loop
 returns c = sought-found (c .before .before .before .loop-test .taken) (c .before .before .before .before .loop .inv) (c .if1 .taken)
 
-add-j : tie.Need-add-j Inv-loop μ-loop
-add-j c = omega arith
-
-loop-less : tie.Need-loop-less Inv-loop μ-loop
-loop-less c = omega arith
-
 loop-again : tie.Need-loop-again Inv-loop μ-loop
 loop-again c = none-next (c .before .before .before .before .loop .inv) (c .if1 .left)
 
@@ -61,16 +43,16 @@ find-spec =
     (tie.spec
     Inv-loop
     μ-loop
-    add-block
-    shared-slice-read-block
+    (λ c. search needs)
+    (λ c. search needs)
     loop-holds
-    add-leader
-    shared-slice-read-leader
+    (λ c. omega arith)
+    (λ c. omega arith)
     cast-leader
     add-if1
     shared-slice-read-if1
     returns
-    add-j
-    loop-less
+    (λ c. omega arith)
+    (λ c. omega arith)
     loop-again
     returns-2)

@@ -4,20 +4,8 @@ use Rattle.reduce_numbering.proofs.Blocks.{blank-queue, blocks-numbered
 use Rattle.reduce_numbering.proofs.number_blocks.Statement.{statement}
 use Rattle.reduce_numbering.proofs.number_blocks.Tie as tie
 
-slice-aggregate-reach : tie.Need-slice-aggregate-reach
-slice-aggregate-reach c = search needs
-
 reach-requires : tie.Need-reach-requires
 reach-requires c κs = (c .before .before .before .pre .0, blank-queue)
-
-slice-aggregate-number-elements : tie.Need-slice-aggregate-number-elements
-slice-aggregate-number-elements c = search needs
-
-number-elements-requires : tie.Need-number-elements-requires
-number-elements-requires c κs = search needs
-
-same-length : tie.Need-same-length
-same-length c = search needs
 
 returns : tie.Need-returns
 returns c =
@@ -30,9 +18,9 @@ pub number-blocks-spec : {M : Type 1} → statement M
 number-blocks-spec =
     tie.close
     (tie.spec
-    slice-aggregate-reach
+    (λ c. search needs)
     reach-requires
-    slice-aggregate-number-elements
-    number-elements-requires
-    same-length
+    (λ c. search needs)
+    (λ c κs. search needs)
+    (λ c. search needs)
     returns)

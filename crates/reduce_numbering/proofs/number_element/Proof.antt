@@ -8,40 +8,13 @@ use Rattle.reduce_numbering.proofs.Steps.{taken-next}
 use Rattle.reduce_numbering.proofs.number_element.Statement.{statement}
 use Rattle.reduce_numbering.proofs.number_element.Tie as tie
 
-find-requires : tie.Need-find-requires
-find-requires c κs = search needs
-
-cast-scratch : tie.Need-cast-scratch
-cast-scratch c = search needs
-
-add-scratch : tie.Need-add-scratch
-add-scratch c = search needs
-
-slice-write-scratch : tie.Need-slice-write-scratch
-slice-write-scratch c = search needs
-
-same-length : tie.Need-same-length
-same-length c = search needs
-
 returns : tie.Need-returns
 returns c = taken-old (c .before .find .result) (c .if1 .taken) (c .before .find .ensures) refl
-
-cast-scratch-2 : tie.Need-cast-scratch-2
-cast-scratch-2 c = search needs
-
-add-scratch-2 : tie.Need-add-scratch-2
-add-scratch-2 c = search needs
 
 slice-write-scratch-2 : tie.Need-slice-write-scratch-2
 slice-write-scratch-2 c =
     let start = c .before .before .before .before in
     simp length-set (omega (arith, start .pre .0, start .pre .1))
-
-add-result : tie.Need-add-result
-add-result c = search needs
-
-same-length-2 : tie.Need-same-length-2
-same-length-2 c = search needs
 
 returns-2 : tie.Need-returns-2
 returns-2 c = taken-next (c .before .find .ensures) (c .if1 .left) refl
@@ -50,15 +23,15 @@ pub number-element-spec : {M : Type 1} → statement M
 number-element-spec =
     tie.close
     (tie.spec
-    find-requires
-    cast-scratch
-    add-scratch
-    slice-write-scratch
-    same-length
+    (λ c κs. search needs)
+    (λ c. search needs)
+    (λ c. search needs)
+    (λ c. search needs)
+    (λ c. search needs)
     returns
-    cast-scratch-2
-    add-scratch-2
+    (λ c. search needs)
+    (λ c. search needs)
     slice-write-scratch-2
-    add-result
-    same-length-2
+    (λ c. search needs)
+    (λ c. search needs)
     returns-2)

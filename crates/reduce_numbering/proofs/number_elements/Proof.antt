@@ -37,12 +37,6 @@ number-element-requires c κs =
       unchanged-room (at-loop .loop .inv .0 .kept) (start .pre .1),
     )
 
-add-i : tie.Need-add-i Inv-loop μ-loop
-add-i c = omega arith
-
-loop-less : tie.Need-loop-less Inv-loop μ-loop
-loop-less c = omega arith
-
 loop-again : tie.Need-loop-again Inv-loop μ-loop
 loop-again c =
     let at-number-element = c .before .before in
@@ -70,8 +64,8 @@ number-elements-spec =
     shared-slice-read-s
     cast-s
     number-element-requires
-    add-i
-    loop-less
+    (λ c. omega arith)
+    (λ c. omega arith)
     loop-again
     same-length
     returns)

@@ -18,15 +18,6 @@ number-blocks-requires c κs =
     let start = at-refine .before .before .before .before .before .before in
     (start .pre .0, (start .pre .1 .lawful, (start .pre .1 .reached, unchanged-room (at-refine .refine .ensures .kept) (start .pre .1 .room))))
 
-sub-numbers : tie.Need-sub-numbers
-sub-numbers c = search needs
-
-part-numbers-start : tie.Need-part-numbers-start
-part-numbers-start c = search needs
-
-part-numbers-end : tie.Need-part-numbers-end
-part-numbers-end c = search needs
-
 copy-requires : tie.Need-copy-requires
 copy-requires c κs =
     let at-number-blocks = c .before .before .before .before .before in
@@ -50,12 +41,6 @@ same-length c =
     let at-refine = at-number-blocks .before .before .before .before in
     at-write-quotient .write-quotient .ensures .same-length ∙ at-number-blocks .number-blocks .ensures .kept .same-length ∙ at-refine .refine .ensures .kept .same-length
 
-same-length-2 : tie.Need-same-length-2
-same-length-2 c = search needs
-
-same-length-3 : tie.Need-same-length-3
-same-length-3 c = search needs
-
 returns : tie.Need-returns
 returns c =
     let at-write-quotient = c .before .before .before .before in
@@ -72,12 +57,12 @@ write-reduced-spec =
     (tie.spec
     refine-requires
     number-blocks-requires
-    sub-numbers
-    part-numbers-start
-    part-numbers-end
+    (λ c. search needs)
+    (λ c. search needs)
+    (λ c. search needs)
     copy-requires
     write-quotient-requires
     same-length
-    same-length-2
-    same-length-3
+    (λ c. search needs)
+    (λ c. search needs)
     returns)

@@ -26,12 +26,6 @@ still-together-requires c κs =
 returns : tie.Need-returns Inv-loop μ-loop
 returns c = none-found (c .before .before .before .loop .inv) (c .before .before .loop-test .taken) (c .before .still-together .ensures) (c .if1 .taken)
 
-add-t : tie.Need-add-t Inv-loop μ-loop
-add-t c = omega arith
-
-loop-less : tie.Need-loop-less Inv-loop μ-loop
-loop-less c = omega arith
-
 loop-again : tie.Need-loop-again Inv-loop μ-loop
 loop-again c = none-next (c .before .before .before .loop .inv) (c .before .still-together .ensures) (c .if1 .left)
 
@@ -47,7 +41,7 @@ first-kept-spec =
     loop-holds
     still-together-requires
     returns
-    add-t
-    loop-less
+    (λ c. omega arith)
+    (λ c. omega arith)
     loop-again
     returns-2)

@@ -37,12 +37,6 @@ slice-write-scratch c =
     let b = c .before .before .before .before .before .before in
     omega (arith, unchanged-room (c .before .before .before .loop .inv .kept) (b .pre .1), b .pre .0 .small)
 
-add-s : tie.Need-add-s Inv-loop μ-loop
-add-s c = omega arith
-
-loop-less : tie.Need-loop-less Inv-loop μ-loop
-loop-less c = omega arith
-
 loop-again : tie.Need-loop-again Inv-loop μ-loop
 loop-again c =
     let b = c .before .before .before .before .before .before in
@@ -65,8 +59,8 @@ next-blocks-spec =
     cast-scratch
     add-scratch
     slice-write-scratch
-    add-s
-    loop-less
+    (λ c. omega arith)
+    (λ c. omega arith)
     loop-again
     same-length
     returns)

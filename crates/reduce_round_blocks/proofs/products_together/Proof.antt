@@ -7,9 +7,6 @@ use Rattle.reduce_first_round.proofs.Products.{letter-below, right-apart, left-
 use Rattle.reduce_round_blocks.proofs.products_together.Statement.{statement}
 use Rattle.reduce_round_blocks.proofs.products_together.Tie as tie
 
-image-requires : tie.Need-image-requires
-image-requires c κs = search needs
-
 -- the letter's element is one
 letter : (d : tie.After-image) → d .image .result < d .before .before .before .args .n
 letter d = letter-below (d .before .before .before .pre .0) (d .before .before .before .pre .1 .0 .2) (d .image .ensures)
@@ -114,7 +111,7 @@ pub products-together-spec : {M : Type 1} → statement M
 products-together-spec =
     tie.close
     (tie.spec
-    image-requires
+    (λ c κs. search needs)
     product-requires
     product-requires-2
     add-if1

@@ -42,12 +42,6 @@ products-together-requires c κs =
 returns-2 : tie.Need-returns-2 Inv-loop μ-loop
 returns-2 c = still-parted (c .before .before .loop-test .taken) (c .before .products-together .ensures) (not-true _ (c .if2 .taken))
 
-add-a : tie.Need-add-a Inv-loop μ-loop
-add-a c = omega arith
-
-loop-less : tie.Need-loop-less Inv-loop μ-loop
-loop-less c = omega arith
-
 loop-again : tie.Need-loop-again Inv-loop μ-loop
 loop-again c = still-next (c .before .before .before .loop .inv) (c .before .products-together .ensures) (not-false _ (c .if2 .left))
 
@@ -68,7 +62,7 @@ still-together-spec =
     loop-holds
     products-together-requires
     returns-2
-    add-a
-    loop-less
+    (λ c. omega arith)
+    (λ c. omega arith)
     loop-again
     returns-3)

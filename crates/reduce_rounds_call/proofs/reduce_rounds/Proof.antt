@@ -11,29 +11,11 @@ use Rattle.reduce_rounds_call.proofs.reduce_rounds.Tie as tie
 returns : tie.Need-returns
 returns c = blocks-short _ _ _ _ (c .if1 .taken)
 
-check-requires : tie.Need-check-requires
-check-requires c κs = search needs
-
-enum-known-shape : tie.Need-enum-known-shape
-enum-known-shape c = search needs
-
-enum-known-refusal : tie.Need-enum-known-refusal
-enum-known-refusal c = search needs
-
-same-length : tie.Need-same-length
-same-length c = search needs
-
 returns-2 : tie.Need-returns-2
 returns-2 c =
     let at-check = c .before .before .before .before .before in
     let at-if1 = at-check .before .before in
     rounds-refused _ _ _ _ (at-if1 .if1 .left) (checked-refused 1 _ _ _ _ (at-check .check .ensures) (c .before .refusal .given .1))
-
-zero-requires : tie.Need-zero-requires
-zero-requires c κs = search needs
-
-same-length-2 : tie.Need-same-length-2
-same-length-2 c = search needs
 
 returns-3 : tie.Need-returns-3
 returns-3 c =
@@ -51,12 +33,6 @@ decide-requires c κs =
     let at-check = at-shape .before .before .before .before in
     let p = checked-rule 1 _ _ _ _ (at-check .check .ensures) (at-shape .shape .given .1) in
     (checked-table 1 _ _ p, decide-place 1 _ _ p)
-
-zero-requires-2 : tie.Need-zero-requires-2
-zero-requires-2 c κs = search needs
-
-same-length-3 : tie.Need-same-length-3
-same-length-3 c = search needs
 
 returns-4 : tie.Need-returns-4
 returns-4 c =
@@ -80,15 +56,6 @@ write-blocks-requires c κs =
     let p = checked-rule 1 _ _ _ _ (at-check .check .ensures) (at-shape .shape .given .1) in
     (checked-table 1 _ _ p, (checked-lawful 1 _ _ p, (decided-room 1 _ _ p (at-decide .decide .ensures), at-if1 .if1 .left)))
 
-zero-requires-3 : tie.Need-zero-requires-3
-zero-requires-3 c κs = search needs
-
-same-length-4 : tie.Need-same-length-4
-same-length-4 c = search needs
-
-same-length-5 : tie.Need-same-length-5
-same-length-5 c = search needs
-
 returns-5 : tie.Need-returns-5
 returns-5 c =
     let at-zero3 = c .before .before in
@@ -107,20 +74,20 @@ reduce-rounds-spec =
     tie.close
     (tie.spec
     returns
-    check-requires
-    enum-known-shape
-    enum-known-refusal
-    same-length
+    (λ c κs. search needs)
+    (λ c. search needs)
+    (λ c. search needs)
+    (λ c. search needs)
     returns-2
-    zero-requires
-    same-length-2
+    (λ c κs. search needs)
+    (λ c. search needs)
     returns-3
     decide-requires
-    zero-requires-2
-    same-length-3
+    (λ c κs. search needs)
+    (λ c. search needs)
     returns-4
     write-blocks-requires
-    zero-requires-3
-    same-length-4
-    same-length-5
+    (λ c κs. search needs)
+    (λ c. search needs)
+    (λ c. search needs)
     returns-5)

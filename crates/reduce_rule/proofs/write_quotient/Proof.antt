@@ -37,9 +37,6 @@ same-length c =
     let at-lay-table = at-lay-images .before .before .before .before in
     at-lay-marks .lay-marks .ensures .kept .same-length ∙ at-lay-images .lay-images .ensures .kept .same-length ∙ at-lay-table .lay-table .ensures .kept .same-length
 
-same-length-2 : tie.Need-same-length-2
-same-length-2 c = search needs
-
 returns : tie.Need-returns
 returns c =
     let at-write-laid = c .before .before in
@@ -59,5 +56,5 @@ write-quotient-spec =
     lay-marks-requires
     write-laid-requires
     same-length
-    same-length-2
+    (λ c. search needs)
     returns)

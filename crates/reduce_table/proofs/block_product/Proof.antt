@@ -11,20 +11,8 @@ use Rattle.reduce_table.proofs.Blocks.{product-small}
 use Rattle.reduce_table.proofs.block_product.Statement.{statement}
 use Rattle.reduce_table.proofs.block_product.Tie as tie
 
-add-a : tie.Need-add-a
-add-a c = search needs
-
-shared-slice-read-a : tie.Need-shared-slice-read-a
-shared-slice-read-a c = search needs
-
 cast-a : tie.Need-cast-a
 cast-a c = omega (arith, c .shared-slice-known3 .given (leadersBase + c .before .before .before .args .i))
-
-add-b : tie.Need-add-b
-add-b c = search needs
-
-shared-slice-read-b : tie.Need-shared-slice-read-b
-shared-slice-read-b c = search needs
 
 cast-b : tie.Need-cast-b
 cast-b c = omega (arith, c .shared-slice-known4 .given (leadersBase + c .before .before .before .before .args .j))
@@ -52,11 +40,11 @@ pub block-product-spec : {M : Type 1} → statement M
 block-product-spec =
     tie.close
     (tie.spec
-    add-a
-    shared-slice-read-a
+    (λ c. search needs)
+    (λ c. search needs)
     cast-a
-    add-b
-    shared-slice-read-b
+    (λ c. search needs)
+    (λ c. search needs)
     cast-b
     product-requires
     add-result

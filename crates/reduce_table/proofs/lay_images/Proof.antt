@@ -20,9 +20,6 @@ abbrev μ-loop : tie.MeasureT-loop
 loop-holds : tie.Need-loop-holds Inv-loop μ-loop
 loop-holds c = (filled-none _ _, omega arith)
 
-image-requires : tie.Need-image-requires Inv-loop μ-loop
-image-requires c κs = search needs
-
 add-number : tie.Need-add-number Inv-loop μ-loop
 add-number c =
     let start = c .before .before .before .before .before in
@@ -48,9 +45,6 @@ slice-write-scratch c =
 add-a : tie.Need-add-a Inv-loop μ-loop
 add-a c = omega (arith, c .before .before .before .before .before .before .pre .0 .letters-small)
 
-loop-less : tie.Need-loop-less Inv-loop μ-loop
-loop-less c = omega arith
-
 loop-again : tie.Need-loop-again Inv-loop μ-loop
 unfolding blockImage
 loop-again c =
@@ -75,13 +69,13 @@ lay-images-spec =
     Inv-loop
     μ-loop
     loop-holds
-    image-requires
+    (λ c κs. search needs)
     add-number
     slice-read-number
     add-scratch
     slice-write-scratch
     add-a
-    loop-less
+    (λ c. omega arith)
     loop-again
     same-length
     returns)

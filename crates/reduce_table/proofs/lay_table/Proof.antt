@@ -25,12 +25,6 @@ table-row-requires c κs =
     let start = at-loop .before .before .before in
     (start .pre .0, (blocks-kept (at-loop .loop .inv .0 .kept) (omega arith) (start .pre .1), c .before .loop-test .taken))
 
-add-i : tie.Need-add-i Inv-loop μ-loop
-add-i c = omega arith
-
-loop-less : tie.Need-loop-less Inv-loop μ-loop
-loop-less c = omega arith
-
 loop-again : tie.Need-loop-again Inv-loop μ-loop
 loop-again c =
     let at-table-row = c .before .before in
@@ -56,8 +50,8 @@ lay-table-spec =
     μ-loop
     loop-holds
     table-row-requires
-    add-i
-    loop-less
+    (λ c. omega arith)
+    (λ c. omega arith)
     loop-again
     same-length
     returns)

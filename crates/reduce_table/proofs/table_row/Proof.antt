@@ -49,12 +49,6 @@ slice-write-scratch c =
     omega
     (arith, pair-small _ _ _ (start .pre .1 .0 .small) (start .pre .1 .1) (at-test .loop-test .taken), start .pre .1 .0 .room, at-loop .loop .inv .0 .kept .same-length)
 
-add-j : tie.Need-add-j Inv-loop μ-loop
-add-j c = omega arith
-
-loop-less : tie.Need-loop-less Inv-loop μ-loop
-loop-less c = omega arith
-
 loop-again : tie.Need-loop-again Inv-loop μ-loop
 loop-again c =
     let at-test = c .before .before in
@@ -85,8 +79,8 @@ table-row-spec =
     add-scratch
     add-scratch-2
     slice-write-scratch
-    add-j
-    loop-less
+    (λ c. omega arith)
+    (λ c. omega arith)
     loop-again
     same-length
     returns)

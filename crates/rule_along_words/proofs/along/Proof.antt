@@ -44,12 +44,6 @@ cast-left c =
 product-requires-2 : tie.Need-product-requires-2 Inv-loop μ-loop
 product-requires-2 c κs = table-place (c .before .before .before .loop .inv .table) (omega arith) (omega arith)
 
-add-x : tie.Need-add-x Inv-loop μ-loop
-add-x c = omega arith
-
-loop-less : tie.Need-loop-less Inv-loop μ-loop
-loop-less c = omega arith
-
 loop-again : tie.Need-loop-again Inv-loop μ-loop
 loop-again c =
     along-next (c .before .before .before .before .before .loop .inv) (c .before .before .before .product .ensures) (c .before .product2 .ensures)
@@ -71,7 +65,7 @@ along-spec =
     element-copy-out-left
     cast-left
     product-requires-2
-    add-x
-    loop-less
+    (λ c. omega arith)
+    (λ c. omega arith)
     loop-again
     returns)

@@ -96,12 +96,6 @@ along-requires c κs =
 returns : tie.Need-returns Inv-loop μ-loop
 returns c = tt
 
-add-i : tie.Need-add-i Inv-loop μ-loop
-add-i c = omega arith
-
-loop-less : tie.Need-loop-less Inv-loop μ-loop
-loop-less c = omega arith
-
 loop-again : tie.Need-loop-again Inv-loop μ-loop
 loop-again c =
     let letter = c .before .before .before in
@@ -138,7 +132,7 @@ words-associate-spec =
     sub-along
     along-requires
     returns
-    add-i
-    loop-less
+    (λ c. omega arith)
+    (λ c. omega arith)
     loop-again
     returns-2)

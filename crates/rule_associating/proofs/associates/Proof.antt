@@ -7,9 +7,6 @@ use Rattle.rule_associating.proofs.Entries.{both-associate}
 use Rattle.rule_associating.proofs.associates.Statement.{statement}
 use Rattle.rule_associating.proofs.associates.Tie as tie
 
-letter-entries-requires : tie.Need-letter-entries-requires
-letter-entries-requires c κs = search needs
-
 -- a table has at most 64 elements
 elements-square : (c : tie.After-letter-entries) → c .before .before .before .args .n * c .before .before .before .args .n ≤ 4096
 elements-square c = mul-le-mul (c .before .before .before .pre .0 .small) (c .before .before .before .pre .0 .small)
@@ -44,17 +41,8 @@ add-if1 c = omega (arith, letters-square c, c .before .before .before .pre .0 .s
 returns : tie.Need-returns
 returns c = tt
 
-letter-columns-requires : tie.Need-letter-columns-requires
-letter-columns-requires c κs = search needs
-
-words-associate-requires : tie.Need-words-associate-requires
-words-associate-requires c κs = search needs
-
 returns-2 : tie.Need-returns-2
 returns-2 c = tt
-
-letters-associate-requires : tie.Need-letters-associate-requires
-letters-associate-requires c κs = search needs
 
 returns-3 : tie.Need-returns-3
 returns-3 c =
@@ -68,7 +56,7 @@ pub associates-spec : {M : Type 1} → statement M
 associates-spec =
     tie.close
     (tie.spec
-    letter-entries-requires
+    (λ c κs. search needs)
     mul-if1
     mul-if1-2
     sub-if1
@@ -77,8 +65,8 @@ associates-spec =
     mul-if1-5
     add-if1
     returns
-    letter-columns-requires
-    words-associate-requires
+    (λ c κs. search needs)
+    (λ c κs. search needs)
     returns-2
-    letters-associate-requires
+    (λ c κs. search needs)
     returns-3)

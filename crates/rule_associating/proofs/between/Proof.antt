@@ -60,12 +60,6 @@ product-requires-2 c κs =
     let here = c .before .before .before .before .loop in
     table-place (here .inv .table) (here .inv .inside) (here .inv .column .inside (here .x) (c .before .before .before .loop-test .taken))
 
-add-x : tie.Need-add-x Inv-loop μ-loop
-add-x c = omega arith
-
-loop-less : tie.Need-loop-less Inv-loop μ-loop
-loop-less c = omega arith
-
 loop-again : tie.Need-loop-again Inv-loop μ-loop
 loop-again c =
     between-next (c .before .before .before .before .before .before .loop .inv) (c .before .before .before .before .product .ensures) (c .before .product2 .ensures)
@@ -91,7 +85,7 @@ between-spec =
     element-copy-out-left
     cast-left
     product-requires-2
-    add-x
-    loop-less
+    (λ c. omega arith)
+    (λ c. omega arith)
     loop-again
     returns)

@@ -56,12 +56,6 @@ between-requires c κs =
 returns : tie.Need-returns Inv-loop2 μ-loop2 Inv-loop μ-loop
 returns c = tt
 
-add-j : tie.Need-add-j Inv-loop2 μ-loop2 Inv-loop μ-loop
-add-j c = omega arith
-
-loop2-less : tie.Need-loop2-less Inv-loop2 μ-loop2 Inv-loop μ-loop
-loop2-less c = omega arith
-
 loop2-again : tie.Need-loop2-again Inv-loop2 μ-loop2 Inv-loop μ-loop
 loop2-again c =
     let here = c .before .before in
@@ -69,12 +63,6 @@ loop2-again c =
     let row = here .before .loop2 .inv in
     let column = pre .1 .1 .1 .column (here .before .loop2 .j) (here .loop2-test .taken) in
     (row-next (pre .0) column (elements-inside here .0) (row .0) (c .before .between .result) (c .before .between .ensures) (c .if1 .left), row .1, row .2, row .3)
-
-add-i : tie.Need-add-i Inv-loop2 μ-loop2 Inv-loop μ-loop
-add-i c = omega arith
-
-loop-less : tie.Need-loop-less Inv-loop2 μ-loop2 Inv-loop μ-loop
-loop-less c = omega arith
 
 loop-again : tie.Need-loop-again Inv-loop2 μ-loop2 Inv-loop μ-loop
 loop-again c = letters-next (c .before .before .before .before .loop .inv) (c .before .loop2 .inv .0) (c .loop2-test .left)
@@ -96,10 +84,10 @@ letters-associate-spec =
     loop2-holds
     between-requires
     returns
-    add-j
-    loop2-less
+    (λ c. omega arith)
+    (λ c. omega arith)
     loop2-again
-    add-i
-    loop-less
+    (λ c. omega arith)
+    (λ c. omega arith)
     loop-again
     returns-2)

@@ -5,17 +5,11 @@ use borrow.Author.Needs.{needs}
 use Rattle.rule_automaton.proofs.is_state.Statement.{statement}
 use Rattle.rule_automaton.proofs.is_state.Tie as tie
 
-out-of-range-requires : tie.Need-out-of-range-requires
-out-of-range-requires c κs = search needs
-
 returns : tie.Need-returns
 returns c = no-value _ _ (said-stray _ _ (c .before .out-of-range .result) (c .before .out-of-range .ensures) (c .if1 .taken))
 
 returns-2 : tie.Need-returns-2
 returns-2 c = no-element _ _ (c .if2 .taken)
-
-product-requires : tie.Need-product-requires
-product-requires c κs = search needs
 
 returns-3 : tie.Need-returns-3
 returns-3 c =
@@ -26,4 +20,4 @@ returns-3 c =
 
 pub is-state-spec : {M : Type 1} → statement M
 is-state-spec =
-    tie.close (tie.spec out-of-range-requires returns returns-2 product-requires returns-3)
+    tie.close (tie.spec (λ c κs. search needs) returns returns-2 (λ c κs. search needs) returns-3)

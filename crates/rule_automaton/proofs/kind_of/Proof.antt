@@ -15,9 +15,6 @@ returns c = kind-least _ _ _ _ _ (inl (c .if1 .taken))
 returns-2 : tie.Need-returns-2
 returns-2 c = kind-least _ _ _ _ _ (inr (c .if2 .taken))
 
-is-state-requires : tie.Need-is-state-requires
-is-state-requires c κs = search needs
-
 returns-3 : tie.Need-returns-3
 returns-3 c =
     let at-state = c .before in
@@ -68,7 +65,7 @@ kind-of-spec =
     (tie.spec
     returns
     returns-2
-    is-state-requires
+    (λ c κs. search needs)
     returns-3
     returns-4
     mul-grade

@@ -26,12 +26,6 @@ loop-holds c = list-start _ (c .before .before .before .before .pre) (c .before 
 write-successor-requires : tie.Need-write-successor-requires Inv-loop μ-loop
 write-successor-requires c κs = list-needs (c .before .before .loop .inv) (inl (c .before .loop-test .taken))
 
-add-t : tie.Need-add-t Inv-loop μ-loop
-add-t c = omega arith
-
-loop-less : tie.Need-loop-less Inv-loop μ-loop
-loop-less c = omega arith
-
 loop-again : tie.Need-loop-again Inv-loop μ-loop
 loop-again c =
     let turn = c .before .before .before .before in
@@ -61,8 +55,8 @@ list-successors-spec =
     join-requires
     loop-holds
     write-successor-requires
-    add-t
-    loop-less
+    (λ c. omega arith)
+    (λ c. omega arith)
     loop-again
     write-successor-requires-2
     same-length

@@ -7,18 +7,6 @@ use borrow.Author.Needs.{needs}
 use Rattle.rule_automaton_call.proofs.state_kind.Statement.{statement}
 use Rattle.rule_automaton_call.proofs.state_kind.Tie as tie
 
-check-requires : tie.Need-check-requires
-check-requires c κs = search needs
-
-enum-known-shape : tie.Need-enum-known-shape
-enum-known-shape c = search needs
-
-enum-known-refusal : tie.Need-enum-known-refusal
-enum-known-refusal c = search needs
-
-same-length : tie.Need-same-length
-same-length c = search needs
-
 returns : tie.Need-returns
 returns c =
     let at-check = c .before .before .before .before .before in
@@ -30,12 +18,6 @@ kind-of-requires c κs =
     let at-check = at-shape .before .before .before .before in
     let p = checked-rule 1 _ _ _ _ (at-check .check .ensures) (at-shape .shape .given .1) in
     (checked-table 1 _ _ p, omega (arith, checked-room 1 _ _ p))
-
-zero-requires : tie.Need-zero-requires
-zero-requires c κs = search needs
-
-same-length-2 : tie.Need-same-length-2
-same-length-2 c = search needs
 
 returns-2 : tie.Need-returns-2
 returns-2 c =
@@ -49,12 +31,12 @@ pub state-kind-spec : {M : Type 1} → statement M
 state-kind-spec =
     tie.close
     (tie.spec
-    check-requires
-    enum-known-shape
-    enum-known-refusal
-    same-length
+    (λ c κs. search needs)
+    (λ c. search needs)
+    (λ c. search needs)
+    (λ c. search needs)
     returns
     kind-of-requires
-    zero-requires
-    same-length-2
+    (λ c κs. search needs)
+    (λ c. search needs)
     returns-2)

@@ -10,34 +10,16 @@ use Rattle.rule_automaton_call.proofs.successors.Tie as tie
 returns : tie.Need-returns
 returns c = successors-short _ _ _ _ _ _ (c .if1 .taken)
 
-check-requires : tie.Need-check-requires
-check-requires c κs = search needs
-
-enum-known-shape : tie.Need-enum-known-shape
-enum-known-shape c = search needs
-
-enum-known-refusal : tie.Need-enum-known-refusal
-enum-known-refusal c = search needs
-
-same-length : tie.Need-same-length
-same-length c = search needs
-
 returns-2 : tie.Need-returns-2
 returns-2 c =
     let at-check = c .before .before .before .before .before in
     successors-refused _ _ _ _ _ _ (at-check .before .before .if1 .left) (checked-refused 1 _ _ _ _ (at-check .check .ensures) (c .before .refusal .given .1))
-
-zero-requires : tie.Need-zero-requires
-zero-requires c κs = search needs
 
 is-state-requires : tie.Need-is-state-requires
 is-state-requires c κs =
     let at-shape = c .before .before .before .before .before in
     let at-check = at-shape .before .before .before .before in
     checked-table 1 _ _ (checked-rule 1 _ _ _ _ (at-check .check .ensures) (at-shape .shape .given .1))
-
-same-length-2 : tie.Need-same-length-2
-same-length-2 c = search needs
 
 returns-3 : tie.Need-returns-3
 returns-3 c =
@@ -47,9 +29,6 @@ returns-3 c =
     let at-check = at-shape .before .before .before .before in
     successors-missing _ _ _ _ _ _ (at-check .before .before .if1 .left) (checked-rule 1 _ _ _ _ (at-check .check .ensures) (at-shape .shape .given .1)) (at-zero .zero .ensures)
     (at-state .is-state .ensures) (c .if2 .taken)
-
-same-length-3 : tie.Need-same-length-3
-same-length-3 c = search needs
 
 returns-4 : tie.Need-returns-4
 returns-4 c =
@@ -69,12 +48,6 @@ list-successors-requires c κs =
     list-place _ _ _ _ _ _ (at-check .before .before .if1 .left) (checked-rule 1 _ _ _ _ (at-check .check .ensures) (at-shape .shape .given .1)) (at-zero .zero .ensures)
     (at-state .is-state .ensures) (c .before .before .if2 .left) (c .before .if3 .left)
 
-same-length-4 : tie.Need-same-length-4
-same-length-4 c = search needs
-
-same-length-5 : tie.Need-same-length-5
-same-length-5 c = search needs
-
 returns-5 : tie.Need-returns-5
 returns-5 c =
     let at-list = c .before .before in
@@ -91,18 +64,18 @@ successors-spec =
     tie.close
     (tie.spec
     returns
-    check-requires
-    enum-known-shape
-    enum-known-refusal
-    same-length
+    (λ c κs. search needs)
+    (λ c. search needs)
+    (λ c. search needs)
+    (λ c. search needs)
     returns-2
-    zero-requires
+    (λ c κs. search needs)
     is-state-requires
-    same-length-2
+    (λ c. search needs)
     returns-3
-    same-length-3
+    (λ c. search needs)
     returns-4
     list-successors-requires
-    same-length-4
-    same-length-5
+    (λ c. search needs)
+    (λ c. search needs)
     returns-5)

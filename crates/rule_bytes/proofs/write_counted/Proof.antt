@@ -4,15 +4,6 @@ use Rattle.rule_bytes.proofs.Counted.{counted-place, counted-written, c
 use Rattle.rule_bytes.proofs.write_counted.Statement.{statement}
 use Rattle.rule_bytes.proofs.write_counted.Tie as tie
 
-cast-out : tie.Need-cast-out
-cast-out c = search needs
-
-slice-write-out : tie.Need-slice-write-out
-slice-write-out c = search needs
-
-add-copy : tie.Need-add-copy
-add-copy c = search needs
-
 copy-requires : tie.Need-copy-requires
 copy-requires c κs = counted-place (c .before .before .before .pre)
 
@@ -24,4 +15,4 @@ same-length c = counted-length (c .before .before .before .before .before .befor
 
 pub write-counted-spec : {M : Type 1} → statement M
 write-counted-spec =
-    tie.close (tie.spec cast-out slice-write-out add-copy copy-requires same-length returns)
+    tie.close (tie.spec (λ c. search needs) (λ c. search needs) (λ c. search needs) copy-requires same-length returns)

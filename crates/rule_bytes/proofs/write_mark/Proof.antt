@@ -7,41 +7,11 @@ use Rattle.rule_bytes.proofs.Marks.{mark-in, mark-out}
 use Rattle.rule_bytes.proofs.write_mark.Statement.{statement}
 use Rattle.rule_bytes.proofs.write_mark.Tie as tie
 
-mul-grade : tie.Need-mul-grade
-mul-grade c = search needs
-
-add-grade : tie.Need-add-grade
-add-grade c = search needs
-
-shared-slice-read-grade : tie.Need-shared-slice-read-grade
-shared-slice-read-grade c = search needs
-
-cast-out : tie.Need-cast-out
-cast-out c = search needs
-
-slice-write-out : tie.Need-slice-write-out
-slice-write-out c = search needs
-
-cast-out-2 : tie.Need-cast-out-2
-cast-out-2 c = search needs
-
-add-out : tie.Need-add-out
-add-out c = search needs
-
 slice-write-out-2 : tie.Need-slice-write-out-2
 slice-write-out-2 c = simp length-set (omega arith)
 
-add-out-2 : tie.Need-add-out-2
-add-out-2 c = search needs
-
 slice-write-out-3 : tie.Need-slice-write-out-3
 slice-write-out-3 c = simp length-set (omega arith)
-
-add-result : tie.Need-add-result
-add-result c = search needs
-
-same-length : tie.Need-same-length
-same-length c = search needs
 
 returns : tie.Need-returns
 returns c = mark-in _ _ _ _ _ (c .if1 .taken) (c .before .before .pre .room)
@@ -53,17 +23,17 @@ pub write-mark-spec : {M : Type 1} → statement M
 write-mark-spec =
     tie.close
     (tie.spec
-    mul-grade
-    add-grade
-    shared-slice-read-grade
-    cast-out
-    slice-write-out
-    cast-out-2
-    add-out
+    (λ c. search needs)
+    (λ c. search needs)
+    (λ c. search needs)
+    (λ c. search needs)
+    (λ c. search needs)
+    (λ c. search needs)
+    (λ c. search needs)
     slice-write-out-2
-    add-out-2
+    (λ c. search needs)
     slice-write-out-3
-    add-result
-    same-length
+    (λ c. search needs)
+    (λ c. search needs)
     returns
     returns-2)

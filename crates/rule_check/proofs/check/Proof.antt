@@ -8,28 +8,10 @@ use Rattle.rule_check.proofs.check.Tie as tie
 returns : tie.Need-returns
 returns c = short-scratch _ _ _ (c .if1 .taken)
 
-check-rule-requires : tie.Need-check-rule-requires
-check-rule-requires c κs = search needs
-
-enum-known-shape : tie.Need-enum-known-shape
-enum-known-shape c = search needs
-
-enum-known-refusal : tie.Need-enum-known-refusal
-enum-known-refusal c = search needs
-
-zero-requires : tie.Need-zero-requires
-zero-requires c κs = search needs
-
-same-length : tie.Need-same-length
-same-length c = search needs
-
 returns-2 : tie.Need-returns-2
 returns-2 c =
     let checked = c .before .before .before .before .before in
     rule-promise _ _ _ _ (checked .check-rule .result) (checked .before .before .if1 .left) (checked .check-rule .ensures) (c .before .shape .given .1)
-
-same-length-2 : tie.Need-same-length-2
-same-length-2 c = search needs
 
 returns-3 : tie.Need-returns-3
 returns-3 c =
@@ -41,11 +23,11 @@ check-spec =
     tie.close
     (tie.spec
     returns
-    check-rule-requires
-    enum-known-shape
-    enum-known-refusal
-    zero-requires
-    same-length
+    (λ c κs. search needs)
+    (λ c. search needs)
+    (λ c. search needs)
+    (λ c κs. search needs)
+    (λ c. search needs)
     returns-2
-    same-length-2
+    (λ c. search needs)
     returns-3)

@@ -6,21 +6,6 @@ use Rattle.rule_check.proofs.Promise.{layout-said, layout-refused, blan
 use Rattle.rule_check.proofs.check_rule.Statement.{statement}
 use Rattle.rule_check.proofs.check_rule.Tie as tie
 
-zero-part-requires : tie.Need-zero-part-requires
-zero-part-requires c κs = search needs
-
-read-layout-requires : tie.Need-read-layout-requires
-read-layout-requires c κs = search needs
-
-enum-known-shape : tie.Need-enum-known-shape
-enum-known-shape c = search needs
-
-enum-known-refusal : tie.Need-enum-known-refusal
-enum-known-refusal c = search needs
-
-same-length : tie.Need-same-length
-same-length c = search needs
-
 returns : tie.Need-returns
 returns c =
     let read = c .before .before .before in
@@ -36,15 +21,6 @@ content-fault-requires c κs =
       blank-marks (start .pre) (read .before .before .before .zero-part .ensures),
     )
 
-enum-told : tie.Need-enum-told
-enum-told c = search needs
-
-enum-known-refusal-2 : tie.Need-enum-known-refusal-2
-enum-known-refusal-2 c = search needs
-
-same-length-2 : tie.Need-same-length-2
-same-length-2 c = search needs
-
 returns-2 : tie.Need-returns-2
 returns-2 c =
     let content = c .before .before .before .before in
@@ -54,9 +30,6 @@ returns-2 c =
     (layout-said (start .args .rule .now) (read .read-layout .result) (read .read-layout .ensures) (content .before .before .before .shape .given .1)) (read .before .before .before .zero-part .ensures)
     (no-fault (λ input. contentChecks input (start .args .rule .now)) (content .content-fault .result) (content .content-fault .ensures .0) (c .enum-told .given .1))
     (content-laid _ _ _ (content .content-fault .result) (content .content-fault .ensures .1) (c .enum-told .given .1))
-
-same-length-3 : tie.Need-same-length-3
-same-length-3 c = search needs
 
 returns-3 : tie.Need-returns-3
 returns-3 c =
@@ -72,16 +45,16 @@ pub check-rule-spec : {M : Type 1} → statement M
 check-rule-spec =
     tie.close
     (tie.spec
-    zero-part-requires
-    read-layout-requires
-    enum-known-shape
-    enum-known-refusal
-    same-length
+    (λ c κs. search needs)
+    (λ c κs. search needs)
+    (λ c. search needs)
+    (λ c. search needs)
+    (λ c. search needs)
     returns
     content-fault-requires
-    enum-told
-    enum-known-refusal-2
-    same-length-2
+    (λ c. search needs)
+    (λ c. search needs)
+    (λ c. search needs)
     returns-2
-    same-length-3
+    (λ c. search needs)
     returns-3)

@@ -46,12 +46,6 @@ returns c =
 table-fault-requires : tie.Need-table-fault-requires
 table-fault-requires c κs = table-is _ _ (c .before .before .before .before .pre .0)
 
-enum-told : tie.Need-enum-told
-enum-told c = search needs
-
-enum-known-refusal : tie.Need-enum-known-refusal
-enum-known-refusal c = search needs
-
 -- nothing follows the last section
 follows : (c : tie.Else1)
     → length (drop (1 + c .before .before .before .before .args .shape .elements * c .before .before .before .before .args .shape .elements
@@ -78,15 +72,6 @@ returns-2 c =
 mark-fault-requires : tie.Need-mark-fault-requires
 mark-fault-requires c κs = (table-is _ _ (c .before .before .before .before .before .before .before .before .pre .0), marks-room _ _ (c .before .before .before .before .before .before .before .before .pre .0) (c .before .before .before .before .before .before .before .before .pre .1))
 
-enum-told-2 : tie.Need-enum-told-2
-enum-told-2 c = search needs
-
-enum-known-refusal-2 : tie.Need-enum-known-refusal-2
-enum-known-refusal-2 c = search needs
-
-same-length : tie.Need-same-length
-same-length c = search needs
-
 returns-3 : tie.Need-returns-3
 returns-3 c =
     let b = c .before .before .before .before .before .before .before .before .before .before .before .before .before .before in
@@ -96,9 +81,6 @@ returns-3 c =
           (of-marks _ _ (b .pre .0) (m .result) (m .ensures .0)) (c .before .refusal2 .given .1)),
       kept-said _ _ _ _ _ _ (m .result) (m .ensures .1) (c .before .refusal2 .given .1),
     )
-
-same-length-2 : tie.Need-same-length-2
-same-length-2 c = search needs
 
 returns-4 : tie.Need-returns-4
 returns-4 c =
@@ -125,13 +107,13 @@ content-fault-spec =
     rest-after-requires
     returns
     table-fault-requires
-    enum-told
-    enum-known-refusal
+    (λ c. search needs)
+    (λ c. search needs)
     returns-2
     mark-fault-requires
-    enum-told-2
-    enum-known-refusal-2
-    same-length
+    (λ c. search needs)
+    (λ c. search needs)
+    (λ c. search needs)
     returns-3
-    same-length-2
+    (λ c. search needs)
     returns-4)

@@ -4,17 +4,8 @@ use borrow.Author.Needs.{needs}
 use Rattle.rule_check.proofs.rest_after.Statement.{statement}
 use Rattle.rule_check.proofs.rest_after.Tie as tie
 
-sub-result : tie.Need-sub-result
-sub-result c = search needs
-
-part-result-start : tie.Need-part-result-start
-part-result-start c = search needs
-
-part-result-end : tie.Need-part-result-end
-part-result-end c = search needs
-
 returns : tie.Need-returns
 returns c = rest-of (c .before .args .bytes .now) (c .before .args .end)
 
 pub rest-after-spec : {M : Type 1} → statement M
-rest-after-spec = tie.close (tie.spec sub-result part-result-start part-result-end returns)
+rest-after-spec = tie.close (tie.spec (λ c. search needs) (λ c. search needs) (λ c. search needs) returns)

@@ -8,20 +8,8 @@ use Rattle.rule_check.proofs.Faults.{blank-queue, all-found, unreached,
 use Rattle.rule_check.proofs.table_fault.Statement.{statement}
 use Rattle.rule_check.proofs.table_fault.Tie as tie
 
-slice-aggregate-reach : tie.Need-slice-aggregate-reach
-slice-aggregate-reach c = search needs
-
 reach-requires : tie.Need-reach-requires
 reach-requires c κs = (c .before .before .pre, blank-queue)
-
-slice-aggregate-least-without : tie.Need-slice-aggregate-least-without
-slice-aggregate-least-without c = search needs
-
-least-without-requires : tie.Need-least-without-requires
-least-without-requires c κs = search needs
-
-enum-known-s : tie.Need-enum-known-s
-enum-known-s c = search needs
 
 triples-fault-requires : tie.Need-triples-fault-requires
 triples-fault-requires c κs =
@@ -31,15 +19,6 @@ triples-fault-requires c κs =
       λ all. unreached (b .args .rule .now) (b .args .n) (b .args .k) (b .pre) all (d .before .before .before .before .before .reach .ensures)
           (d .before .before .least-without .result) (d .before .before .least-without .ensures) (d .s .given .1),
     )
-
-returns : tie.Need-returns
-returns c = search needs
-
-enum-told : tie.Need-enum-told
-enum-told c = search needs
-
-slice-aggregate-associates : tie.Need-slice-aggregate-associates
-slice-aggregate-associates c = search needs
 
 associates-requires : tie.Need-associates-requires
 associates-requires c κs =
@@ -66,23 +45,20 @@ triples-fault-requires-2 c κs =
           (d .before .before .least-without .result) (d .before .before .least-without .ensures) (d .enum-told .given .1),
     )
 
-returns-3 : tie.Need-returns-3
-returns-3 c = search needs
-
 pub table-fault-spec : {M : Type 1} → statement M
 table-fault-spec =
     tie.close
     (tie.spec
-    slice-aggregate-reach
+    (λ c. search needs)
     reach-requires
-    slice-aggregate-least-without
-    least-without-requires
-    enum-known-s
+    (λ c. search needs)
+    (λ c κs. search needs)
+    (λ c. search needs)
     triples-fault-requires
-    returns
-    enum-told
-    slice-aggregate-associates
+    (λ c. search needs)
+    (λ c. search needs)
+    (λ c. search needs)
     associates-requires
     returns-2
     triples-fault-requires-2
-    returns-3)
+    (λ c. search needs))

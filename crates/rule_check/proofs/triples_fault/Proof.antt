@@ -8,12 +8,6 @@ use borrow.Author.Needs.{needs}
 use Rattle.rule_check.proofs.triples_fault.Statement.{statement}
 use Rattle.rule_check.proofs.triples_fault.Tie as tie
 
-first-not-associative-requires : tie.Need-first-not-associative-requires
-first-not-associative-requires c κs = search needs
-
-enum-known-a : tie.Need-enum-known-a
-enum-known-a c = search needs
-
 -- the triple that was found
 found : (c : tie.After-known-told)
     → FirstTriple (morphismAt (c .before .before .before .before .before .args .rule .now) (c .before .before .before .before .before .args .n) (c .before .before .before .before .before .args .k))
@@ -34,9 +28,6 @@ add-t13 c = omega (arith, found c .a-inside, found c .b-inside, found c .c-insid
 add-t14 : tie.Need-add-t14
 add-t14 c = omega (arith, found c .a-inside, found c .b-inside, found c .c-inside, c .before .before .before .before .before .pre .0 .small)
 
-enum-told : tie.Need-enum-told
-enum-told c = search needs
-
 returns : tie.Need-returns
 returns c = not-associative (found c)
 
@@ -50,12 +41,12 @@ pub triples-fault-spec : {M : Type 1} → statement M
 triples-fault-spec =
     tie.close
     (tie.spec
-    first-not-associative-requires
-    enum-known-a
+    (λ c κs. search needs)
+    (λ c. search needs)
     mul-t11
     mul-t12
     add-t13
     add-t14
-    enum-told
+    (λ c. search needs)
     returns
     returns-2)

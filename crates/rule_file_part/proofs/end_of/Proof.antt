@@ -5,17 +5,11 @@ use Rattle.rule_file_part.proofs.Ends.{square-small, end-is}
 use Rattle.rule_file_part.proofs.end_of.Statement.{statement}
 use Rattle.rule_file_part.proofs.end_of.Tie as tie
 
-number-at-requires : tie.Need-number-at-requires
-number-at-requires c κs = search needs
-
 mul-letters-at : tie.Need-mul-letters-at
 mul-letters-at c = omega (arith, square-small (c .number-at .ensures .1))
 
 add-letters-at : tie.Need-add-letters-at
 add-letters-at c = omega (arith, square-small (c .number-at .ensures .1))
-
-number-at-requires-2 : tie.Need-number-at-requires-2
-number-at-requires-2 c κs = search needs
 
 add-marks-at : tie.Need-add-marks-at
 add-marks-at c = omega (arith, c .number-at2 .ensures .1)
@@ -23,14 +17,8 @@ add-marks-at c = omega (arith, c .number-at2 .ensures .1)
 add-marks-at-2 : tie.Need-add-marks-at-2
 add-marks-at-2 c = omega (arith, square-small (c .before .number-at .ensures .1), c .number-at2 .ensures .1)
 
-number-at-requires-3 : tie.Need-number-at-requires-3
-number-at-requires-3 c κs = search needs
-
 add-number-at : tie.Need-add-number-at
 add-number-at c = omega (arith, square-small (c .before .before .number-at .ensures .1), c .before .number-at2 .ensures .1)
-
-number-at-requires-4 : tie.Need-number-at-requires-4
-number-at-requires-4 c κs = search needs
 
 mul-count : tie.Need-mul-count
 mul-count c = omega (arith, c .number-at4 .ensures .1)
@@ -58,15 +46,15 @@ pub end-of-spec : {M : Type 1} → statement M
 end-of-spec =
     tie.close
     (tie.spec
-    number-at-requires
+    (λ c κs. search needs)
     mul-letters-at
     add-letters-at
-    number-at-requires-2
+    (λ c κs. search needs)
     add-marks-at
     add-marks-at-2
-    number-at-requires-3
+    (λ c κs. search needs)
     add-number-at
-    number-at-requires-4
+    (λ c κs. search needs)
     mul-count
     add-count
     mul-result

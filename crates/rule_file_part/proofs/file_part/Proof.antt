@@ -9,9 +9,6 @@ use Rattle.formats.specs.RuleFile.{ruleEnd}
 use Rattle.rule_file_part.proofs.file_part.Statement.{statement}
 use Rattle.rule_file_part.proofs.file_part.Tie as tie
 
-end-of-requires : tie.Need-end-of-requires
-end-of-requires c κs = search needs
-
 slice-aggregate-result : tie.Need-slice-aggregate-result
 slice-aggregate-result c = sym (length-take-le _ _ (omega (arith, c .before .if1 .taken)))
 
@@ -26,4 +23,4 @@ returns-2 c =
     (sym (take-all (ruleEnd bytes) bytes (omega (arith, c .if1 .left, c .before .end-of .ensures))), refl)
 
 pub file-part-spec : {M : Type 1} → statement M
-file-part-spec = tie.close (tie.spec end-of-requires slice-aggregate-result returns returns-2)
+file-part-spec = tie.close (tie.spec (λ c κs. search needs) slice-aggregate-result returns returns-2)

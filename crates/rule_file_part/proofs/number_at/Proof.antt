@@ -7,9 +7,6 @@ use lib.ListN.{List·getD-eq-default}
 use Rattle.rule_file_part.proofs.number_at.Statement.{statement}
 use Rattle.rule_file_part.proofs.number_at.Tie as tie
 
-shared-slice-read-result : tie.Need-shared-slice-read-result
-shared-slice-read-result c = search needs
-
 cast-result : tie.Need-cast-result
 cast-result c = fits-8-64 (c .shared-slice-known .given _)
 
@@ -20,4 +17,4 @@ returns-2 : tie.Need-returns-2
 returns-2 c = (sym (List·getD-eq-default (c .before .args .bytes .now) 0 (c .if1 .left)), omega arith)
 
 pub number-at-spec : {M : Type 1} → statement M
-number-at-spec = tie.close (tie.spec shared-slice-read-result cast-result returns returns-2)
+number-at-spec = tie.close (tie.spec (λ c. search needs) cast-result returns returns-2)

@@ -22,9 +22,6 @@ shared-slice-read-if1 c = omega (arith, pair-small _ _ _ (c .before .pre .0 .0) 
 cast-if1 : tie.Need-cast-if1
 cast-if1 c = fits-8-64 (c .shared-slice-known .given _)
 
-returns : tie.Need-returns
-returns c = search needs
-
 mul-if2 : tie.Need-mul-if2
 mul-if2 c = omega (arith, pair-small _ _ _ (c .before .before .pre .0 .0) (c .before .before .pre .1 .0) (c .before .before .pre .1 .1))
 
@@ -40,12 +37,6 @@ shared-slice-read-if2 c = omega (arith, pair-small _ _ _ (c .before .before .bef
 cast-if2 : tie.Need-cast-if2
 cast-if2 c = fits-8-64 (c .shared-slice-known2 .given _)
 
-returns-2 : tie.Need-returns-2
-returns-2 c = search needs
-
-returns-3 : tie.Need-returns-3
-returns-3 c = search needs
-
 pub laid-linked-spec : {M : Type 1} → statement M
 laid-linked-spec =
     tie.close
@@ -55,11 +46,11 @@ laid-linked-spec =
     add-if1-2
     shared-slice-read-if1
     cast-if1
-    returns
+    (λ c. search needs)
     mul-if2
     add-if2
     add-if2-2
     shared-slice-read-if2
     cast-if2
-    returns-2
-    returns-3)
+    (λ c. search needs)
+    (λ c. search needs))

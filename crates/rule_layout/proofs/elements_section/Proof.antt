@@ -9,12 +9,6 @@ use borrow.Author.Needs.{needs}
 use Rattle.rule_layout.proofs.elements_section.Statement.{statement}
 use Rattle.rule_layout.proofs.elements_section.Tie as tie
 
-byte-count-requires : tie.Need-byte-count-requires
-byte-count-requires c κs = search needs
-
-enum-known-n : tie.Need-enum-known-n
-enum-known-n c = search needs
-
 -- the count that was read
 good : (c : tie.After-known-told) → CountGood one-byte 1 64 (c .before .before .before .before .before .args .rule .now) (c .before .n .given .0 .0)
 good c =
@@ -27,9 +21,6 @@ mul-entries c = omega (arith, mul-le-mul (good c .within) (good c .within))
 
 entries-requires : tie.Need-entries-requires
 entries-requires c κs = omega (arith, mul-le-mul (good c .within) (good c .within))
-
-enum-known-refusal : tie.Need-enum-known-refusal
-enum-known-refusal c = search needs
 
 returns : tie.Need-returns
 returns c =
@@ -46,10 +37,10 @@ pub elements-section-spec : {M : Type 1} → statement M
 elements-section-spec =
     tie.close
     (tie.spec
-    byte-count-requires
-    enum-known-n
+    (λ c κs. search needs)
+    (λ c. search needs)
     mul-entries
     entries-requires
-    enum-known-refusal
+    (λ c. search needs)
     returns
     returns-2)

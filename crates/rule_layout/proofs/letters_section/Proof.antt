@@ -8,12 +8,6 @@ use borrow.Author.Needs.{needs}
 use Rattle.rule_layout.proofs.letters_section.Statement.{statement}
 use Rattle.rule_layout.proofs.letters_section.Tie as tie
 
-byte-count-requires : tie.Need-byte-count-requires
-byte-count-requires c κs = search needs
-
-enum-known-k : tie.Need-enum-known-k
-enum-known-k c = search needs
-
 -- the count that was read
 good : (c : tie.After-known-told) → CountGood one-byte 1 16 (c .before .before .before .before .before .args .rest .now) (c .before .k .given .0 .0)
 good c =
@@ -23,9 +17,6 @@ good c =
 
 entries-requires : tie.Need-entries-requires
 entries-requires c κs = omega (arith, good c .within)
-
-enum-known-refusal : tie.Need-enum-known-refusal
-enum-known-refusal c = search needs
 
 returns : tie.Need-returns
 returns c =
@@ -42,9 +33,9 @@ pub letters-section-spec : {M : Type 1} → statement M
 letters-section-spec =
     tie.close
     (tie.spec
-    byte-count-requires
-    enum-known-k
+    (λ c κs. search needs)
+    (λ c. search needs)
     entries-requires
-    enum-known-refusal
+    (λ c. search needs)
     returns
     returns-2)

@@ -63,15 +63,6 @@ after-letters : (c : tie.After-known-told3)
     (1 + nOf (before3 c) * nOf (before3 c) + (1 + kOf c)) (restFrom (restOf (before3 c)) (1 + kOf c))
 after-letters c = handed-next (after-elements (before3 c)) (letters c) refl
 
-elements-section-requires : tie.Need-elements-section-requires
-elements-section-requires c κs = search needs
-
-enum-known-n : tie.Need-enum-known-n
-enum-known-n c = search needs
-
-enum-known-refusal : tie.Need-enum-known-refusal
-enum-known-refusal c = search needs
-
 returns : tie.Need-returns
 returns c = let call = c .before .before .before .elements-section in handed-refused (whole (c .before .before .before .before .before .args .rule .now)) (call .result) (call .ensures) (c .before .refusal .given .1)
 
@@ -87,17 +78,8 @@ sub-rest c = elements-long c
 part-rest-start : tie.Need-part-rest-start
 part-rest-start c = omega (arith, elements-long c)
 
-part-rest-end : tie.Need-part-rest-end
-part-rest-end c = search needs
-
 letters-section-requires : tie.Need-letters-section-requires
 letters-section-requires c κs = omega (arith, part-length (after-elements (c .before)))
-
-enum-known-k : tie.Need-enum-known-k
-enum-known-k c = search needs
-
-enum-known-refusal-2 : tie.Need-enum-known-refusal-2
-enum-known-refusal-2 c = search needs
 
 returns-2 : tie.Need-returns-2
 returns-2 c = let call = c .before .before .before .letters-section in handed-refused (after-elements (c .before .before .before .before .before)) (call .result) (call .ensures) (c .before .refusal2 .given .1)
@@ -114,17 +96,8 @@ sub-last c = letters-long c
 part-last-start : tie.Need-part-last-start
 part-last-start c = omega (arith, letters-long c)
 
-part-last-end : tie.Need-part-last-end
-part-last-end c = search needs
-
 marks-section-requires : tie.Need-marks-section-requires
 marks-section-requires c κs = omega (arith, part-length (after-letters (c .before)))
-
-enum-known-c : tie.Need-enum-known-c
-enum-known-c c = search needs
-
-enum-known-refusal-3 : tie.Need-enum-known-refusal-3
-enum-known-refusal-3 c = search needs
 
 -- all three sections pass
 returns-3 : tie.Need-returns-3
@@ -145,26 +118,26 @@ pub read-layout-spec : {M : Type 1} → statement M
 read-layout-spec =
     tie.close
     (tie.spec
-    elements-section-requires
-    enum-known-n
-    enum-known-refusal
+    (λ c κs. search needs)
+    (λ c. search needs)
+    (λ c. search needs)
     returns
     mul-letters-at
     add-letters-at
     sub-rest
     part-rest-start
-    part-rest-end
+    (λ c. search needs)
     letters-section-requires
-    enum-known-k
-    enum-known-refusal-2
+    (λ c. search needs)
+    (λ c. search needs)
     returns-2
     add-used
     add-marks-at
     sub-last
     part-last-start
-    part-last-end
+    (λ c. search needs)
     marks-section-requires
-    enum-known-c
-    enum-known-refusal-3
+    (λ c. search needs)
+    (λ c. search needs)
     returns-3
     returns-4)

@@ -62,20 +62,8 @@ add-columns c = omega (arith, c .before .before .loop2 .inv .below, c .before .b
 array-write-columns : tie.Need-array-write-columns Inv-loop2 μ-loop2 Inv-loop μ-loop
 array-write-columns c = omega (arith, c .before .before .loop2 .inv .below, c .before .before .before .before .before .before .before .before .pre .0 .small)
 
-add-x : tie.Need-add-x Inv-loop2 μ-loop2 Inv-loop μ-loop
-add-x c = omega arith
-
-loop2-less : tie.Need-loop2-less Inv-loop2 μ-loop2 Inv-loop μ-loop
-loop2-less c = omega arith
-
 loop2-again : tie.Need-loop2-again Inv-loop2 μ-loop2 Inv-loop μ-loop
 loop2-again c = column-more (c .before .before .before .before .before .before .before .before .pre .0 .small) (c .before .before .loop2 .inv) (c .before .loop2-test .taken) (c .product .ensures)
-
-add-j : tie.Need-add-j Inv-loop2 μ-loop2 Inv-loop μ-loop
-add-j c = omega arith
-
-loop-less : tie.Need-loop-less Inv-loop2 μ-loop2 Inv-loop μ-loop
-loop-less c = omega arith
 
 loop-again : tie.Need-loop-again Inv-loop2 μ-loop2 Inv-loop μ-loop
 loop-again c = columns-next (c .before .loop2 .inv .filled) (c .loop2-test .left)
@@ -100,10 +88,10 @@ letter-columns-spec =
     mul-columns
     add-columns
     array-write-columns
-    add-x
-    loop2-less
+    (λ c. omega arith)
+    (λ c. omega arith)
     loop2-again
-    add-j
-    loop-less
+    (λ c. omega arith)
+    (λ c. omega arith)
     loop-again
     returns)

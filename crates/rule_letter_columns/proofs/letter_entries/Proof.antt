@@ -16,9 +16,6 @@ abbrev μ-loop : tie.MeasureT-loop
 loop-holds : tie.Need-loop-holds Inv-loop μ-loop
 loop-holds c = (letters-none, omega arith)
 
-add-if1 : tie.Need-add-if1 Inv-loop μ-loop
-add-if1 c = omega arith
-
 shared-slice-read-if1 : tie.Need-shared-slice-read-if1 Inv-loop μ-loop
 shared-slice-read-if1 c =
     let start = c .before .before .before in
@@ -26,12 +23,6 @@ shared-slice-read-if1 c =
 
 returns : tie.Need-returns Inv-loop μ-loop
 returns c = letters-end (c .before .before .before .before .pre .1) (c .before .before .loop-test .taken) (c .before .before .before .loop .inv .0 .first) (c .if1 .taken)
-
-add-i : tie.Need-add-i Inv-loop μ-loop
-add-i c = omega arith
-
-loop-less : tie.Need-loop-less Inv-loop μ-loop
-loop-less c = omega arith
 
 loop-again : tie.Need-loop-again Inv-loop μ-loop
 loop-again c = (letters-one (c .before .before .before .loop .inv .0) (c .if1 .left), omega arith)
@@ -46,10 +37,10 @@ letter-entries-spec =
     Inv-loop
     μ-loop
     loop-holds
-    add-if1
+    (λ c. omega arith)
     shared-slice-read-if1
     returns
-    add-i
-    loop-less
+    (λ c. omega arith)
+    (λ c. omega arith)
     loop-again
     returns-2)

@@ -142,12 +142,6 @@ slice-write-table : tie.Need-slice-write-table Inv-loop μ-loop
 unfolding markStart markCycle
 slice-write-table c = spot-in (c .before .before .before .before .before .before .before)
 
-add-i : tie.Need-add-i Inv-loop μ-loop
-add-i c = omega arith
-
-loop-less : tie.Need-loop-less Inv-loop μ-loop
-loop-less c = omega arith
-
 loop-again : tie.Need-loop-again Inv-loop μ-loop
 unfolding markStart markCycle markGrade
 loop-again c =
@@ -198,8 +192,8 @@ mark-fault-spec =
     mul-table
     add-table
     slice-write-table
-    add-i
-    loop-less
+    (λ c. omega arith)
+    (λ c. omega arith)
     loop-again
     same-length-3
     returns-3)

@@ -7,32 +7,17 @@ use Rattle.rule_reach.proofs.Bytes.{add-found, add-small, add-stored}
 use Rattle.rule_reach.proofs.add.Statement.{statement}
 use Rattle.rule_reach.proofs.add.Tie as tie
 
-add-if1 : tie.Need-add-if1
-add-if1 c = search needs
-
-slice-read-if1 : tie.Need-slice-read-if1
-slice-read-if1 c = search needs
-
 returns : tie.Need-returns
 returns c = add-found (c .if1 .taken)
 
-cast-queue : tie.Need-cast-queue
-cast-queue c = search needs
-
 slice-write-queue : tie.Need-slice-write-queue
 slice-write-queue c = omega (arith, add-small (c .before .before .pre) (c .if1 .left))
-
-cast-queue-2 : tie.Need-cast-queue-2
-cast-queue-2 c = search needs
 
 add-queue : tie.Need-add-queue
 add-queue c = omega (arith, add-small (c .before .before .pre) (c .if1 .left))
 
 slice-write-queue-2 : tie.Need-slice-write-queue-2
 slice-write-queue-2 c = simp length-set (omega (arith, add-small (c .before .before .pre) (c .if1 .left)))
-
-cast-queue-3 : tie.Need-cast-queue-3
-cast-queue-3 c = search needs
 
 add-queue-2 : tie.Need-add-queue-2
 add-queue-2 c = omega (arith, add-small (c .before .before .pre) (c .if1 .left))
@@ -46,17 +31,11 @@ add-queue-3 c = omega (arith, add-small (c .before .before .pre) (c .if1 .left))
 cast-queue-4 : tie.Need-cast-queue-4
 cast-queue-4 c = omega (arith, add-small (c .before .before .pre) (c .if1 .left))
 
-add-queue-4 : tie.Need-add-queue-4
-add-queue-4 c = search needs
-
 slice-write-queue-4 : tie.Need-slice-write-queue-4
 slice-write-queue-4 c = simp length-set (omega (arith, add-small (c .before .before .pre) (c .if1 .left)))
 
 add-result : tie.Need-add-result
 add-result c = omega (arith, add-small (c .before .before .pre) (c .if1 .left))
-
-same-length : tie.Need-same-length
-same-length c = search needs
 
 returns-2 : tie.Need-returns-2
 returns-2 c = add-stored (c .before .before .pre) (c .if1 .left)
@@ -65,21 +44,21 @@ pub add-spec : {M : Type 1} → statement M
 add-spec =
     tie.close
     (tie.spec
-    add-if1
-    slice-read-if1
+    (λ c. search needs)
+    (λ c. search needs)
     returns
-    cast-queue
+    (λ c. search needs)
     slice-write-queue
-    cast-queue-2
+    (λ c. search needs)
     add-queue
     slice-write-queue-2
-    cast-queue-3
+    (λ c. search needs)
     add-queue-2
     slice-write-queue-3
     add-queue-3
     cast-queue-4
-    add-queue-4
+    (λ c. search needs)
     slice-write-queue-4
     add-result
-    same-length
+    (λ c. search needs)
     returns-2)

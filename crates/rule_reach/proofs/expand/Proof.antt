@@ -21,12 +21,6 @@ step-requires c κs = expanding-step (c .before .before .loop .inv) (c .before .
 add-requires : tie.Need-add-requires Inv-loop μ-loop
 add-requires c κs = expanding-add (c .before .before .before .before .loop .inv) (c .before .before .before .loop-test .taken) (c .before .step .ensures)
 
-add-letter : tie.Need-add-letter Inv-loop μ-loop
-add-letter c = omega arith
-
-loop-less : tie.Need-loop-less Inv-loop μ-loop
-loop-less c = omega arith
-
 loop-again : tie.Need-loop-again Inv-loop μ-loop
 loop-again c = expanding-next (c .before .before .before .before .before .before .before .loop .inv) (c .before .before .before .before .before .before .loop-test .taken) (c .before .before .before .before .step .ensures) (c .before .before .add .ensures)
 
@@ -45,8 +39,8 @@ expand-spec =
     loop-holds
     step-requires
     add-requires
-    add-letter
-    loop-less
+    (λ c. omega arith)
+    (λ c. omega arith)
     loop-again
     same-length
     returns)

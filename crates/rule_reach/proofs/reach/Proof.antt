@@ -18,12 +18,6 @@ loop-holds c = reaching-start (c .before .before .pre .0) (c .before .before .pr
 expand-requires : tie.Need-expand-requires Inv-loop μ-loop
 expand-requires c κs = (c .before .before .loop .inv .table, (c .before .before .loop .inv .searching, c .before .loop-test .taken))
 
-add-from : tie.Need-add-from Inv-loop μ-loop
-add-from c = omega arith
-
-loop-less : tie.Need-loop-less Inv-loop μ-loop
-loop-less c = omega arith
-
 loop-again : tie.Need-loop-again Inv-loop μ-loop
 loop-again c = reaching-next (c .before .before .before .before .before .loop .inv) (c .before .before .expand .ensures)
 
@@ -41,8 +35,8 @@ reach-spec =
     μ-loop
     loop-holds
     expand-requires
-    add-from
-    loop-less
+    (λ c. omega arith)
+    (λ c. omega arith)
     loop-again
     same-length
     returns)

@@ -7,17 +7,8 @@ use Rattle.rule_reach.proofs.Steps.{step-first, image-below, entry-belo
 use Rattle.rule_reach.proofs.step.Statement.{statement}
 use Rattle.rule_reach.proofs.step.Tie as tie
 
-image-requires : tie.Need-image-requires
-image-requires c κs = search needs
-
 returns : tie.Need-returns
 returns c = step-first (c .before .before .before .before .pre) (c .before .image .ensures) (c .if1 .taken)
-
-sub-product : tie.Need-sub-product
-sub-product c = search needs
-
-shared-slice-read-product : tie.Need-shared-slice-read-product
-shared-slice-read-product c = search needs
 
 cast-product : tie.Need-cast-product
 cast-product c = fits-8-64 (c .shared-slice-known3 .given _)
@@ -34,10 +25,10 @@ pub step-spec : {M : Type 1} → statement M
 step-spec =
     tie.close
     (tie.spec
-    image-requires
+    (λ c κs. search needs)
     returns
-    sub-product
-    shared-slice-read-product
+    (λ c. search needs)
+    (λ c. search needs)
     cast-product
     product-requires
     returns-2)

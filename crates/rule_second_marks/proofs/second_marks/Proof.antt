@@ -12,15 +12,6 @@ use borrow.Author.Needs.{needs}
 use Rattle.rule_second_marks.proofs.second_marks.Statement.{statement}
 use Rattle.rule_second_marks.proofs.second_marks.Tie as tie
 
-marks-section-requires : tie.Need-marks-section-requires
-marks-section-requires c κs = search needs
-
-enum-known-count : tie.Need-enum-known-count
-enum-known-count c = search needs
-
-enum-known-refusal : tie.Need-enum-known-refusal
-enum-known-refusal c = search needs
-
 returns : tie.Need-returns
 returns c =
     let b = c .before .before .before .before .before .before .before in
@@ -61,9 +52,6 @@ mark-fault-requires c κs =
     let b = d .before .before .before .before .before .before .before in
     (b .pre .0, marks-room _ (marks d) (b .pre .1 .1))
 
-same-length : tie.Need-same-length
-same-length c = search needs
-
 returns-3 : tie.Need-returns-3
 returns-3 c =
     let d = c .before .before .before .before .before .before in
@@ -78,14 +66,14 @@ pub second-marks-spec : {M : Type 1} → statement M
 second-marks-spec =
     tie.close
     (tie.spec
-    marks-section-requires
-    enum-known-count
-    enum-known-refusal
+    (λ c κs. search needs)
+    (λ c. search needs)
+    (λ c. search needs)
     returns
     mul-end
     add-end
     rest-after-requires
     returns-2
     mark-fault-requires
-    same-length
+    (λ c. search needs)
     returns-3)

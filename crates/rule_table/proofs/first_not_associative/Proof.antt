@@ -99,9 +99,6 @@ product-requires-4 c κs =
     let t = c .before .before .before .loop3 .inv .table in
     table-place t (omega arith) (product-below t (omega arith) (omega arith) (c .before .product2 .ensures))
 
-add-c : tie.Need-add-c Inv-loop3 μ-loop3 Inv-loop2 μ-loop2 Inv-loop μ-loop Inv-search μ-search
-add-c c = omega arith
-
 loop3-less :
     tie.Need-loop3-less Inv-loop3 μ-loop3 Inv-loop2 μ-loop2 Inv-loop μ-loop Inv-search μ-search
 loop3-less c = omega arith
@@ -115,9 +112,6 @@ loop3-again c =
     (c .before .product4 .ensures)
     (c .if1 .left)
 
-add-b : tie.Need-add-b Inv-loop3 μ-loop3 Inv-loop2 μ-loop2 Inv-loop μ-loop Inv-search μ-search
-add-b c = omega arith
-
 loop2-less :
     tie.Need-loop2-less Inv-loop3 μ-loop3 Inv-loop2 μ-loop2 Inv-loop μ-loop Inv-search μ-search
 loop2-less c = omega arith
@@ -125,9 +119,6 @@ loop2-less c = omega arith
 loop2-again :
     tie.Need-loop2-again Inv-loop3 μ-loop3 Inv-loop2 μ-loop2 Inv-loop μ-loop Inv-search μ-search
 loop2-again c = next-b (c .before .loop3 .inv) (c .loop3-test .left)
-
-add-a : tie.Need-add-a Inv-loop3 μ-loop3 Inv-loop2 μ-loop2 Inv-loop μ-loop Inv-search μ-search
-add-a c = omega arith
 
 loop-less :
     tie.Need-loop-less Inv-loop3 μ-loop3 Inv-loop2 μ-loop2 Inv-loop μ-loop Inv-search μ-search
@@ -172,13 +163,13 @@ first-not-associative-spec =
     product-requires-2
     product-requires-3
     product-requires-4
-    add-c
+    (λ c. omega arith)
     loop3-less
     loop3-again
-    add-b
+    (λ c. omega arith)
     loop2-less
     loop2-again
-    add-a
+    (λ c. omega arith)
     loop-less
     loop-again
     returns

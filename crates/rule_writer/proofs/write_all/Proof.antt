@@ -18,12 +18,6 @@ loop-holds c = rows-begin (c .before .before .pre)
 write-row-requires : tie.Need-write-row-requires Inv-loop μ-loop
 write-row-requires c κs = rows-place (c .before .before .loop .inv) (c .before .loop-test .taken)
 
-add-s : tie.Need-add-s Inv-loop μ-loop
-add-s c = omega arith
-
-loop-less : tie.Need-loop-less Inv-loop μ-loop
-loop-less c = omega arith
-
 loop-again : tie.Need-loop-again Inv-loop μ-loop
 loop-again c =
     let turn = c .before .before .before .before in
@@ -43,8 +37,8 @@ write-all-spec =
     μ-loop
     loop-holds
     write-row-requires
-    add-s
-    loop-less
+    (λ c. omega arith)
+    (λ c. omega arith)
     loop-again
     same-length
     returns)

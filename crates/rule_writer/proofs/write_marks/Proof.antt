@@ -7,38 +7,23 @@ use Rattle.rule_writer.proofs.Parts.{marks-place, marks-kept, marks-cou
 use Rattle.rule_writer.proofs.write_marks.Statement.{statement}
 use Rattle.rule_writer.proofs.write_marks.Tie as tie
 
-add-first : tie.Need-add-first
-add-first c = search needs
-
 write-all-requires : tie.Need-write-all-requires
 write-all-requires c κs = marks-place (c .before .before .before .pre)
-
-sub-count : tie.Need-sub-count
-sub-count c = search needs
 
 cast-out : tie.Need-cast-out
 cast-out c =
     let pairs = c .before .before in
     omega (arith, marks-count-small (pairs .before .before .before .before .pre) (pairs .write-all .ensures))
 
-slice-write-out : tie.Need-slice-write-out
-slice-write-out c = search needs
-
 cast-out-2 : tie.Need-cast-out-2
 cast-out-2 c =
     let pairs = c .before .before in
     omega (arith, marks-count-small (pairs .before .before .before .before .pre) (pairs .write-all .ensures))
 
-add-out : tie.Need-add-out
-add-out c = search needs
-
 slice-write-out-2 : tie.Need-slice-write-out-2
 slice-write-out-2 c =
     let pairs = c .before .before in
     simp length-set (omega (arith, pairs .before .before .before .before .pre .room, marks-kept (pairs .before .before .before .before .pre) (pairs .write-all .ensures)))
-
-same-length : tie.Need-same-length
-same-length c = search needs
 
 returns : tie.Need-returns
 returns c =
@@ -49,13 +34,13 @@ pub write-marks-spec : {M : Type 1} → statement M
 write-marks-spec =
     tie.close
     (tie.spec
-    add-first
+    (λ c. search needs)
     write-all-requires
-    sub-count
+    (λ c. search needs)
     cast-out
-    slice-write-out
+    (λ c. search needs)
     cast-out-2
-    add-out
+    (λ c. search needs)
     slice-write-out-2
-    same-length
+    (λ c. search needs)
     returns)

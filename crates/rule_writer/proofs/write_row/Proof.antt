@@ -18,12 +18,6 @@ loop-holds c = row-start (c .before .before .pre)
 write-mark-requires : tie.Need-write-mark-requires Inv-loop μ-loop
 write-mark-requires c κs = row-place (c .before .before .loop .inv) (c .before .loop-test .taken)
 
-add-e : tie.Need-add-e Inv-loop μ-loop
-add-e c = omega arith
-
-loop-less : tie.Need-loop-less Inv-loop μ-loop
-loop-less c = omega arith
-
 loop-again : tie.Need-loop-again Inv-loop μ-loop
 loop-again c =
     let turn = c .before .before .before .before in
@@ -43,8 +37,8 @@ write-row-spec =
     μ-loop
     loop-holds
     write-mark-requires
-    add-e
-    loop-less
+    (λ c. omega arith)
+    (λ c. omega arith)
     loop-again
     same-length
     returns)

@@ -5,9 +5,6 @@ use Rattle.rule_writer.proofs.Parts.{rule-elements, rule-letters, rule-
 use Rattle.rule_writer.proofs.write_rule.Statement.{statement}
 use Rattle.rule_writer.proofs.write_rule.Tie as tie
 
-mul-write-counted : tie.Need-mul-write-counted
-mul-write-counted c = search needs
-
 write-counted-requires : tie.Need-write-counted-requires
 write-counted-requires c κs = rule-elements (c .before .before .before .before .before .pre)
 
@@ -22,9 +19,6 @@ write-marks-requires c κs =
     let elements = letters .before .before .before .before in
     rule-marks (elements .before .before .before .before .before .before .pre) (elements .write-counted .ensures) (letters .write-counted2 .ensures)
 
-same-length : tie.Need-same-length
-same-length c = search needs
-
 returns : tie.Need-returns
 returns c =
     let marks = c .before .before in
@@ -36,9 +30,9 @@ pub write-rule-spec : {M : Type 1} → statement M
 write-rule-spec =
     tie.close
     (tie.spec
-    mul-write-counted
+    (λ c. search needs)
     write-counted-requires
     write-counted-requires-2
     write-marks-requires
-    same-length
+    (λ c. search needs)
     returns)

@@ -25,44 +25,8 @@ returns c = none-in _ _ _ _ _ _
 loop-holds : tie.Need-loop-holds Inv-loop2 μ-loop2 Inv-loop μ-loop
 loop-holds c = (none-kept _ _ _ (search needs), none-kept _ _ _ (search needs))
 
-mul-start : tie.Need-mul-start Inv-loop2 μ-loop2 Inv-loop μ-loop
-mul-start c = omega arith
-
 loop2-holds : tie.Need-loop2-holds Inv-loop2 μ-loop2 Inv-loop μ-loop
 loop2-holds c = c .before .loop .inv
-
-add-x : tie.Need-add-x Inv-loop2 μ-loop2 Inv-loop μ-loop
-add-x c = omega arith
-
-add-x-2 : tie.Need-add-x-2 Inv-loop2 μ-loop2 Inv-loop μ-loop
-add-x-2 c = omega arith
-
-shared-slice-read-x : tie.Need-shared-slice-read-x Inv-loop2 μ-loop2 Inv-loop μ-loop
-shared-slice-read-x c = omega arith
-
-array-read-greater : tie.Need-array-read-greater Inv-loop2 μ-loop2 Inv-loop μ-loop
-array-read-greater c = omega arith
-
-greater-requires : tie.Need-greater-requires Inv-loop2 μ-loop2 Inv-loop μ-loop
-greater-requires c κs = search needs
-
-array-write-top : tie.Need-array-write-top Inv-loop2 μ-loop2 Inv-loop μ-loop
-array-write-top c = omega arith
-
-array-read-lesser : tie.Need-array-read-lesser Inv-loop2 μ-loop2 Inv-loop μ-loop
-array-read-lesser c = omega arith
-
-lesser-requires : tie.Need-lesser-requires Inv-loop2 μ-loop2 Inv-loop μ-loop
-lesser-requires c κs = search needs
-
-array-write-low : tie.Need-array-write-low Inv-loop2 μ-loop2 Inv-loop μ-loop
-array-write-low c = omega arith
-
-add-j : tie.Need-add-j Inv-loop2 μ-loop2 Inv-loop μ-loop
-add-j c = omega arith
-
-loop2-less : tie.Need-loop2-less Inv-loop2 μ-loop2 Inv-loop μ-loop
-loop2-less c = omega arith
 
 loop2-again : tie.Need-loop2-again Inv-loop2 μ-loop2 Inv-loop μ-loop
 loop2-again c =
@@ -72,20 +36,8 @@ loop2-again c =
       byte-kept (so-far .1) small _ (λ x h. omega (arith, c .lesser .ensures .0)) (c .lesser .ensures .1),
     )
 
-add-c : tie.Need-add-c Inv-loop2 μ-loop2 Inv-loop μ-loop
-add-c c = omega arith
-
-loop-less : tie.Need-loop-less Inv-loop2 μ-loop2 Inv-loop μ-loop
-loop-less c = omega arith
-
 loop-again : tie.Need-loop-again Inv-loop2 μ-loop2 Inv-loop μ-loop
 loop-again c = (chunk-kept (c .before .loop2 .inv .0) (c .loop2-test .left), chunk-kept (c .before .loop2 .inv .1) (c .loop2-test .left))
-
-places-in-requires : tie.Need-places-in-requires Inv-loop2 μ-loop2 Inv-loop μ-loop
-places-in-requires c κs = search needs
-
-mul-result : tie.Need-mul-result Inv-loop2 μ-loop2 Inv-loop μ-loop
-mul-result c = omega arith
 
 returns-2 : tie.Need-returns-2 Inv-loop2 μ-loop2 Inv-loop μ-loop
 returns-2 c =
@@ -105,24 +57,24 @@ triples-in-spec =
     μ-loop
     returns
     loop-holds
-    mul-start
+    (λ c. omega arith)
     loop2-holds
-    add-x
-    add-x-2
-    shared-slice-read-x
-    array-read-greater
-    greater-requires
-    array-write-top
-    array-read-lesser
-    lesser-requires
-    array-write-low
-    add-j
-    loop2-less
+    (λ c. omega arith)
+    (λ c. omega arith)
+    (λ c. omega arith)
+    (λ c. omega arith)
+    (λ c κs. search needs)
+    (λ c. omega arith)
+    (λ c. omega arith)
+    (λ c κs. search needs)
+    (λ c. omega arith)
+    (λ c. omega arith)
+    (λ c. omega arith)
     loop2-again
-    add-c
-    loop-less
+    (λ c. omega arith)
+    (λ c. omega arith)
     loop-again
-    places-in-requires
-    mul-result
+    (λ c κs. search needs)
+    (λ c. omega arith)
     returns-2
     returns-3)

@@ -11,23 +11,8 @@ use Rattle.section_triples.proofs.TripleBytes.{found-below}
 use Rattle.section_triples.proofs.triples.Statement.{statement}
 use Rattle.section_triples.proofs.triples.Tie as tie
 
-mul-if1 : tie.Need-mul-if1
-mul-if1 c = search needs
-
-add-if1 : tie.Need-add-if1
-add-if1 c = search needs
-
-add-end : tie.Need-add-end
-add-end c = search needs
-
 returns : tie.Need-returns
 returns c floor bound r input = entries-cut _ _ floor bound input _ _ (c .if1 .taken)
-
-first-out-requires : tie.Need-first-out-requires
-first-out-requires c κs = search needs
-
-enum-known-i : tie.Need-enum-known-i
-enum-known-i c = search needs
 
 -- the byte that was found
 out : (c : tie.After-known-told) (floor bound : ℕ → ℕ)
@@ -44,9 +29,6 @@ add-t19 c = omega (arith, below c)
 add-t20 : tie.Need-add-t20
 add-t20 c = omega (arith, below c)
 
-enum-told : tie.Need-enum-told
-enum-told c = search needs
-
 returns-2 : tie.Need-returns-2
 returns-2 c floor bound r input = entries-out _ _ floor bound input _ _ (c .before .before .before .before .if1 .left) (out c floor bound r)
 
@@ -62,14 +44,14 @@ pub triples-spec : {M : Type 1} → statement M
 triples-spec =
     tie.close
     (tie.spec
-    mul-if1
-    add-if1
-    add-end
+    (λ c. search needs)
+    (λ c. search needs)
+    (λ c. search needs)
     returns
-    first-out-requires
-    enum-known-i
+    (λ c κs. search needs)
+    (λ c. search needs)
     add-t19
     add-t20
-    enum-told
+    (λ c. search needs)
     returns-2
     returns-3)

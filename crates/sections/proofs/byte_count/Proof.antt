@@ -10,14 +10,8 @@ use Rattle.formats.proofs.Sections.{count-out}
 use Rattle.sections.proofs.byte_count.Statement.{statement}
 use Rattle.sections.proofs.byte_count.Tie as tie
 
-cut-requires : tie.Need-cut-requires
-cut-requires c κs = search needs
-
 returns : tie.Need-returns
 returns c = count-cut-answer one-byte _ _ _ _ (c .cut .result) (c .cut .ensures) (c .before .if1 .taken)
-
-shared-slice-read-count : tie.Need-shared-slice-read-count
-shared-slice-read-count c = omega arith
 
 cast-count : tie.Need-cast-count
 cast-count c = omega (arith, c .shared-slice-known2 .given 0)
@@ -39,4 +33,4 @@ returns-4 c = record {
 pub byte-count-spec : {M : Type 1} → statement M
 byte-count-spec =
     tie.close
-    (tie.spec cut-requires returns shared-slice-read-count cast-count returns-2 returns-3 returns-4)
+    (tie.spec (λ c κs. search needs) returns (λ c. omega arith) cast-count returns-2 returns-3 returns-4)

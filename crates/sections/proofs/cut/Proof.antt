@@ -4,11 +4,8 @@ use native.Mathlib.Omega.{arith}
 use Rattle.sections.proofs.cut.Statement.{statement}
 use Rattle.sections.proofs.cut.Tie as tie
 
-add-end : tie.Need-add-end
-add-end c = omega arith
-
 returns : tie.Need-returns
 returns c = refl
 
 pub cut-spec : {M : Type 1} → statement M
-cut-spec = tie.close (tie.spec add-end returns)
+cut-spec = tie.close (tie.spec (λ c. omega arith) returns)

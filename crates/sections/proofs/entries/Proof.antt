@@ -9,20 +9,8 @@ use Rattle.sections.proofs.Laws.{entries-cut-answer}
 use Rattle.sections.proofs.entries.Statement.{statement}
 use Rattle.sections.proofs.entries.Tie as tie
 
-add-if1 : tie.Need-add-if1
-add-if1 c = omega arith
-
-cut-requires : tie.Need-cut-requires
-cut-requires c κs = search needs
-
 returns : tie.Need-returns
 returns c = entries-cut-answer _ _ _ _ _ _ _ (c .cut .result) (c .cut .ensures) (c .before .if1 .taken)
-
-first-out-requires : tie.Need-first-out-requires
-first-out-requires c κs = search needs
-
-enum-known-i : tie.Need-enum-known-i
-enum-known-i c = search needs
 
 -- the entry that was found
 out : (c : tie.After-known-told)
@@ -41,9 +29,6 @@ add-t14 c = omega (arith, out c .below)
 add-t15 : tie.Need-add-t15
 add-t15 c = omega (arith, out c .below)
 
-enum-told : tie.Need-enum-told
-enum-told c = search needs
-
 returns-2 : tie.Need-returns-2
 returns-2 c input = entries-out _ _ _ _ input _ _ (c .before .before .before .before .if1 .left) (out c)
 
@@ -60,13 +45,13 @@ pub entries-spec : {M : Type 1} → statement M
 entries-spec =
     tie.close
     (tie.spec
-    add-if1
-    cut-requires
+    (λ c. omega arith)
+    (λ c κs. search needs)
     returns
-    first-out-requires
-    enum-known-i
+    (λ c κs. search needs)
+    (λ c. search needs)
     add-t14
     add-t15
-    enum-told
+    (λ c. search needs)
     returns-2
     returns-3)

@@ -10,20 +10,11 @@ use Rattle.formats.proofs.Sections.{count-out}
 use Rattle.sections.proofs.wide_count.Statement.{statement}
 use Rattle.sections.proofs.wide_count.Tie as tie
 
-cut-requires : tie.Need-cut-requires
-cut-requires c κs = search needs
-
 returns : tie.Need-returns
 returns c = count-cut-answer two-byte _ _ _ _ (c .cut .result) (c .cut .ensures) (c .before .if1 .taken)
 
-shared-slice-read-low : tie.Need-shared-slice-read-low
-shared-slice-read-low c = omega arith
-
 cast-low : tie.Need-cast-low
 cast-low c = omega (arith, c .shared-slice-known2 .given 0)
-
-shared-slice-read-top : tie.Need-shared-slice-read-top
-shared-slice-read-top c = omega arith
 
 cast-top : tie.Need-cast-top
 cast-top c = omega (arith, c .shared-slice-known3 .given 1)
@@ -51,11 +42,11 @@ pub wide-count-spec : {M : Type 1} → statement M
 wide-count-spec =
     tie.close
     (tie.spec
-    cut-requires
+    (λ c κs. search needs)
     returns
-    shared-slice-read-low
+    (λ c. omega arith)
     cast-low
-    shared-slice-read-top
+    (λ c. omega arith)
     cast-top
     mul-number
     add-number

@@ -5,15 +5,9 @@ use Rattle.sections.proofs.Zeros.{all-zeros}
 use Rattle.sections.proofs.zero.Statement.{statement}
 use Rattle.sections.proofs.zero.Tie as tie
 
-zero-part-requires : tie.Need-zero-part-requires
-zero-part-requires c κs = search needs
-
-same-length : tie.Need-same-length
-same-length c = search needs
-
 returns : tie.Need-returns
 returns c = all-zeros (c .before .before .zero-part .ensures) (omega arith)
 
 pub zero-spec : {M : Type 1} → statement M
 zero-spec =
-    tie.close (tie.spec zero-part-requires same-length returns)
+    tie.close (tie.spec (λ c κs. search needs) (λ c. search needs) returns)

@@ -19,12 +19,6 @@ loop-holds c = (part-start _ _, omega arith, c .pre .0, c .pre .1)
 slice-write-s : tie.Need-slice-write-s Inv-loop μ-loop
 slice-write-s c = omega (arith, c .before .loop .inv .0 .outside .same-length)
 
-add-i : tie.Need-add-i Inv-loop μ-loop
-add-i c = omega arith
-
-loop-less : tie.Need-loop-less Inv-loop μ-loop
-loop-less c = omega arith
-
 loop-again : tie.Need-loop-again Inv-loop μ-loop
 loop-again c = (part-next (c .before .loop .inv .1) (c .before .loop .inv .0) (slice-write-s c), omega arith, omega arith, omega arith)
 
@@ -42,8 +36,8 @@ zero-part-spec =
     μ-loop
     loop-holds
     slice-write-s
-    add-i
-    loop-less
+    (λ c. omega arith)
+    (λ c. omega arith)
     loop-again
     same-length
     returns)

@@ -6,29 +6,11 @@ use Rattle.summary.proofs.Summing.{place-again, classes-not-refused, me
 use Rattle.summary.proofs.measure.Statement.{statement}
 use Rattle.summary.proofs.measure.Tie as tie
 
-list-classes-requires : tie.Need-list-classes-requires
-list-classes-requires c κs = search needs
-
-enum-known-linked : tie.Need-enum-known-linked
-enum-known-linked c = search needs
-
 reduced-size-requires : tie.Need-reduced-size-requires
 reduced-size-requires c κs =
     let at-scratch = c .before .before .before .before .before .before in
     let at-work = at-scratch .before .before in
     place-again (at-work .before .before .before .before .before .before .before .pre .0) (at-work .work .given) (at-scratch .scratch .given)
-
-zero-requires : tie.Need-zero-requires
-zero-requires c κs = search needs
-
-enum-known-refusal : tie.Need-enum-known-refusal
-enum-known-refusal c = search needs
-
-same-length : tie.Need-same-length
-same-length c = search needs
-
-same-length-2 : tie.Need-same-length-2
-same-length-2 c = search needs
 
 returns : tie.Need-returns
 returns c =
@@ -42,12 +24,6 @@ returns c =
     measured (pre .0) (at-list-classes .list-classes .result) (pre .1) (at-list-classes .list-classes .ensures) (at-linked .linked .given .1)
     (at-reduced-size .reduced-size .ensures) (at-work2 .work2 .given ∙ at-work .work .given) (at-zero .zero .ensures)
 
-same-length-3 : tie.Need-same-length-3
-same-length-3 c = search needs
-
-same-length-4 : tie.Need-same-length-4
-same-length-4 c = search needs
-
 returns-2 : tie.Need-returns-2
 returns-2 c =
     let at-list-classes = c .before .before .before .before .before .before .before in
@@ -58,14 +34,14 @@ pub measure-spec : {M : Type 1} → statement M
 measure-spec =
     tie.close
     (tie.spec
-    list-classes-requires
-    enum-known-linked
+    (λ c κs. search needs)
+    (λ c. search needs)
     reduced-size-requires
-    zero-requires
-    enum-known-refusal
-    same-length
-    same-length-2
+    (λ c κs. search needs)
+    (λ c. search needs)
+    (λ c. search needs)
+    (λ c. search needs)
     returns
-    same-length-3
-    same-length-4
+    (λ c. search needs)
+    (λ c. search needs)
     returns-2)

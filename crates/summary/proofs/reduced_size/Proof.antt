@@ -7,40 +7,13 @@ use Rattle.summary.proofs.Summing.{size-strong, size-weak}
 use Rattle.summary.proofs.reduced_size.Statement.{statement}
 use Rattle.summary.proofs.reduced_size.Tie as tie
 
-slice-aggregate-reduce : tie.Need-slice-aggregate-reduce
-slice-aggregate-reduce c = search needs
-
-reduce-requires : tie.Need-reduce-requires
-reduce-requires c κs = search needs
-
-enum-told : tie.Need-enum-told
-enum-told c = search needs
-
-slice-read-t14 : tie.Need-slice-read-t14
-slice-read-t14 c = search needs
-
 cast-t15 : tie.Need-cast-t15
 cast-t15 c = fits-8-64 (c .slice-known5 .given _)
-
-enum-told-2 : tie.Need-enum-told-2
-enum-told-2 c = search needs
-
-same-length : tie.Need-same-length
-same-length c = search needs
-
-same-length-2 : tie.Need-same-length-2
-same-length-2 c = search needs
 
 returns : tie.Need-returns
 returns c =
     let at-reduce = c .before .before .before .before .before .before .before .before in
     size-strong (at-reduce .before .before .before .before .before .before .before .pre) (at-reduce .reduce .result) (omega arith) (at-reduce .reduce .ensures) (c .before .enum-told .given .1)
-
-same-length-3 : tie.Need-same-length-3
-same-length-3 c = search needs
-
-same-length-4 : tie.Need-same-length-4
-same-length-4 c = search needs
 
 returns-2 : tie.Need-returns-2
 returns-2 c =
@@ -51,15 +24,15 @@ pub reduced-size-spec : {M : Type 1} → statement M
 reduced-size-spec =
     tie.close
     (tie.spec
-    slice-aggregate-reduce
-    reduce-requires
-    enum-told
-    slice-read-t14
+    (λ c. search needs)
+    (λ c κs. search needs)
+    (λ c. search needs)
+    (λ c. search needs)
     cast-t15
-    enum-told-2
-    same-length
-    same-length-2
+    (λ c. search needs)
+    (λ c. search needs)
+    (λ c. search needs)
     returns
-    same-length-3
-    same-length-4
+    (λ c. search needs)
+    (λ c. search needs)
     returns-2)

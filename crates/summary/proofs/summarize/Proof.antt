@@ -8,12 +8,6 @@ use Rattle.summary.proofs.summarize.Tie as tie
 returns : tie.Need-returns
 returns c = work-short _ _ _ (c .if1 .taken)
 
-inspect-requires : tie.Need-inspect-requires
-inspect-requires c κs = search needs
-
-enum-known-elements : tie.Need-enum-known-elements
-enum-known-elements c = search needs
-
 measure-requires : tie.Need-measure-requires
 measure-requires c κs =
     let at-elements = c .before .before .before in
@@ -23,15 +17,6 @@ measure-requires c κs =
       inspected-counts (at-inspect .inspect .result) (at-inspect .inspect .ensures) said,
     )
 
-enum-known-refusal : tie.Need-enum-known-refusal
-enum-known-refusal c = search needs
-
-same-length : tie.Need-same-length
-same-length c = search needs
-
-same-length-2 : tie.Need-same-length-2
-same-length-2 c = search needs
-
 returns-2 : tie.Need-returns-2
 returns-2 c =
     let at-measure = c .before .before .before .before in
@@ -39,9 +24,6 @@ returns-2 c =
     let at-inspect = at-elements .before .before .before .before in
     summary-measured _ _ _ (at-inspect .before .before .if1 .left) (at-inspect .inspect .result) (at-inspect .inspect .ensures) (at-elements .elements .given .1)
     (at-measure .measure .result) (at-measure .measure .ensures)
-
-same-length-3 : tie.Need-same-length-3
-same-length-3 c = search needs
 
 returns-3 : tie.Need-returns-3
 returns-3 c =
@@ -53,12 +35,12 @@ summarize-spec =
     tie.close
     (tie.spec
     returns
-    inspect-requires
-    enum-known-elements
+    (λ c κs. search needs)
+    (λ c. search needs)
     measure-requires
-    enum-known-refusal
-    same-length
-    same-length-2
+    (λ c. search needs)
+    (λ c. search needs)
+    (λ c. search needs)
     returns-2
-    same-length-3
+    (λ c. search needs)
     returns-3)

@@ -7,44 +7,17 @@ use Rattle.two_rules.proofs.Checking.{first-refused, second-refused, bo
 use Rattle.two_rules.proofs.check_both.Statement.{statement}
 use Rattle.two_rules.proofs.check_both.Tie as tie
 
-check-requires : tie.Need-check-requires
-check-requires c κs = search needs
-
-enum-known-shape : tie.Need-enum-known-shape
-enum-known-shape c = search needs
-
-enum-known-refusal : tie.Need-enum-known-refusal
-enum-known-refusal c = search needs
-
-same-length : tie.Need-same-length
-same-length c = search needs
-
 returns : tie.Need-returns
 returns c = first-refused _ _ _ (checked-refused 1 _ _ _ _ (c .before .before .before .before .before .check .ensures) (c .before .refusal .given .1))
 
 check-second-requires : tie.Need-check-second-requires
 check-second-requires c κs = checked-room 1 _ _ (checked-rule 1 _ _ _ _ (c .before .before .before .before .before .before .check .ensures) (c .before .before .shape .given .1))
 
-enum-known-other : tie.Need-enum-known-other
-enum-known-other c = search needs
-
-enum-known-refusal-2 : tie.Need-enum-known-refusal-2
-enum-known-refusal-2 c = search needs
-
-zero-requires : tie.Need-zero-requires
-zero-requires c κs = search needs
-
-same-length-2 : tie.Need-same-length-2
-same-length-2 c = search needs
-
 returns-2 : tie.Need-returns-2
 returns-2 c =
     let second = c .before .before .before .before .before in
     let first = second .before .before .before .before .before .before .before in
     both-checked _ _ _ (checked-rule 1 _ _ _ _ (first .check .ensures) (second .before .before .before .shape .given .1)) (second .check-second .result) _ (second .check-second .ensures) (c .before .other .given .1)
-
-same-length-3 : tie.Need-same-length-3
-same-length-3 c = search needs
 
 returns-3 : tie.Need-returns-3
 returns-3 c =
@@ -56,16 +29,16 @@ pub check-both-spec : {M : Type 1} → statement M
 check-both-spec =
     tie.close
     (tie.spec
-    check-requires
-    enum-known-shape
-    enum-known-refusal
-    same-length
+    (λ c κs. search needs)
+    (λ c. search needs)
+    (λ c. search needs)
+    (λ c. search needs)
     returns
     check-second-requires
-    enum-known-other
-    enum-known-refusal-2
-    zero-requires
-    same-length-2
+    (λ c. search needs)
+    (λ c. search needs)
+    (λ c κs. search needs)
+    (λ c. search needs)
     returns-2
-    same-length-3
+    (λ c. search needs)
     returns-3)

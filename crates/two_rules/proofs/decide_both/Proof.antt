@@ -5,17 +5,8 @@ use Rattle.two_rules.proofs.Deciding.{first-weak, second-needs, second-
 use Rattle.two_rules.proofs.decide_both.Statement.{statement}
 use Rattle.two_rules.proofs.decide_both.Tie as tie
 
-decide-requires : tie.Need-decide-requires
-decide-requires c κs = search needs
-
-same-length : tie.Need-same-length
-same-length c = search needs
-
 returns : tie.Need-returns
 returns c = first-weak _ (c .before .before .before .decide .ensures) (not-true _ (c .if1 .taken))
-
-move-tables-requires : tie.Need-move-tables-requires
-move-tables-requires c κs = search needs
 
 decide-requires-2 : tie.Need-decide-requires-2
 decide-requires-2 c κs =
@@ -24,9 +15,6 @@ decide-requires-2 c κs =
     let start = one .before .before .before .before .before in
     (start .pre .1 .0, second-needs _ (one .decide .ensures) (moved .move-tables .ensures) (start .pre .1 .0 .small) (start .pre .1 .1 .1))
 
-same-length-2 : tie.Need-same-length-2
-same-length-2 c = search needs
-
 returns-2 : tie.Need-returns-2
 returns-2 c =
     let two = c .before .before .before in
@@ -34,9 +22,6 @@ returns-2 c =
     let one = moved .before .before .before .before .before in
     let start = one .before .before .before .before .before in
     second-weak _ (one .decide .ensures) (moved .move-tables .ensures) (start .pre .1 .0 .small) (not-false _ (moved .before .before .if1 .left)) (two .decide2 .ensures) (not-true _ (c .if2 .taken))
-
-same-length-3 : tie.Need-same-length-3
-same-length-3 c = search needs
 
 returns-3 : tie.Need-returns-3
 returns-3 c =
@@ -50,12 +35,12 @@ pub decide-both-spec : {M : Type 1} → statement M
 decide-both-spec =
     tie.close
     (tie.spec
-    decide-requires
-    same-length
+    (λ c κs. search needs)
+    (λ c. search needs)
     returns
-    move-tables-requires
+    (λ c κs. search needs)
     decide-requires-2
-    same-length-2
+    (λ c. search needs)
     returns-2
-    same-length-3
+    (λ c. search needs)
     returns-3)

@@ -15,14 +15,8 @@ abbrev μ-loop : tie.MeasureT-loop
 loop-holds : tie.Need-loop-holds Inv-loop μ-loop
 loop-holds c = moving-start (c .pre)
 
-add-mark : tie.Need-add-mark Inv-loop μ-loop
-add-mark c = omega arith
-
 slice-read-mark : tie.Need-slice-read-mark Inv-loop μ-loop
 slice-read-mark c = moving-inside (c .before .before .loop .inv) (c .before .loop-test .taken)
-
-add-closure : tie.Need-add-closure Inv-loop μ-loop
-add-closure c = omega arith
 
 slice-read-closure : tie.Need-slice-read-closure Inv-loop μ-loop
 slice-read-closure c = omega (arith, moving-inside (c .before .before .before .loop .inv) (c .before .before .loop-test .taken))
@@ -30,17 +24,8 @@ slice-read-closure c = omega (arith, moving-inside (c .before .before .before .l
 slice-write-scratch : tie.Need-slice-write-scratch Inv-loop μ-loop
 slice-write-scratch c = omega (arith, moving-inside (c .before .before .before .loop .inv) (c .before .before .loop-test .taken))
 
-add-scratch : tie.Need-add-scratch Inv-loop μ-loop
-add-scratch c = omega arith
-
 slice-write-scratch-2 : tie.Need-slice-write-scratch-2 Inv-loop μ-loop
 slice-write-scratch-2 c = omega (arith, moving-inside (c .before .before .before .loop .inv) (c .before .before .loop-test .taken), length-set (c .before .before .before .loop .scratch) (c .before .before .before .loop .i) (getD (c .before .before .before .loop .scratch) (61440 + c .before .before .before .loop .i) 0))
-
-add-i : tie.Need-add-i Inv-loop μ-loop
-add-i c = omega arith
-
-loop-less : tie.Need-loop-less Inv-loop μ-loop
-loop-less c = omega arith
 
 loop-again : tie.Need-loop-again Inv-loop μ-loop
 loop-again c = moving-next (c .before .before .before .loop .inv) (c .before .before .loop-test .taken)
@@ -58,15 +43,15 @@ move-tables-spec =
     Inv-loop
     μ-loop
     loop-holds
-    add-mark
+    (λ c. omega arith)
     slice-read-mark
-    add-closure
+    (λ c. omega arith)
     slice-read-closure
     slice-write-scratch
-    add-scratch
+    (λ c. omega arith)
     slice-write-scratch-2
-    add-i
-    loop-less
+    (λ c. omega arith)
+    (λ c. omega arith)
     loop-again
     same-length
     returns)
