@@ -1,6 +1,6 @@
 //! Following events: lines as they come, answers as they come.
 
-use crate::program::{run_with, send, tool, Scrap};
+use crate::program::{run_with, send, tool, tool_with_signals, Scrap};
 use crate::random::Random;
 use crate::samples::{rule, NAMED, W, Z};
 use duknavet::{Monitor, RuleMonitor, NONE};
@@ -17,7 +17,7 @@ pub struct Line {
 
 impl Line {
     pub fn open(words: &[&str]) -> Line {
-        Line::of(tool().args(words))
+        Line::of(tool_with_signals().args(words))
     }
 
     /// A command that comes to run the tool.
@@ -66,9 +66,15 @@ impl Line {
     pub fn ended(self) -> (i32, Duration) {
         let begin = Instant::now();
         let Line { mut child, to, .. } = self;
-        let status = child.wait().expect("it ends").code();
-        drop(to);
-        (status.expect("no signal"), begin.elapsed())
+        while begin.elapsed() < Duration::from_secs(60) {
+            if let Some(status) = child.try_wait().expect("a process") {
+                drop(to);
+                return (status.code().expect("no signal"), begin.elapsed());
+            }
+            std::thread::sleep(Duration::from_millis(2));
+        }
+        child.kill().expect("a process");
+        panic!("it does not end");
     }
 
     pub fn close(self) -> i32 {

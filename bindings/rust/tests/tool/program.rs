@@ -1,6 +1,8 @@
 //! Running the tool.
 
+use std::ffi::c_int;
 use std::io::Write;
+use std::os::unix::process::CommandExt as _;
 use std::path::PathBuf;
 use std::process::{Command, Stdio};
 use std::sync::atomic::{AtomicUsize, Ordering};
@@ -49,6 +51,26 @@ impl Ran {
 
 pub fn tool() -> Command {
     Command::new(env!("CARGO_BIN_EXE_duknavet-tool"))
+}
+
+/// The tool with its signals as a terminal has them, whoever runs the tests: SIGINT is ignored by the background jobs
+/// of a shell and SIGHUP under nohup, and what is ignored at the start stays so.
+pub fn tool_with_signals() -> Command {
+    let mut command = tool();
+    let as_ever = || {
+        for number in [1, 2, 15] {
+            // SAFETY: it may be called between fork and exec, and 0 is SIG_DFL.
+            unsafe { signal(number, 0) };
+        }
+        Ok(())
+    };
+    // SAFETY: what runs between fork and exec calls nothing else and allocates nothing.
+    unsafe { command.pre_exec(as_ever) };
+    command
+}
+
+extern "C" {
+    fn signal(number: c_int, handler: usize) -> usize;
 }
 
 /// Sends a signal, by its name without SIG, to a process.

@@ -1,7 +1,7 @@
 //! A long log, and a station that is killed and ended again and again: nothing is lost, and nothing counts twice.
 
 use super::{contents, lines_read};
-use crate::program::{run_with, send, tool, Scrap};
+use crate::program::{run_with, send, tool_with_signals, Scrap};
 use crate::random::Random;
 use crate::samples::TWICE;
 use std::io::{BufRead, BufReader, Write};
@@ -39,7 +39,7 @@ enum Moment {
 /// One run over the first lines of the log, which is ended while it waits for more or before; the answers that
 /// it wrote.
 fn disturbed(words: &[&str], log: &[u8], moment: &Moment, kill: bool) -> Vec<String> {
-    let mut child = tool()
+    let mut child = tool_with_signals()
         .args(words)
         .stdin(Stdio::piped())
         .stdout(Stdio::piped())

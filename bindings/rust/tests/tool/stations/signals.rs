@@ -2,7 +2,7 @@
 
 use super::{contents, lines_read};
 use crate::following::Line;
-use crate::program::{send, tool, Scrap};
+use crate::program::{send, tool_with_signals, Scrap};
 use crate::samples::W;
 use std::io::{BufRead, BufReader, Read, Write};
 use std::process::{Command, Stdio};
@@ -36,7 +36,7 @@ fn saved_while_no_line_comes() {
 #[test]
 fn without_a_state() {
     let rule = Scrap::holding(W);
-    let mut child = tool()
+    let mut child = tool_with_signals()
         .args(["follow", rule.name()])
         .stdin(Stdio::piped())
         .stdout(Stdio::null())
@@ -71,7 +71,7 @@ fn saved_while_nobody_reads() {
         let (rule, state) = (Scrap::holding(W), Scrap::free());
         let mut words = vec!["follow", rule.name(), "--state", state.name()];
         words.extend(resume.then_some("--resume"));
-        let mut child = tool()
+        let mut child = tool_with_signals()
             .args(words)
             .stdin(Stdio::piped())
             .stdout(Stdio::piped())
