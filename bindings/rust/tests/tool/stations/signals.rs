@@ -8,28 +8,33 @@ use std::io::{BufRead, BufReader, Read, Write};
 use std::process::{Command, Stdio};
 use std::time::{Duration, Instant};
 
-/// The fastest of six ends is asked to be within a second, since a slow disk may hold up some of them.
+/// Each signal ends it within a second, once in five tries at least: a slow disk may hold up some of them.
 #[test]
 fn saved_while_no_line_comes() {
-    let mut fastest = Duration::MAX;
     for (name, status) in [("HUP", 129), ("INT", 130), ("TERM", 143)] {
         for resume in [false, true] {
-            let (rule, state) = (Scrap::holding(W), Scrap::free());
-            let mut words = vec!["follow", rule.name(), "--state", state.name()];
-            words.extend(resume.then_some("--resume"));
-            let mut line = Line::open(&words);
-            assert_eq!(line.ask("1"), "before none since 1");
-            assert_eq!(line.ask("mark"), "before 1 since none");
-            assert!(!std::path::Path::new(state.name()).exists());
-            line.signal(name);
-            let (ended, time) = line.ended();
-            assert_eq!(ended, status, "{name}");
-            fastest = fastest.min(time);
-            let saved = contents(&state);
-            assert!(saved.contains("\nmonitor 1 64\ninput 2 "), "{saved}");
+            let times = (0..5).map(|_| time_to_save(name, status, resume));
+            let soon = times.into_iter().any(|time| time < Duration::from_secs(1));
+            assert!(soon, "{name}, resume {resume}");
         }
     }
-    assert!(fastest < Duration::from_secs(1), "{fastest:?}");
+}
+
+/// How long the end at a signal takes, where the state is saved as it should be.
+fn time_to_save(name: &str, status: i32, resume: bool) -> Duration {
+    let (rule, state) = (Scrap::holding(W), Scrap::free());
+    let mut words = vec!["follow", rule.name(), "--state", state.name()];
+    words.extend(resume.then_some("--resume"));
+    let mut line = Line::open(&words);
+    assert_eq!(line.ask("1"), "before none since 1");
+    assert_eq!(line.ask("mark"), "before 1 since none");
+    assert!(!std::path::Path::new(state.name()).exists());
+    line.signal(name);
+    let (ended, time) = line.ended();
+    assert_eq!(ended, status, "{name}");
+    let saved = contents(&state);
+    assert!(saved.contains("\nmonitor 1 64\ninput 2 "), "{saved}");
+    time
 }
 
 /// Without a state there is nothing to save, and signals do what they do.
