@@ -1,5 +1,6 @@
 //! Tests over the sources of the repository: they read the files of `crates/` and call nothing.
 
+mod chains;
 mod copies;
 mod edits;
 mod faces;
