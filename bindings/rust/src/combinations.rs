@@ -34,7 +34,12 @@ pub fn combine(
     out: &mut [u8],
     scratch: &mut [u8],
 ) -> Result<Combined, Refused> {
-    let packed = raw::combine(first, second, operation, out, scratch);
+    let call = match operation {
+        Operation::Both => raw::both,
+        Operation::Either => raw::either,
+        Operation::Without => raw::without,
+    };
+    let packed = call(first, second, out, scratch);
     let length = unpack_length(packed, out.len())?;
     Ok(Combined { length })
 }

@@ -16,8 +16,8 @@ use Rattle.automaton_file.specs.declared.AutomatonRead.the-variants.{Automaton,
 use Rattle.automaton_file.proofs.Calls.{scratch-long, called-good, zeros-left}
 use Rattle.automaton_translation.specs.Promise.{ReadHere, MadePromise}
 use Rattle.promises.specs.Automaton.{RulePromise}
-use Rattle.promises.specs.declared.Translated.{Translated}
-use Rattle.promises.specs.declared.Translated.the-variants.{Refused}
+use Rattle.promises.specs.declared.Written.{Written}
+use Rattle.promises.specs.declared.Written.the-variants.{Refused}
 
 module _ (bytes out entry : List ℕ) where
   -- a short buffer is refused, and both are left as they came
@@ -49,7 +49,7 @@ module _ (bytes out entry : List ℕ) where
         out-room = long;
       }
 
-      pub rule-promised : {out-exit exit : List ℕ} {answer : Translated} → MadePromise bytes out out-exit mid exit answer
+      pub rule-promised : {out-exit exit : List ℕ} {answer : Written} → MadePromise bytes out out-exit mid exit answer
           → RulePromise bytes out out-exit entry exit answer
       rule-promised {exit = exit} m = record {
         refusal = buffer-long long (passed-before _ _ (p .refusal) (m .refusal));

@@ -7,10 +7,10 @@ use lib.ListN.{length}
 use Rattle.formats.specs.RuleChecks.{ruleSize}
 use Rattle.automaton_file.specs.Answers.{ReadPromise}
 use Rattle.automaton_file.specs.declared.AutomatonRead.the-variants.{Automaton}
-use Rattle.promises.specs.declared.Translated.{Translated}
+use Rattle.promises.specs.declared.Written.{Written}
 use Rattle.automaton_translation.specs.Promise.{MadePromise, SameOutcome}
 
 pub record ReadyTheorem : Type 0 where
   pub two-ways : (bytes out entry mid : List ℕ) (states letters transitions : ℕ) → ruleSize ≤ length out → ReadPromise 1 bytes entry mid (Automaton states letters transitions)
-      → (out-exit out-exit′ exit exit′ : List ℕ) (answer answer′ : Translated) → MadePromise bytes out out-exit mid exit answer
+      → (out-exit out-exit′ exit exit′ : List ℕ) (answer answer′ : Written) → MadePromise bytes out out-exit mid exit answer
       → MadePromise bytes out out-exit′ mid exit′ answer′ → SameOutcome answer answer′ out-exit out-exit′ exit exit′

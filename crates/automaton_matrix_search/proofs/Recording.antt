@@ -4,7 +4,7 @@ use mathlib.Core.Path.{_≡_, sym, _∙_, subst}
 use mathlib.Core.List.{List}
 use native.Mathlib.Omega.{arith}
 use lib.ListN.{length, set, length-set}
-use lib.Seq.{getD-set-same, getD-set-other}
+use Rattle.finite.proofs.Stores.{done, put, stores, Apart, here, later, stores-length, stores-other, stores-at}
 use Rattle.buchi.proofs.Products.{same-trans}
 use Rattle.scratch.proofs.Unchanged.{unchanged-both, unchanged-wider}
 use Rattle.automaton_matrix_search.specs.Lists.{stepPlace, parentPlace, letterPlace, MatrixList, Kept, KeptBelow}
@@ -17,15 +17,6 @@ use Rattle.automaton_matrix_search.proofs.Staying.{matrix-stays, list-s
 -- ---- three bytes
 
 module _ {scratch : List ℕ} {p x number next : ℕ} (place : RecordNeeds scratch p x number next) where
-  one : List ℕ
-  one = set scratch (stepPlace p x) number
-
-  two : List ℕ
-  two = set one (parentPlace next) p
-
-  step-inside : stepPlace p x < length scratch
-  step-inside = omega (arith, place .entry-small, place .letter-small, place .room)
-
   pub parent-inside : parentPlace next < length (set scratch (stepPlace p x) number)
   parent-inside = simp length-set (omega (arith, place .next-small, place .room))
 
@@ -33,20 +24,18 @@ module _ {scratch : List ℕ} {p x number next : ℕ} (place : RecordNeeds scrat
   letter-inside = simp length-set (omega (arith, place .next-small, place .room))
 
   pub step-recorded : StepRecorded scratch (set (set (set scratch (stepPlace p x) number) (parentPlace next) p) (letterPlace next) x) p x number next
-  unfolding one two
+  unfolding stores Apart
   step-recorded =
       let h = place .entry-small in
       let l = place .letter-small in
       let g = place .next-small in
+      let all = put (stepPlace p x) number (put (parentPlace next) p (put (letterPlace next) x done)) in
       record {
-        same-length = simp length-set;
-        step =
-            getD-set-other two (letterPlace next) (stepPlace p x) x 0 (omega arith) ∙ getD-set-other one (parentPlace next) (stepPlace p x) p 0 (omega arith)
-            ∙ getD-set-same scratch (stepPlace p x) number 0 step-inside;
-        parent = getD-set-other two (letterPlace next) (parentPlace next) x 0 (omega arith) ∙ getD-set-same one (parentPlace next) p 0 parent-inside;
-        letter = getD-set-same two (letterPlace next) x 0 letter-inside;
-        others = λ i a b c.
-            getD-set-other two (letterPlace next) i x 0 c ∙ getD-set-other one (parentPlace next) i p 0 b ∙ getD-set-other scratch (stepPlace p x) i number 0 a;
+        same-length = stores-length all scratch;
+        step = stores-at all scratch (here (omega arith, (omega arith, tt))) (omega (arith, place .room));
+        parent = stores-at all scratch (later (here (omega arith, tt))) (omega (arith, place .room));
+        letter = stores-at all scratch (later (later (here tt))) (omega (arith, place .room));
+        others = λ i a b c. stores-other all scratch i (a, (b, (c, tt)));
       }
 
 -- ---- an addition, and the record of it

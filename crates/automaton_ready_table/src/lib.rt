@@ -1,7 +1,7 @@
 // The products of all matrices over two states, a constant: by rows of 81, the number of the product of the matrices with the numbers a
 // and b at a * 81 + b. It is built anew wherever it is named, so that one function names it and lends it once a call.
 use automaton_translation::make_rule_by;
-use promises::Translated;
+use promises::Written;
 ghost use Rattle.automaton_translation.specs.Promise.{ReadHere, MadePromise};
 
 const PRODUCTS: [u8; 6561] = [
@@ -6575,7 +6575,7 @@ pub fn make_ready_rule(
     k: usize,
     out: &mut [u8],
     scratch: &mut [u8],
-) -> Translated
+) -> Written
     requires { ⌜ ReadHere (now automaton) n k (now out) (now scratch) ⌝ }
     ensures { λ r. ⌜ MadePromise (now (automaton .entry)) (now (out .entry)) (now (out .exit)) (now (scratch .entry)) (now (scratch .exit)) r ⌝ }
 {

@@ -16,7 +16,7 @@ use Rattle.automaton_table.specs.Laying.{laidRule, laidMarks, StepList, MarkNee
 use Rattle.rule_laid.specs.Laid.{LaidNeeds, LaidAs, LaidWritten}
 use Rattle.scratch.specs.Map.{stepsBase}
 use Rattle.automaton_translation.specs.Promise.{ReadHere, MadePromise}
-use Rattle.promises.specs.declared.Translated.the-variants.{Rule, Refused}
+use Rattle.promises.specs.declared.Written.the-variants.{Rule, Refused}
 use Rattle.automaton_translation.proofs.Reading.{read-stands, read-place, read-letters}
 use Rattle.automaton_translation.proofs.Made.{step-list, mark-place, laid-lawful, laid-matrices, laid-order, laid-marking, laid-threes, not-rich}
 

@@ -8,8 +8,9 @@ use Rattle.formats.specs.RuleChecks.{ruleSize, scratchSize}
 use Rattle.formats.specs.AutomatonFile.{statesOf, lettersOf, hasTransition}
 use Rattle.formats.proofs.GoodAutomaton.{GoodSections}
 use Rattle.automaton_file.specs.Answers.{TransitionsLaid}
-use Rattle.promises.specs.Automaton.{matricesCheck, RuleAnswer, ruleVerdict}
-use Rattle.promises.specs.declared.Translated.{Translated}
+use Rattle.promises.specs.Answers.{writtenVerdict, WrittenAnswer}
+use Rattle.promises.specs.Automaton.{matricesCheck, RuleOf}
+use Rattle.promises.specs.declared.Written.{Written}
 
 -- an automaton of n states and k letters was read, its transitions stand in scratch, and both buffers are long enough
 pub record ReadHere (bytes : List ℕ) (n k : ℕ) (out scratch : List ℕ) : Type 0 where
@@ -21,13 +22,13 @@ pub record ReadHere (bytes : List ℕ) (n k : ℕ) (out scratch : List ℕ) : Ty
   pub out-room : ruleSize ≤ length out
 
 -- what is promised of an automaton that was read: only 14 is left to look at
-pub record MadePromise (bytes out-entry out-exit entry exit : List ℕ) (answer : Translated) : Type 0 where
-  pub refusal : FirstFailure (matricesCheck bytes ∷ []) (ruleVerdict answer)
-  pub answered : RuleAnswer bytes out-entry out-exit answer
+pub record MadePromise (bytes out-entry out-exit entry exit : List ℕ) (answer : Written) : Type 0 where
+  pub refusal : FirstFailure (matricesCheck bytes ∷ []) (writtenVerdict answer)
+  pub answered : WrittenAnswer (RuleOf bytes out-entry out-exit) out-entry out-exit answer
   pub scratch : exit ≡ replicate (length entry) 0
 
 -- "yields the same file .. refusals included": two answers are one, and the buffer for the file and scratch are left alike
-pub record SameOutcome (answer answer′ : Translated) (out-exit out-exit′ exit exit′ : List ℕ) : Type 0 where
+pub record SameOutcome (answer answer′ : Written) (out-exit out-exit′ exit exit′ : List ℕ) : Type 0 where
   pub same-answer : answer ≡ answer′
   pub same-file : out-exit ≡ out-exit′
   pub same-scratch : exit ≡ exit′

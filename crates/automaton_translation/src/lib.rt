@@ -9,7 +9,7 @@ use automaton_marks::lay_marks;
 use automaton_matrix_list::list_matrices;
 use automaton_matrix_search::MatrixCount;
 use automaton_table::lay_products;
-use promises::Translated;
+use promises::Written;
 use rule_laid::write_laid;
 use scratch::STEPS_BASE;
 use sections::zero;
@@ -36,7 +36,7 @@ pub fn make_rule(
     out: &mut [u8],
     scratch: &mut [u8],
     table: &[u8],
-) -> Translated
+) -> Written
     requires { ⌜ ReadHere (now automaton) n k (now out) (now scratch) ⌝ }
     requires { ⌜ LentTable (now table) ⌝ }
     ensures { λ r. ⌜ MadePromise (now (automaton .entry)) (now (out .entry)) (now (out .exit)) (now (scratch .entry)) (now (scratch .exit)) r ⌝ }
@@ -46,7 +46,7 @@ pub fn make_rule(
         MatrixCount::Listed(c) => c,
         MatrixCount::TooMany => {
             zero(scratch);
-            return Translated::Refused {
+            return Written::Refused {
                 refusal: Refusal::TooManyMatrices,
                 input: 1,
                 place: 0,
@@ -56,7 +56,7 @@ pub fn make_rule(
     lay_rule(kinds, n, scratch, count);
     let length = write_laid(scratch, STEPS_BASE, count, k, out);
     zero(scratch);
-    Translated::Rule(length)
+    Written::Rule(length)
 }
 
 // The same by a table that holds the products of all matrices over two states: what is lent here is that table, and not nothing.
@@ -67,7 +67,7 @@ pub fn make_rule_by(
     out: &mut [u8],
     scratch: &mut [u8],
     table: &[u8],
-) -> Translated
+) -> Written
     requires { ⌜ ReadHere (now automaton) n k (now out) (now scratch) ⌝ }
     requires { ⌜ ReadyTable (now table) ⌝ }
     ensures { λ r. ⌜ MadePromise (now (automaton .entry)) (now (out .entry)) (now (out .exit)) (now (scratch .entry)) (now (scratch .exit)) r ⌝ }

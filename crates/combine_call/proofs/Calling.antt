@@ -13,8 +13,8 @@ use Rattle.two_rules.specs.declared.BothChecked.the-variants.{Rules, Refused as
 use Rattle.two_rules.specs.Checking.{BothPromise}
 use Rattle.two_rules.proofs.Calling.{refused-then, passed-then, both-left}
 use Rattle.promises.specs.declared.Operation.{Operation}
-use Rattle.promises.specs.declared.Combined.{Combined}
-use Rattle.promises.specs.declared.Combined.the-variants.{Refused}
+use Rattle.promises.specs.declared.Written.{Written}
+use Rattle.promises.specs.declared.Written.the-variants.{Refused}
 use Rattle.promises.specs.Combine.{pairChecks, CombinePromise}
 use Rattle.combine_pairs.specs.Steps.{PairsPromise}
 use Rattle.combine_strengths.specs.Steps.{BothReady}
@@ -40,7 +40,7 @@ module _ (first second out entry : List ℕ) (long : ruleSize ≤ length out) wh
     both-place = record { entry = entry; checked = p; out-room = long }
 
     -- what the checks behind those of the files say decides
-    pub files-combined : {operation : Operation} {after was end : List ℕ} {answer : Combined} → PairsPromise first second operation out after mid was answer → end ≡ replicate (length was) 0
+    pub files-combined : {operation : Operation} {after was end : List ℕ} {answer : Written} → PairsPromise first second operation out after mid was answer → end ≡ replicate (length was) 0
         → CombinePromise first second operation out after entry end answer
     files-combined {was = was} {end} q z = record {
       refusal = buffer-long long (passed-then first second entry p (pairChecks first second) (q .refusal));

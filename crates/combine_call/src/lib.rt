@@ -4,8 +4,8 @@
 use answer::Refusal;
 use combine_strengths::combine_checked;
 use formats::RULE_SIZE;
-use promises::Combined;
 use promises::Operation;
+use promises::Written;
 use sections::zero;
 use two_rules::BothChecked;
 use two_rules::check_both;
@@ -19,11 +19,11 @@ pub fn combine(
     operation: Operation,
     out: &mut [u8],
     scratch: &mut [u8],
-) -> Combined
+) -> Written
     ensures { λ r. ⌜ CombinePromise (now (first .entry)) (now (second .entry)) operation (now (out .entry)) (now (out .exit)) (now (scratch .entry)) (now (scratch .exit)) r ⌝ }
 {
     if out.len() < RULE_SIZE {
-        return Combined::Refused {
+        return Written::Refused {
             refusal: Refusal::BufferTooShort,
             input: 1,
             place: 0,
@@ -34,7 +34,7 @@ pub fn combine(
             refusal,
             input,
             place,
-        } => Combined::Refused {
+        } => Written::Refused {
             refusal,
             input,
             place,

@@ -28,7 +28,7 @@ use Rattle.pair_list.proofs.Tables.{table-pairs, table-lawful, table-by-first-w
 use Rattle.pair_marks.specs.Marks.{pairGrade}
 use Rattle.pair_rule.specs.Writing.{laidPairs, PairsRuleNeeds, PairsWritten}
 use Rattle.promises.specs.declared.Operation.{Operation}
-use Rattle.promises.specs.declared.Combined.the-variants.{Rule as Is-rule, Refused}
+use Rattle.promises.specs.declared.Written.the-variants.{Rule as Is-rule, Refused}
 use Rattle.promises.specs.Combine.{combinedGrade, CombinedTo}
 use Rattle.promises.proofs.CombineOrder.{pairs-last, none-fails}
 use Rattle.promises.proofs.CombinedGrades.{combined-small}

@@ -4,8 +4,8 @@ use answer::Refusal;
 use pair_list::PairCount;
 use pair_list::list_pairs;
 use pair_rule::write_pairs;
-use promises::Combined;
 use promises::Operation;
+use promises::Written;
 use rule_layout::Shape;
 use scratch::PAIR_LEFTS_BASE;
 use scratch::PAIR_NUMBERS_BASE;
@@ -21,7 +21,7 @@ pub fn combine_strong(
     operation: Operation,
     scratch: &mut [u8],
     out: &mut [u8],
-) -> Combined
+) -> Written
     requires { ⌜ StrongReady (now first) (now second) one two (now scratch) (now out) ⌝ }
     ensures { λ r. ⌜ PairsPromise (now (first .entry)) (now (second .entry)) operation (now (out .entry)) (now (out .exit)) (now (scratch .entry)) (now (scratch .exit)) r ⌝ }
 {
@@ -36,7 +36,7 @@ pub fn combine_strong(
     ) {
         PairCount::Listed(count) => count,
         PairCount::TooMany => {
-            return Combined::Refused {
+            return Written::Refused {
                 refusal: Refusal::TooManyPairs,
                 input: 1,
                 place: 0,
@@ -54,5 +54,5 @@ pub fn combine_strong(
         scratch,
         out,
     );
-    Combined::Rule(length)
+    Written::Rule(length)
 }

@@ -11,8 +11,8 @@ use Rattle.two_rules.specs.declared.Strengths.the-variants.{Strong, FirstWeak, 
 use Rattle.two_rules.specs.Deciding.{BothDecided}
 use Rattle.two_rules.proofs.Calling.{first-file-weak, second-file-weak, strong-files}
 use Rattle.promises.specs.declared.Operation.{Operation}
-use Rattle.promises.specs.declared.Combined.{Combined}
-use Rattle.promises.specs.declared.Combined.the-variants.{Refused}
+use Rattle.promises.specs.declared.Written.{Written}
+use Rattle.promises.specs.declared.Written.the-variants.{Refused}
 use Rattle.promises.proofs.CombineOrder.{letters-first, weak-first, weak-second}
 use Rattle.combine_pairs.specs.Steps.{StrongReady, PairsPromise}
 use Rattle.combine_strengths.specs.Steps.{BothReady}
@@ -55,6 +55,6 @@ module _ {first second : List ℕ} {one two : Shape} {scratch out : List ℕ} (r
     pub strong-place : answer ≡ Strong → StrongReady first second one two decided out
     strong-place e = record { files = strong-files first second (r .entry) (r .checked) d e; same-letters = same; out-room = r .out-room }
 
-    pub strong-combined : {operation : Operation} {after exit : List ℕ} {result : Combined} → PairsPromise first second operation out after decided exit result
+    pub strong-combined : {operation : Operation} {after exit : List ℕ} {result : Written} → PairsPromise first second operation out after decided exit result
         → PairsPromise first second operation out after scratch exit result
     strong-combined p = record { refusal = p .refusal; answered = p .answered; same-length = p .same-length ∙ d .same-length }

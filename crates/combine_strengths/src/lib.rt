@@ -2,8 +2,8 @@
 // lent slice.
 use answer::Refusal;
 use combine_pairs::combine_strong;
-use promises::Combined;
 use promises::Operation;
+use promises::Written;
 use rule_layout::Shape;
 use two_rules::Strengths;
 use two_rules::decide_both;
@@ -19,14 +19,14 @@ pub fn combine_checked(
     operation: Operation,
     scratch: &mut [u8],
     out: &mut [u8],
-) -> Combined
+) -> Written
     requires { ⌜ BothReady (now first) (now second) one two (now scratch) (now out) ⌝ }
     ensures { λ r. ⌜ PairsPromise (now (first .entry)) (now (second .entry)) operation (now (out .entry)) (now (out .exit)) (now (scratch .entry)) (now (scratch .exit)) r ⌝ }
 {
     let first_letters = one.letters;
     let second_letters = two.letters;
     if first_letters != second_letters {
-        return Combined::Refused {
+        return Written::Refused {
             refusal: Refusal::LettersDiffer,
             input: 1,
             place: 0,
@@ -42,14 +42,14 @@ pub fn combine_checked(
         scratch,
     ) {
         Strengths::FirstWeak => {
-            return Combined::Refused {
+            return Written::Refused {
                 refusal: Refusal::NotStrong,
                 input: 1,
                 place: 0,
             };
         }
         Strengths::SecondWeak => {
-            return Combined::Refused {
+            return Written::Refused {
                 refusal: Refusal::NotStrong,
                 input: 2,
                 place: 0,

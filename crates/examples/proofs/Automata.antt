@@ -46,9 +46,10 @@ use Rattle.rule_first_words.proofs.Ordered.{entry, found-by-first-words}
 use Rattle.formats.specs.WrittenFile.{fileOf}
 use Rattle.formats.proofs.ReadBack.{written-rule}
 use Rattle.promises.specs.Reduce.{ruleOf}
-use Rattle.promises.specs.declared.Translated.{Translated}
-use Rattle.promises.specs.declared.Translated.the-variants.{Rule as Is-translated, Refused}
-use Rattle.promises.specs.Automaton.{automatonOf, RuleOf, ruleVerdict, RuleAnswer, translateChecks, RulePromise}
+use Rattle.promises.specs.declared.Written.{Written}
+use Rattle.promises.specs.declared.Written.the-variants.{Rule as Is-translated, Refused}
+use Rattle.promises.specs.Answers.{writtenVerdict, WrittenAnswer}
+use Rattle.promises.specs.Automaton.{automatonOf, RuleOf, translateChecks, RulePromise}
 use Rattle.promises.proofs.OneTranslation.{rule-one-verdict}
 use Rattle.examples.specs.Files.{automaton}
 use Rattle.examples.specs.Examples.{FileStrong, RuleReducesTo, ReducesTo, Translation, TranslatedTo, AutomatonReducesTo}
@@ -282,7 +283,7 @@ module _ (before entry : List ℕ) (long : ruleSize ≤ length before) (room : s
   }
 
   module _ (after exit : List ℕ) where
-    of-answer : (answer : Translated) → RuleAnswer automaton before after answer → ruleVerdict answer ≡ passed → TranslatedTo 3 2 before after answer
+    of-answer : (answer : Written) → WrittenAnswer (RuleOf automaton before after) before after answer → writtenVerdict answer ≡ passed → TranslatedTo 3 2 before after answer
     of-answer (Is-translated end) made e =
         record {
           end = end;
@@ -296,7 +297,7 @@ module _ (before entry : List ℕ) (long : ruleSize ≤ length before) (room : s
         }
     of-answer (Refused r i place) made e = absurd (let z : _≡_ {A = ℕ} 0 1 = cc in let w : ⊥ = omega arith in w)
 
-    each-answer : (answer : Translated) → RulePromise automaton before after entry exit answer → TranslatedTo 3 2 before after answer
+    each-answer : (answer : Written) → RulePromise automaton before after entry exit answer → TranslatedTo 3 2 before after answer
     unfolding some-answer
     each-answer answer p = of-answer answer (p .answered) (rule-one-verdict automaton before entry p (some-answer .promised))
 

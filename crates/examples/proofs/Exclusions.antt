@@ -14,7 +14,7 @@ use Rattle.theory.specs.Pairs.{Classes, ClassCounts}
 use Rattle.theory.proofs.Closure.{linked-elim, closure-test, closure-intro}
 use Rattle.theory.proofs.TableTests.{all-pairs-elim, counted-same}
 use Rattle.formats.specs.RuleFile.{morphismOf, markingOf}
-use Rattle.promises.specs.declared.Reduced.the-variants.{Rule as Is-rule}
+use Rattle.promises.specs.declared.Written.the-variants.{Rule as Is-rule}
 use Rattle.formats.specs.RuleChecks.{ruleSize, scratchSize}
 use Rattle.examples.specs.Files.{W, W-all, one-element, Z, Z₀, not-associative, unreached, automaton}
 use Rattle.promises.specs.Printed.{Prints}

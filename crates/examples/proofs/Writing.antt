@@ -19,8 +19,8 @@ use Rattle.formats.specs.Calls.{checkedChecks, afterCall}
 use Rattle.formats.specs.WrittenFile.{tabulate, elementsBytes, lettersBytes, isMarked, markNumbers, markBytes, marksBytes, fileOf}
 use Rattle.formats.specs.Front.{AtFront}
 use Rattle.formats.proofs.Front.{front-same}
-use Rattle.promises.specs.declared.Reduced.{Reduced}
-use Rattle.promises.specs.declared.Reduced.the-variants.{Rule as Is-rule}
+use Rattle.promises.specs.declared.Written.{Written}
+use Rattle.promises.specs.declared.Written.the-variants.{Rule as Is-rule}
 use Rattle.promises.specs.Reduce.{mapSize, ruleOf, reduceChecks, ReducedTo, reduceLeft, ReducePromise}
 use Rattle.promises.proofs.OneReduction.{one-answer}
 use Rattle.examples.specs.Files.{W-all, one-element}
@@ -79,7 +79,7 @@ module _ (before map entry : List ℕ) (long : ruleSize ≤ length before) (map-
         map-written = m;
       }
 
-  promised : {after map′ exit : List ℕ} {answer : Reduced} → HandsBack one-element moves before after map map′ entry exit answer → ReducePromise W-all before after map map′ entry exit answer
+  promised : {after map′ exit : List ℕ} {answer : Written} → HandsBack one-element moves before after map map′ entry exit answer → ReducePromise W-all before after map map′ entry exit answer
   promised {after} {map′} {exit} k =
       subst (ReducePromise W-all before after map map′ entry exit) (sym (k .answer-is))
       (record {
@@ -90,7 +90,7 @@ module _ (before map entry : List ℕ) (long : ruleSize ≤ length before) (map-
 
   -- ---- and nothing else
 
-  allowed : {after map′ exit : List ℕ} (answer : Reduced) → ReducePromise W-all before after map map′ entry exit answer
+  allowed : {after map′ exit : List ℕ} (answer : Written) → ReducePromise W-all before after map map′ entry exit answer
       → HandsBack one-element moves before after map map′ entry exit answer
   allowed answer p =
       let q = promised (record { answer-is = refl; stands = record { holds = refl; counts = refl }; map-stands = record { holds = refl; counts = refl }; scratch-is = refl }) in

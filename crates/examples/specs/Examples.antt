@@ -15,12 +15,11 @@ use Rattle.theory.specs.Smallest.{Reduction}
 use Rattle.formats.specs.RuleFile.{elementsOf, lettersOf, morphismOf, markingOf}
 use Rattle.formats.specs.RuleChecks.{ruleChecks, ruleSize, scratchSize}
 use Rattle.formats.specs.Front.{AtFront}
-use Rattle.promises.specs.declared.Reduced.{Reduced}
-use Rattle.promises.specs.declared.Reduced.the-variants.{Rule as Is-rule}
+use Rattle.promises.specs.declared.Written.{Written}
+use Rattle.promises.specs.declared.Written.the-variants.{Rule as Is-rule}
 use Rattle.promises.specs.Reduce.{mapSize, ruleOf, ReducePromise}
 use Rattle.buchi.specs.Rule.{MoreMatrices}
-use Rattle.promises.specs.declared.Translated.{Translated}
-use Rattle.promises.specs.declared.Translated.the-variants.{Rule as Is-translated}
+use Rattle.promises.specs.declared.Written.the-variants.{Rule as Is-translated}
 use Rattle.promises.specs.Automaton.{automatonOf, translateChecks, RulePromise}
 use Rattle.examples.specs.Files.{W, W-all, one-element, Z, Z₀, not-associative, unreached, automaton}
 
@@ -82,7 +81,7 @@ pub record ReducesTo (bytes : List ℕ) (n : ℕ) : Type 0 where
 
 -- what a call hands back that reduces to the file by the moves: the file's length, out with the file and map with the moves at the front, and
 -- zeros in scratch
-pub record HandsBack (file moves before after map map′ entry exit : List ℕ) (answer : Reduced) : Type 0 where
+pub record HandsBack (file moves before after map map′ entry exit : List ℕ) (answer : Written) : Type 0 where
   pub answer-is : answer ≡ Is-rule (length file)
   pub stands : AtFront file before after (length file)
   pub map-stands : AtFront moves map map′ (length moves)
@@ -90,18 +89,18 @@ pub record HandsBack (file moves before after map map′ entry exit : List ℕ) 
 
 -- with buffers that are long enough, the call's promise allows this and nothing else
 pub record ReducesToBytes (bytes file moves : List ℕ) : Type 0 where
-  pub exactly : (before after map map′ entry exit : List ℕ) (answer : Reduced) → ruleSize ≤ length before → mapSize ≤ length map → scratchSize ≤ length entry
+  pub exactly : (before after map map′ entry exit : List ℕ) (answer : Written) → ruleSize ≤ length before → mapSize ≤ length map → scratchSize ≤ length entry
       → ReducePromise bytes before after map map′ entry exit answer ↔ HandsBack file moves before after map map′ entry exit answer
 
 -- an answer to an automaton, with two buffers, that the call's promise allows
 pub record Translation (bytes before entry : List ℕ) : Type 0 where
-  pub answer : Translated
+  pub answer : Written
   pub after : List ℕ
   pub exit : List ℕ
   pub promised : RulePromise bytes before after entry exit answer
 
 -- the answer is a rule of n elements that is strong and reduces to c, and its file stands in out
-pub record TranslatedTo (n c : ℕ) (before after : List ℕ) (answer : Translated) : Type 0 where
+pub record TranslatedTo (n c : ℕ) (before after : List ℕ) (answer : Written) : Type 0 where
   pub end : ℕ
   pub answer-is : answer ≡ Is-translated end
   pub file : List ℕ
@@ -118,7 +117,7 @@ pub record AutomatonReducesTo (bytes : List ℕ) (n c : ℕ) : Type 0 where
   -- with buffers that are long enough every check passes, the promise allows an answer, and each that it allows is such a rule
   pub passes : (before entry : List ℕ) → ruleSize ≤ length before → scratchSize ≤ length entry → FirstFailure (translateChecks bytes before entry) passed
   pub some-answer : (before entry : List ℕ) → ruleSize ≤ length before → scratchSize ≤ length entry → Translation bytes before entry
-  pub each-answer : (before after entry exit : List ℕ) (answer : Translated) → ruleSize ≤ length before → scratchSize ≤ length entry
+  pub each-answer : (before after entry exit : List ℕ) (answer : Written) → ruleSize ≤ length before → scratchSize ≤ length entry
       → RulePromise bytes before after entry exit answer → TranslatedTo n c before after answer
 
 -- the table

@@ -9,34 +9,46 @@ use board_state::write_board;
 use board_state::write_posted;
 use packing::pack_fields;
 use packing::pack_refusal;
-use packing_counts::pack_combined;
-use packing_counts::pack_complemented;
 use packing_counts::pack_listed;
 use packing_counts::pack_partition;
-use packing_counts::pack_reduced;
 use packing_counts::pack_successors;
-use packing_counts::pack_translated;
+use packing_counts::pack_written;
 use packing_decisions::pack_confirmation;
 use packing_decisions::pack_inclusion;
 use packing_decisions::pack_kind;
-use packing_decisions::pack_membership;
+use packing_decisions::pack_lasso_verdict;
 use packing_decisions::pack_strength;
-use packing_monitors::pack_monitor_verdict;
 use packing_monitors::pack_moved;
 use packing_monitors::pack_notice;
 use promises::Monitor;
 use promises::Operation;
 ghost use mathlib.Core.Path.{_≡_};
+ghost use Rattle.promises.specs.Automaton.{RulePromise};
+ghost use Rattle.promises.specs.Classes.{ListPromise};
+ghost use Rattle.promises.specs.Combine.{CombinePromise};
+ghost use Rattle.promises.specs.Complement.{ComplementPromise};
+ghost use Rattle.promises.specs.Confirm.{ConfirmPromise};
+ghost use Rattle.promises.specs.Inclusion.{InclusionPromise};
+ghost use Rattle.promises.specs.Member.{MemberPromise};
 ghost use Rattle.promises.specs.Monitor.{freshMonitor};
+ghost use Rattle.promises.specs.Moves.{EventPromise, MarkPromise};
+ghost use Rattle.promises.specs.Points.{KeepPromise, ReturnPromise};
+ghost use Rattle.promises.specs.Reduce.{ReducePromise};
+ghost use Rattle.promises.specs.Rounds.{RoundsPromise};
+ghost use Rattle.promises.specs.RuleAutomaton.{KindPromise, SuccessorsPromise};
+ghost use Rattle.promises.specs.Strong.{StrongPromise};
+ghost use Rattle.promises.specs.Verdict.{VerdictPromise};
 ghost use Rattle.promises.specs.declared.Operation.the-variants.{Both, Either, Without};
-ghost use Rattle.packing_monitors.specs.Monitors.{packMonitor};
-ghost use Rattle.exports.specs.Exports.{ExportedClasses, ExportedStrength, ExportedMember, ExportedComplement, ExportedInclusion, ExportedEvent, ExportedMark, ExportedKeep, ExportedReturn, ExportedReduction, ExportedConfirmation, ExportedCombination, ExportedRounds, ExportedAutomaton, ExportedVerdict, ExportedKind, ExportedSuccessors};
+ghost use Rattle.packing_counts.specs.Counts.{listedContents, writtenContents, partitionContents, successorsContents};
+ghost use Rattle.packing_decisions.specs.Decisions.{strengthContents, lassoVerdictContents, inclusionContents, confirmationContents, kindContents};
+ghost use Rattle.packing_monitors.specs.Monitors.{packMonitor, movedContents};
+ghost use Rattle.exports.specs.Exports.{Exported};
 ghost use Rattle.exports.specs.BoardExports.{ExportedBoardEmpty, ExportedBoardEnter, ExportedBoardLeave, ExportedBoardEvent, ExportedBoardMark};
 
 // The linked pairs, the classes and the joins; each pair's class in `out`.
 #[no_mangle]
 pub extern "C" fn duknavet_classes(rule: &[u8], out: &mut [u8], scratch: &mut [u8]) -> u64
-    ensures { λ r. ⌜ ExportedClasses (now (rule .entry)) (now (out .entry)) (now (out .exit)) (now (scratch .entry)) (now (scratch .exit)) r ⌝ }
+    ensures { λ r. ⌜ Exported (ListPromise (now (rule .entry)) (now (out .entry)) (now (out .exit)) (now (scratch .entry)) (now (scratch .exit))) listedContents r ⌝ }
 {
     pack_listed(rules::list_classes(rule, out, scratch))
 }
@@ -44,7 +56,7 @@ pub extern "C" fn duknavet_classes(rule: &[u8], out: &mut [u8], scratch: &mut [u
 // 1 for a strong rule, 0 for a weak one.
 #[no_mangle]
 pub extern "C" fn duknavet_strong(rule: &[u8], scratch: &mut [u8]) -> u64
-    ensures { λ r. ⌜ ExportedStrength (now (rule .entry)) (now (scratch .entry)) (now (scratch .exit)) r ⌝ }
+    ensures { λ r. ⌜ Exported (StrongPromise (now (rule .entry)) (now (scratch .entry)) (now (scratch .exit))) strengthContents r ⌝ }
 {
     pack_strength(rules::strong(rule, scratch))
 }
@@ -52,17 +64,17 @@ pub extern "C" fn duknavet_strong(rule: &[u8], scratch: &mut [u8]) -> u64
 // The lasso's grade, 0 to 3, and how many turns settle the value of v.
 #[no_mangle]
 pub extern "C" fn duknavet_member(rule: &[u8], u: &[u8], v: &[u8], scratch: &mut [u8]) -> u64
-    ensures { λ r. ⌜ ExportedMember (now (rule .entry)) (now (u .entry)) (now (v .entry)) (now (scratch .entry)) (now (scratch .exit)) r ⌝ }
+    ensures { λ r. ⌜ Exported (MemberPromise (now (rule .entry)) (now (u .entry)) (now (v .entry)) (now (scratch .entry)) (now (scratch .exit))) lassoVerdictContents r ⌝ }
 {
-    pack_membership(rules::member(rule, u, v, scratch))
+    pack_lasso_verdict(rules::member(rule, u, v, scratch))
 }
 
 // How many bytes the complement has, which stands in `out`.
 #[no_mangle]
 pub extern "C" fn duknavet_complement(rule: &[u8], out: &mut [u8], scratch: &mut [u8]) -> u64
-    ensures { λ r. ⌜ ExportedComplement (now (rule .entry)) (now (out .entry)) (now (out .exit)) (now (scratch .entry)) (now (scratch .exit)) r ⌝ }
+    ensures { λ r. ⌜ Exported (ComplementPromise (now (rule .entry)) (now (out .entry)) (now (out .exit)) (now (scratch .entry)) (now (scratch .exit))) writtenContents r ⌝ }
 {
-    pack_complemented(rules::complement(rule, out, scratch))
+    pack_written(rules::complement(rule, out, scratch))
 }
 
 // 1 for an inclusion; else 0 and how many letters the lasso has in u and in v.
@@ -74,7 +86,7 @@ pub extern "C" fn duknavet_included(
     v: &mut [u8],
     scratch: &mut [u8],
 ) -> u64
-    ensures { λ r. ⌜ ExportedInclusion (now (rule .entry)) (now (second .entry)) (now (u .entry)) (now (u .exit)) (now (v .entry)) (now (v .exit)) (now (scratch .entry)) (now (scratch .exit)) r ⌝ }
+    ensures { λ r. ⌜ Exported (InclusionPromise (now (rule .entry)) (now (second .entry)) (now (u .entry)) (now (u .exit)) (now (v .entry)) (now (v .exit)) (now (scratch .entry)) (now (scratch .exit))) inclusionContents r ⌝ }
 {
     pack_inclusion(rules::included(rule, second, u, v, scratch))
 }
@@ -97,7 +109,7 @@ pub extern "C" fn duknavet_event(
     letter: u8,
     scratch: &mut [u8],
 ) -> u64
-    ensures { λ r. ⌜ ExportedEvent (now (rule .entry)) (record { before = before; since = since }) letter (now (scratch .entry)) (now (scratch .exit)) r ⌝ }
+    ensures { λ r. ⌜ Exported (EventPromise (now (rule .entry)) (record { before = before; since = since }) letter (now (scratch .entry)) (now (scratch .exit))) movedContents r ⌝ }
 {
     pack_moved(rules::event(rule, Monitor { before, since }, letter, scratch))
 }
@@ -105,7 +117,7 @@ pub extern "C" fn duknavet_event(
 // The values of a monitor after a mark.
 #[no_mangle]
 pub extern "C" fn duknavet_mark(rule: &[u8], before: usize, since: usize, scratch: &mut [u8]) -> u64
-    ensures { λ r. ⌜ ExportedMark (now (rule .entry)) (record { before = before; since = since }) (now (scratch .entry)) (now (scratch .exit)) r ⌝ }
+    ensures { λ r. ⌜ Exported (MarkPromise (now (rule .entry)) (record { before = before; since = since }) (now (scratch .entry)) (now (scratch .exit))) movedContents r ⌝ }
 {
     pack_moved(rules::mark(rule, Monitor { before, since }, scratch))
 }
@@ -120,7 +132,7 @@ pub extern "C" fn duknavet_keep(
     points: &mut [u8],
     scratch: &mut [u8],
 ) -> u64
-    ensures { λ r. ⌜ ExportedKeep (now (rule .entry)) (record { before = before; since = since }) name (now (points .entry)) (now (points .exit)) (now (scratch .entry)) (now (scratch .exit)) r ⌝ }
+    ensures { λ r. ⌜ Exported (KeepPromise (now (rule .entry)) (record { before = before; since = since }) name (now (points .entry)) (now (points .exit)) (now (scratch .entry)) (now (scratch .exit))) movedContents r ⌝ }
 {
     pack_moved(rules::keep(rule, Monitor { before, since }, name, points, scratch))
 }
@@ -135,7 +147,7 @@ pub extern "C" fn duknavet_return(
     points: &[u8],
     scratch: &mut [u8],
 ) -> u64
-    ensures { λ r. ⌜ ExportedReturn (now (rule .entry)) (record { before = before; since = since }) name (now (points .entry)) (now (scratch .entry)) (now (scratch .exit)) r ⌝ }
+    ensures { λ r. ⌜ Exported (ReturnPromise (now (rule .entry)) (record { before = before; since = since }) name (now (points .entry)) (now (scratch .entry)) (now (scratch .exit))) movedContents r ⌝ }
 {
     pack_moved(rules::return_to(rule, Monitor { before, since }, name, points, scratch))
 }
@@ -148,9 +160,9 @@ pub extern "C" fn duknavet_verdict(
     since: usize,
     scratch: &mut [u8],
 ) -> u64
-    ensures { λ r. ⌜ ExportedVerdict (now (rule .entry)) (record { before = before; since = since }) (now (scratch .entry)) (now (scratch .exit)) r ⌝ }
+    ensures { λ r. ⌜ Exported (VerdictPromise (now (rule .entry)) (record { before = before; since = since }) (now (scratch .entry)) (now (scratch .exit))) lassoVerdictContents r ⌝ }
 {
-    pack_monitor_verdict(rules::verdict(rule, Monitor { before, since }, scratch))
+    pack_lasso_verdict(rules::verdict(rule, Monitor { before, since }, scratch))
 }
 
 // How many bytes the reduction has, which stands in `out`; in `map` for each element of the rule the number of the element that it went to.
@@ -161,9 +173,9 @@ pub extern "C" fn duknavet_reduce(
     map: &mut [u8],
     scratch: &mut [u8],
 ) -> u64
-    ensures { λ r. ⌜ ExportedReduction (now (rule .entry)) (now (out .entry)) (now (out .exit)) (now (map .entry)) (now (map .exit)) (now (scratch .entry)) (now (scratch .exit)) r ⌝ }
+    ensures { λ r. ⌜ Exported (ReducePromise (now (rule .entry)) (now (out .entry)) (now (out .exit)) (now (map .entry)) (now (map .exit)) (now (scratch .entry)) (now (scratch .exit))) writtenContents r ⌝ }
 {
-    pack_reduced(rules::reduce(rule, out, map, scratch))
+    pack_written(rules::reduce(rule, out, map, scratch))
 }
 
 // 1 if the second rule is the first one reduced by the map, else 0.
@@ -174,7 +186,7 @@ pub extern "C" fn duknavet_confirm(
     map: &[u8],
     scratch: &mut [u8],
 ) -> u64
-    ensures { λ r. ⌜ ExportedConfirmation (now (first .entry)) (now (second .entry)) (now (map .entry)) (now (scratch .entry)) (now (scratch .exit)) r ⌝ }
+    ensures { λ r. ⌜ Exported (ConfirmPromise (now (first .entry)) (now (second .entry)) (now (map .entry)) (now (scratch .entry)) (now (scratch .exit))) confirmationContents r ⌝ }
 {
     pack_confirmation(rules::confirm(first, second, map, scratch))
 }
@@ -187,9 +199,9 @@ pub extern "C" fn duknavet_both(
     out: &mut [u8],
     scratch: &mut [u8],
 ) -> u64
-    ensures { λ r. ⌜ ExportedCombination (now (first .entry)) (now (second .entry)) Both (now (out .entry)) (now (out .exit)) (now (scratch .entry)) (now (scratch .exit)) r ⌝ }
+    ensures { λ r. ⌜ Exported (CombinePromise (now (first .entry)) (now (second .entry)) Both (now (out .entry)) (now (out .exit)) (now (scratch .entry)) (now (scratch .exit))) writtenContents r ⌝ }
 {
-    pack_combined(rules::combine(first, second, Operation::Both, out, scratch))
+    pack_written(rules::combine(first, second, Operation::Both, out, scratch))
 }
 
 // The same with the higher of two grades.
@@ -200,9 +212,9 @@ pub extern "C" fn duknavet_either(
     out: &mut [u8],
     scratch: &mut [u8],
 ) -> u64
-    ensures { λ r. ⌜ ExportedCombination (now (first .entry)) (now (second .entry)) Either (now (out .entry)) (now (out .exit)) (now (scratch .entry)) (now (scratch .exit)) r ⌝ }
+    ensures { λ r. ⌜ Exported (CombinePromise (now (first .entry)) (now (second .entry)) Either (now (out .entry)) (now (out .exit)) (now (scratch .entry)) (now (scratch .exit))) writtenContents r ⌝ }
 {
-    pack_combined(rules::combine(first, second, Operation::Either, out, scratch))
+    pack_written(rules::combine(first, second, Operation::Either, out, scratch))
 }
 
 // The same with the lower of the first grade and 3 less the second.
@@ -213,9 +225,9 @@ pub extern "C" fn duknavet_without(
     out: &mut [u8],
     scratch: &mut [u8],
 ) -> u64
-    ensures { λ r. ⌜ ExportedCombination (now (first .entry)) (now (second .entry)) Without (now (out .entry)) (now (out .exit)) (now (scratch .entry)) (now (scratch .exit)) r ⌝ }
+    ensures { λ r. ⌜ Exported (CombinePromise (now (first .entry)) (now (second .entry)) Without (now (out .entry)) (now (out .exit)) (now (scratch .entry)) (now (scratch .exit))) writtenContents r ⌝ }
 {
-    pack_combined(rules::combine(first, second, Operation::Without, out, scratch))
+    pack_written(rules::combine(first, second, Operation::Without, out, scratch))
 }
 
 // How many rounds of the reduction were done within the limit, and 1 if one more would change nothing; the blocks in `blocks`.
@@ -226,7 +238,7 @@ pub extern "C" fn duknavet_reduce_rounds(
     blocks: &mut [u8],
     scratch: &mut [u8],
 ) -> u64
-    ensures { λ r. ⌜ ExportedRounds (now (rule .entry)) limit (now (blocks .entry)) (now (blocks .exit)) (now (scratch .entry)) (now (scratch .exit)) r ⌝ }
+    ensures { λ r. ⌜ Exported (RoundsPromise (now (rule .entry)) limit (now (blocks .entry)) (now (blocks .exit)) (now (scratch .entry)) (now (scratch .exit))) partitionContents r ⌝ }
 {
     pack_partition(rules::reduce_rounds(rule, limit, blocks, scratch))
 }
@@ -238,9 +250,9 @@ pub extern "C" fn duknavet_automaton_rule(
     out: &mut [u8],
     scratch: &mut [u8],
 ) -> u64
-    ensures { λ r. ⌜ ExportedAutomaton (now (automaton .entry)) (now (out .entry)) (now (out .exit)) (now (scratch .entry)) (now (scratch .exit)) r ⌝ }
+    ensures { λ r. ⌜ Exported (RulePromise (now (automaton .entry)) (now (out .entry)) (now (out .exit)) (now (scratch .entry)) (now (scratch .exit))) writtenContents r ⌝ }
 {
-    pack_translated(rules::automaton_rule(automaton, out, scratch))
+    pack_written(rules::automaton_rule(automaton, out, scratch))
 }
 
 // The kind of a state of the rule's automaton for a least grade: 0 plain, 1 initial, 2 final.
@@ -252,7 +264,7 @@ pub extern "C" fn duknavet_state_kind(
     least: u8,
     scratch: &mut [u8],
 ) -> u64
-    ensures { λ r. ⌜ ExportedKind (now (rule .entry)) s e least (now (scratch .entry)) (now (scratch .exit)) r ⌝ }
+    ensures { λ r. ⌜ Exported (KindPromise (now (rule .entry)) s e least (now (scratch .entry)) (now (scratch .exit))) kindContents r ⌝ }
 {
     pack_kind(rules::state_kind(rule, s, e, least, scratch))
 }
@@ -267,7 +279,7 @@ pub extern "C" fn duknavet_successors(
     out: &mut [u8],
     scratch: &mut [u8],
 ) -> u64
-    ensures { λ r. ⌜ ExportedSuccessors (now (rule .entry)) s e letter (now (out .entry)) (now (out .exit)) (now (scratch .entry)) (now (scratch .exit)) r ⌝ }
+    ensures { λ r. ⌜ Exported (SuccessorsPromise (now (rule .entry)) s e letter (now (out .entry)) (now (out .exit)) (now (scratch .entry)) (now (scratch .exit))) successorsContents r ⌝ }
 {
     pack_successors(rules::successors(rule, s, e, letter, out, scratch))
 }

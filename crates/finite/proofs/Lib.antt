@@ -15,3 +15,4 @@ pub mod Select
 pub mod Tells
 pub mod Each
 pub mod Highest
+pub mod Stores

@@ -19,6 +19,10 @@ pub record Table (bytes : List ℕ) (n k : ℕ) : Type 0 where
   pub products : (a b : ℕ) → a < n → b < n → productAt bytes n a b < n
   pub images : (a : ℕ) → a < k → imageAt bytes n a < n
 
+-- a letter's element is an element
+pub image-below : {bytes : List ℕ} {n k a h : ℕ} → Table bytes n k → a < k → h ≡ imageAt bytes n a → h < n
+image-below {a = a} table letter e = rw e (table .images a letter)
+
 -- every triple associates
 pub record AllAssociate (m : Morphism) : Type 0 where
   pub associate : (a b c : ℕ) → a < m .size → b < m .size → c < m .size → Associates m a b c

@@ -12,7 +12,7 @@ use Rattle.theory.specs.Rules.{Morphism, Lawful, Value, none, element, join, va
 use Rattle.theory.proofs.Words.{over-take, over-drop, over-at}
 use Rattle.theory.proofs.Values.{value-append, join-none, join-elements, inside-of}
 use Rattle.rule_table.specs.Table.{ImageNeeds}
-use Rattle.formats.proofs.Tables.{Table}
+use Rattle.formats.proofs.Tables.{Table, image-below}
 use Rattle.formats.specs.Table.{productAt, imageAt, morphismAt}
 use Rattle.rule_table.proofs.Facts.{image-place}
 use Rattle.lasso_cuts.specs.WordValues.{CallWord}
@@ -75,7 +75,7 @@ module _ {bytes : List ℕ} {n k : ℕ} {w : List ℕ} where
 
   -- a letter's element is an element
   pub letter-inside : Reading bytes n k w → (j h : ℕ) → j < length w → h ≡ imageAt bytes n (getD w j 0) → h < n
-  letter-inside r j h l e = rw e (r .table .images (getD w j 0) (over-at k w (r .word .over) j l))
+  letter-inside r j h l e = image-below (r .table) (over-at k w (r .word .over) j l) e
 
   -- the first letter was passed
   pub begun-start : {s : ℕ} → Reading bytes n k w → s ≡ imageAt bytes n (getD w 0 0) → Begun bytes n k w s 1

@@ -35,7 +35,7 @@ use Rattle.scratch.specs.Map.{marksFrom, MarkingAt}
 use Rattle.scratch.proofs.Markings.{front-mark}
 use Rattle.lasso_powers.specs.Raising.{Raised}
 use Rattle.lasso_cuts.proofs.Accepted.{graded-told}
-use Rattle.promises.specs.declared.Membership.the-variants.{Decided, Refused}
+use Rattle.promises.specs.declared.LassoVerdict.the-variants.{Decided, Refused}
 use Rattle.promises.specs.Member.{MemberPromise}
 
 -- the words' answer, known by its case

@@ -4,7 +4,7 @@ use lasso_cuts::Graded;
 use lasso_cuts::grade_of;
 use lasso_words::LassoFault;
 use lasso_words::lasso_fault;
-use promises::Membership;
+use promises::LassoVerdict;
 use rule_check::Checked;
 use rule_check::check;
 use rule_table::idempotent_power;
@@ -39,7 +39,7 @@ fn lasso_grade(rule: &[u8], n: usize, k: usize, u: &[u8], v: &[u8], scratch: &mu
     grade_of(rule, n, k, u, v, scratch)
 }
 
-pub fn member(rule: &[u8], u: &[u8], v: &[u8], scratch: &mut [u8]) -> Membership
+pub fn member(rule: &[u8], u: &[u8], v: &[u8], scratch: &mut [u8]) -> LassoVerdict
     ensures { λ r. ⌜ MemberPromise (now (rule .entry)) (now (u .entry)) (now (v .entry)) (now (scratch .entry)) (now (scratch .exit)) r ⌝ }
 {
     let shape = match check(rule, 1, scratch) {
@@ -49,7 +49,7 @@ pub fn member(rule: &[u8], u: &[u8], v: &[u8], scratch: &mut [u8]) -> Membership
             input,
             place,
         } => {
-            return Membership::Refused {
+            return LassoVerdict::Refused {
                 refusal,
                 input,
                 place,
@@ -66,7 +66,7 @@ pub fn member(rule: &[u8], u: &[u8], v: &[u8], scratch: &mut [u8]) -> Membership
             place,
         } => {
             zero(scratch);
-            return Membership::Refused {
+            return LassoVerdict::Refused {
                 refusal,
                 input,
                 place,
@@ -76,7 +76,7 @@ pub fn member(rule: &[u8], u: &[u8], v: &[u8], scratch: &mut [u8]) -> Membership
     let graded = lasso_grade(rule, n, k, u, v, scratch);
     let power = idempotent_power(rule, n, k, graded.cycle);
     zero(scratch);
-    Membership::Decided {
+    LassoVerdict::Decided {
         grade: graded.grade,
         turns: power.exponent,
     }

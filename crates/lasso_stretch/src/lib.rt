@@ -1,4 +1,5 @@
 // The part of a lasso's word that is left to read at a position (document 01: stretch).
+use formats::LONGEST_WORD;
 ghost use mathlib.Core.Path.{_≡_};
 ghost use Rattle.promises.specs.Stretch.{stretchOf, stretchPlace};
 
@@ -8,13 +9,13 @@ pub fn stretch<'a>(u: &'a [u8], v: &'a [u8], position: usize) -> &'a [u8]
     ensures { λ r. ⌜ now r ≡ stretchOf (now (u .entry)) (now (v .entry)) position ⌝ }
     ensures place { λ r. ⌜ r .ptr ≡ stretchPlace (u .entry .ptr) (v .entry .ptr) (now (u .entry)) (now (v .entry)) position ⌝ }
 {
-    if 4224 < u.len() {
+    if LONGEST_WORD < u.len() {
         return &u[..0];
     }
     if v.len() < 1 {
         return &u[..0];
     }
-    if 4224 < v.len() {
+    if LONGEST_WORD < v.len() {
         return &u[..0]; // not v's
     }
     if position < u.len() {

@@ -1,5 +1,6 @@
 // The words of a call: their lengths, then their letters.
 use answer::Refusal;
+use formats::LONGEST_WORD;
 use section_bounds::Found;
 use section_bounds::first_out;
 ghost use Rattle.lasso_words.specs.Answers.{LassoAnswer};
@@ -18,7 +19,7 @@ pub enum LassoFault {
 pub fn lasso_fault(u: &[u8], v: &[u8], k: usize) -> LassoFault
     ensures { λ r. ⌜ LassoAnswer k (now (u .entry)) (now (v .entry)) r ⌝ }
 {
-    if 4224 < u.len() {
+    if LONGEST_WORD < u.len() {
         return LassoFault::Refused {
             refusal: Refusal::WordLength,
             input: 1,
@@ -32,7 +33,7 @@ pub fn lasso_fault(u: &[u8], v: &[u8], k: usize) -> LassoFault
             place: 0,
         };
     }
-    if 4224 < v.len() {
+    if LONGEST_WORD < v.len() {
         return LassoFault::Refused {
             refusal: Refusal::WordLength,
             input: 2,

@@ -15,7 +15,7 @@ use Rattle.theory.proofs.Values.{inside-of}
 use Rattle.theory.proofs.Strength.{Closed}
 use Rattle.theory.proofs.Closure.{closure-test, closure-intro, closure-elim}
 use Rattle.theory.proofs.Included.{closed-marks-strong}
-use Rattle.theory.proofs.Gradings.{GradedMarks, level-up, level-linked}
+use Rattle.theory.proofs.Gradings.{GradedMarks, accepts-larger, level-up, level-linked}
 use Rattle.theory.proofs.GradedStrength.{levels-strong}
 use Rattle.theory.proofs.ClosureGrades.{closure-grade, closure-grade-small, closure-level, closure-grade-is}
 use Rattle.scratch.specs.Map.{marksFrom, MarkingAt}
@@ -42,21 +42,10 @@ module _ (m : Morphism) (P Q : Pairs) (same : SameOn m P Q) where
   }
 
   accepted : {u v : List ℕ} → Lawful m → Accepts m P u v → Accepts m Q u v
-  accepted law a = record {
-    cycle-some = a .cycle-some;
-    start = a .start;
-    cycle = a .cycle;
-    start-over = a .start-over;
-    cycle-over = a .cycle-over;
-    same = a .same;
-    start-element = a .start-element;
-    cycle-element = a .cycle-element;
-    start-value = a .start-value;
-    cycle-value = a .cycle-value;
-    is-marked = subst T
-        (same (a .start-element) (a .cycle-element) (inside-of law (a .start-over) (a .start-value)) (inside-of law (a .cycle-over) (a .cycle-value)))
-        (a .is-marked);
-  }
+  accepted law a =
+      accepts-larger a
+      (subst T (same (a .start-element) (a .cycle-element) (inside-of law (a .start-over) (a .start-value)) (inside-of law (a .cycle-over) (a .cycle-value)))
+      (a .is-marked))
 
 module _ {m : Morphism} (law : Lawful m) (P Q : Pairs) (same : SameOn m P Q) where
   pub accepts-agrees : (u v : List ℕ) → Accepts m P u v ↔ Accepts m Q u v

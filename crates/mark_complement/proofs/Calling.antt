@@ -32,7 +32,7 @@ use Rattle.promises.specs.Complement.{ComplementMarks, ComplementPromise}
 use Rattle.mark_complement_marks.specs.Complement.{ComplementLaid}
 use Rattle.mark_complement.specs.Promise.{WriteNeeds, secondFile}
 use Rattle.formats.specs.WrittenFile.{FitsGrades}
-use Rattle.promises.specs.declared.Complemented.the-variants.{Rule, Refused}
+use Rattle.promises.specs.declared.Written.the-variants.{Rule, Refused}
 use Rattle.mark_complement.proofs.Complements.{laid-complement, turned-small}
 
 not-not : (b : Bool) → not (not b) ≡ b

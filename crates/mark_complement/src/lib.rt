@@ -4,7 +4,7 @@ use answer::Refusal;
 use formats::RULE_SIZE;
 use mark_complement_marks::complement_marks;
 use mark_strong::decide;
-use promises::Complemented;
+use promises::Written;
 use rule_check::Checked;
 use rule_check::check;
 use rule_writer::write_rule;
@@ -29,11 +29,11 @@ fn write_marked(rule: &[u8], n: usize, k: usize, scratch: &[u8], out: &mut [u8])
 }
 
 // Checks a rule and writes its complement, or refuses it. Scratch ends as zeros, but where a buffer is too short.
-pub fn complement(rule: &[u8], out: &mut [u8], scratch: &mut [u8]) -> Complemented
+pub fn complement(rule: &[u8], out: &mut [u8], scratch: &mut [u8]) -> Written
     ensures { λ r. ⌜ ComplementPromise (now (rule .entry)) (now (out .entry)) (now (out .exit)) (now (scratch .entry)) (now (scratch .exit)) r ⌝ }
 {
     if out.len() < RULE_SIZE {
-        return Complemented::Refused {
+        return Written::Refused {
             refusal: Refusal::BufferTooShort,
             input: 1,
             place: 0,
@@ -46,7 +46,7 @@ pub fn complement(rule: &[u8], out: &mut [u8], scratch: &mut [u8]) -> Complement
             input,
             place,
         } => {
-            return Complemented::Refused {
+            return Written::Refused {
                 refusal,
                 input,
                 place,
@@ -58,7 +58,7 @@ pub fn complement(rule: &[u8], out: &mut [u8], scratch: &mut [u8]) -> Complement
     let strong = decide(rule, n, k, scratch);
     if !strong {
         zero(scratch);
-        return Complemented::Refused {
+        return Written::Refused {
             refusal: Refusal::NotStrong,
             input: 1,
             place: 0,
@@ -67,5 +67,5 @@ pub fn complement(rule: &[u8], out: &mut [u8], scratch: &mut [u8]) -> Complement
     complement_marks(rule, n, k, scratch);
     let length = write_marked(rule, n, k, scratch, out);
     zero(scratch);
-    Complemented::Rule(length)
+    Written::Rule(length)
 }

@@ -2,7 +2,9 @@
 // compared like others.
 use answer::Refusal;
 use mark_comparison::compare;
+use promises::CYCLE_SIZE;
 use promises::Inclusion;
+use promises::START_SIZE;
 use rule_check::Checked;
 use rule_check::check;
 use rule_marks::Fault;
@@ -44,14 +46,14 @@ pub fn included(
 ) -> Inclusion
     ensures { λ r. ⌜ InclusionPromise (now (rule .entry)) (now (second .entry)) (now (u .entry)) (now (u .exit)) (now (v .entry)) (now (v .exit)) (now (scratch .entry)) (now (scratch .exit)) r ⌝ }
 {
-    if u.len() < 64 {
+    if u.len() < START_SIZE {
         return Inclusion::Refused {
             refusal: Refusal::BufferTooShort,
             input: 1,
             place: 0,
         };
     }
-    if v.len() < 4224 {
+    if v.len() < CYCLE_SIZE {
         return Inclusion::Refused {
             refusal: Refusal::BufferTooShort,
             input: 1,

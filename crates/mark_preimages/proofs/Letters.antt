@@ -10,10 +10,6 @@ use Rattle.formats.specs.Table.{imageAt, productAt, morphismAt}
 use Rattle.scratch.specs.Preimages.{afterLetter}
 
 module _ {bytes : List ℕ} {n k a : ℕ} (table : Table bytes n k) (letter : a < k) where
-  -- a letter's element is one
-  pub letter-below : {h : ℕ} → h ≡ imageAt bytes n a → h < n
-  letter-below e = rw e (table .images a letter)
-
   -- after an element: its product with the letter's
   pub after-element : {c h r : ℕ} → h ≡ imageAt bytes n a → c < n → r ≡ productAt bytes n c h → r ≡ afterLetter (morphismAt bytes n k) a c
   unfolding afterLetter

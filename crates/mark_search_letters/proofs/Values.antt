@@ -25,9 +25,6 @@ module _ (bytes : List ℕ) (n k : ℕ) (table : Table bytes n k) where
   abbrev m : Morphism
   m = morphismAt bytes n k
 
-  pub image-inside : {a h : ℕ} → a < k → h ≡ imageAt bytes n a → h < n
-  image-inside {a} l e = rw e (table .images a l)
-
   pub product-place : {a b : ℕ} → a < n → b < n → ProductNeeds bytes n a b
   product-place ha hb = record { small = table .small; long = omega (arith, table .long); left-inside = ha; right-inside = hb }
 

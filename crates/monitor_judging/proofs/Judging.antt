@@ -14,7 +14,7 @@ use Rattle.theory.proofs.Strength.{settled-start, settled-cycle, settled-linked
 use Rattle.minimality.proofs.GradeOutcomes.{grading, grading-lassos}
 use Rattle.scratch.specs.Map.{marksFrom, MarkingAt}
 use Rattle.mark_strong.specs.Deciding.{DecideNeeds, StrongIf, Decided}
-use Rattle.promises.specs.declared.MonitorVerdict.the-variants.{Decided as Is-decided, Refused}
+use Rattle.promises.specs.declared.LassoVerdict.the-variants.{Decided as Is-decided, Refused}
 use Rattle.monitor_judging.specs.Judges.{Judges}
 use Rattle.formats.specs.RuleChecks.{scratchSize}
 

@@ -1,7 +1,7 @@
 // The verdict on two values of a strong rule, below the checks: the grade of the lassos with these values.
 use answer::Refusal;
 use mark_strong::decide;
-use promises::MonitorVerdict;
+use promises::LassoVerdict;
 use rule_table::idempotent_power;
 use rule_table::product;
 use scratch::SECOND_BASE;
@@ -60,7 +60,7 @@ pub fn judge(
     before: usize,
     since: usize,
     scratch: &mut [u8],
-) -> MonitorVerdict
+) -> LassoVerdict
     requires { ⌜ Table (now rule) n k ⌝ }
     requires { ⌜ DecideNeeds (morphismAt (now rule) n k) 0 (now scratch) ⌝ }
     requires { ⌜ (before < n) × (since < n) ⌝ }
@@ -70,13 +70,13 @@ pub fn judge(
     let looked = values_grade(rule, n, k, scratch, before, since);
     zero(scratch);
     if !strong {
-        return MonitorVerdict::Refused {
+        return LassoVerdict::Refused {
             refusal: Refusal::NotStrong,
             input: 1,
             place: 0,
         };
     }
-    MonitorVerdict::Decided {
+    LassoVerdict::Decided {
         grade: looked.grade,
         turns: looked.turns,
     }

@@ -11,14 +11,24 @@ use rule_check::check;
 use rule_marks::Fault;
 use sections::zero;
 ghost use Rattle.promises.specs.Points.{KeepPromise, ReturnPromise};
+ghost use Rattle.monitor_points.specs.Begun.{BegunPromise};
 
-// Keeps the monitor under a name, in place of what the name held.
-pub fn keep(rule: &[u8], m: Monitor, name: usize, points: &mut [u8], scratch: &mut [u8]) -> Moved
-    ensures { λ r. ⌜ KeepPromise (now (rule .entry)) m name (now (points .entry)) (now (points .exit)) (now (scratch .entry)) (now (scratch .exit)) r ⌝ }
+// How many elements the rule has; or the refusal of the points' length, or of the rule.
+enum Begun {
+    Elements(usize),
+    Refused {
+        refusal: Refusal,
+        input: usize,
+        place: usize,
+    },
+}
+
+// What both calls begin with. Scratch ends as zeros, but where a buffer is too short.
+fn begin(rule: &[u8], points: &[u8], scratch: &mut [u8]) -> Begun
+    ensures { λ r. ⌜ BegunPromise (now (rule .entry)) (now (points .entry)) (now (scratch .entry)) (now (scratch .exit)) r ⌝ }
 {
     if points.len() < POINTS_SIZE {
-        return Moved::Refused {
-            monitor: m,
+        return Begun::Refused {
             refusal: Refusal::BufferTooShort,
             input: 1,
             place: 0,
@@ -31,6 +41,28 @@ pub fn keep(rule: &[u8], m: Monitor, name: usize, points: &mut [u8], scratch: &m
             input,
             place,
         } => {
+            return Begun::Refused {
+                refusal,
+                input,
+                place,
+            };
+        }
+    };
+    zero(scratch);
+    Begun::Elements(shape.elements)
+}
+
+// Keeps the monitor under a name, in place of what the name held.
+pub fn keep(rule: &[u8], m: Monitor, name: usize, points: &mut [u8], scratch: &mut [u8]) -> Moved
+    ensures { λ r. ⌜ KeepPromise (now (rule .entry)) m name (now (points .entry)) (now (points .exit)) (now (scratch .entry)) (now (scratch .exit)) r ⌝ }
+{
+    let n = match begin(rule, points, scratch) {
+        Begun::Elements(n) => n,
+        Begun::Refused {
+            refusal,
+            input,
+            place,
+        } => {
             return Moved::Refused {
                 monitor: m,
                 refusal,
@@ -39,8 +71,6 @@ pub fn keep(rule: &[u8], m: Monitor, name: usize, points: &mut [u8], scratch: &m
             };
         }
     };
-    zero(scratch);
-    let n = shape.elements;
     match keep_fault(n, m, name, points) {
         Fault::Nothing => {}
         Fault::Refused { refusal, place } => {
@@ -64,17 +94,9 @@ pub fn keep(rule: &[u8], m: Monitor, name: usize, points: &mut [u8], scratch: &m
 pub fn return_to(rule: &[u8], m: Monitor, name: usize, points: &[u8], scratch: &mut [u8]) -> Moved
     ensures { λ r. ⌜ ReturnPromise (now (rule .entry)) m name (now (points .entry)) (now (scratch .entry)) (now (scratch .exit)) r ⌝ }
 {
-    if points.len() < POINTS_SIZE {
-        return Moved::Refused {
-            monitor: m,
-            refusal: Refusal::BufferTooShort,
-            input: 1,
-            place: 0,
-        };
-    }
-    let shape = match check(rule, 1, scratch) {
-        Checked::Rule(shape) => shape,
-        Checked::Refused {
+    let n = match begin(rule, points, scratch) {
+        Begun::Elements(n) => n,
+        Begun::Refused {
             refusal,
             input,
             place,
@@ -87,8 +109,6 @@ pub fn return_to(rule: &[u8], m: Monitor, name: usize, points: &[u8], scratch: &
             };
         }
     };
-    zero(scratch);
-    let n = shape.elements;
     match return_fault(n, m, name, points) {
         Fault::Nothing => {}
         Fault::Refused { refusal, place } => {

@@ -20,8 +20,8 @@ use Rattle.promises.specs.Weak.{weakCheck}
 use Rattle.mark_strong.proofs.Calling.{checked-graded, marks-stand}
 use Rattle.promises.specs.declared.Monitor.{Monitor}
 use Rattle.promises.specs.Monitor.{ValueOutOfRange}
-use Rattle.promises.specs.declared.MonitorVerdict.{MonitorVerdict}
-use Rattle.promises.specs.declared.MonitorVerdict.the-variants.{Decided, Refused}
+use Rattle.promises.specs.declared.LassoVerdict.{LassoVerdict}
+use Rattle.promises.specs.declared.LassoVerdict.the-variants.{Decided, Refused}
 use Rattle.promises.specs.Verdict.{verdictChecks, VerdictPromise}
 use Rattle.monitor_judging.specs.Judges.{JudgedBy, Judges}
 use Rattle.monitor_verdict.specs.Judging.{valueChecks, startElement, Judgeable}
@@ -63,13 +63,13 @@ module _ (bytes : List ℕ) (f : Monitor) (entry : List ℕ) where
           (first-passes (record { nowhere = λ place t. b .since-some (t .none) }) w))
 
       -- what the marks of the file say
-      file-says : {exit : List ℕ} {answer : MonitorVerdict} → Judges (morphismAt bytes (shape .elements) (shape .letters)) (startElement f) (f .since) mid exit answer
+      file-says : {exit : List ℕ} {answer : LassoVerdict} → Judges (morphismAt bytes (shape .elements) (shape .letters)) (startElement f) (f .since) mid exit answer
           → JudgedBy (morphismOf bytes) (markingOf bytes) (startElement f) (f .since) answer
       file-says {answer = answer} j =
           subst (λ (m : Morphism). JudgedBy m (markingOf bytes) (startElement f) (f .since) answer) (shape-morphism (p .scratch .shape-is))
           (j .says (markingOf bytes) (checked-graded 1 bytes entry p) (marks-stand 1 bytes entry p))
 
-      says : {exit : List ℕ} (answer : MonitorVerdict) → exit ≡ afterCall entry → JudgedBy (morphismOf bytes) (markingOf bytes) (startElement f) (f .since) answer
+      says : {exit : List ℕ} (answer : LassoVerdict) → exit ≡ afterCall entry → JudgedBy (morphismOf bytes) (markingOf bytes) (startElement f) (f .since) answer
           → VerdictPromise bytes f entry exit answer
       says (Decided grade turns) z k = record {
         refusal = after-values (first-passes (record { nowhere = λ place t. t .weak (k .0) }) none-left);
@@ -85,7 +85,7 @@ module _ (bytes : List ℕ) (f : Monitor) (entry : List ℕ) where
       }
 
       -- the values are judged
-      pub judged : {start : ℕ} {exit : List ℕ} {answer : MonitorVerdict} → start ≡ startElement f
+      pub judged : {start : ℕ} {exit : List ℕ} {answer : LassoVerdict} → start ≡ startElement f
           → Judges (morphismAt bytes (shape .elements) (shape .letters)) start (f .since) mid exit answer → VerdictPromise bytes f entry exit answer
       judged {exit = exit} {answer = answer} e given =
           let j = subst (λ (s : ℕ). Judges (morphismAt bytes (shape .elements) (shape .letters)) s (f .since) mid exit answer) e given in

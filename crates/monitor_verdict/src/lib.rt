@@ -3,8 +3,8 @@
 // have one grade.
 use answer::Refusal;
 use monitor_judging::judge;
+use promises::LassoVerdict;
 use promises::Monitor;
-use promises::MonitorVerdict;
 use rule_check::Checked;
 use rule_check::check;
 use rule_marks::Fault;
@@ -56,7 +56,7 @@ pub fn start_element(monitor: Monitor) -> usize
 
 // Checks a rule and a monitor's values, and says the grade of the lassos with those values. Scratch ends as zeros, but where it is
 // too short.
-pub fn verdict(rule: &[u8], monitor: Monitor, scratch: &mut [u8]) -> MonitorVerdict
+pub fn verdict(rule: &[u8], monitor: Monitor, scratch: &mut [u8]) -> LassoVerdict
     ensures { λ r. ⌜ VerdictPromise (now (rule .entry)) monitor (now (scratch .entry)) (now (scratch .exit)) r ⌝ }
 {
     let shape = match check(rule, 1, scratch) {
@@ -66,7 +66,7 @@ pub fn verdict(rule: &[u8], monitor: Monitor, scratch: &mut [u8]) -> MonitorVerd
             input,
             place,
         } => {
-            return MonitorVerdict::Refused {
+            return LassoVerdict::Refused {
                 refusal,
                 input,
                 place,
@@ -79,7 +79,7 @@ pub fn verdict(rule: &[u8], monitor: Monitor, scratch: &mut [u8]) -> MonitorVerd
         Fault::Nothing => {}
         Fault::Refused { refusal, place } => {
             zero(scratch);
-            return MonitorVerdict::Refused {
+            return LassoVerdict::Refused {
                 refusal,
                 input: 1,
                 place,

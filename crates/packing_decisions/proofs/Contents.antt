@@ -5,15 +5,15 @@ use Rattle.promises.specs.declared.Confirmation.{Confirmation}
 use Rattle.promises.specs.declared.Confirmation.the-variants.{Yes, No, Refused as Not-confirmed}
 use Rattle.promises.specs.declared.Inclusion.{Inclusion}
 use Rattle.promises.specs.declared.Inclusion.the-variants.{Included, NotIncluded, Refused as Not-compared}
-use Rattle.promises.specs.declared.Membership.{Membership}
-use Rattle.promises.specs.declared.Membership.the-variants.{Decided, Refused as Not-a-member}
+use Rattle.promises.specs.declared.LassoVerdict.{LassoVerdict}
+use Rattle.promises.specs.declared.LassoVerdict.the-variants.{Decided, Refused as Not-graded}
 use Rattle.promises.specs.declared.StateKind.{StateKind}
 use Rattle.promises.specs.declared.StateKind.the-variants.{Plain, Initial, Final, Refused as No-kind}
 use Rattle.promises.specs.declared.Strength.{Strength}
 use Rattle.promises.specs.declared.Strength.the-variants.{Strong, Weak, Refused as Not-decided}
 use Rattle.packing.specs.Packing.{fields}
 use Rattle.packing.proofs.Contents.{verdict-of}
-use Rattle.packing_decisions.specs.Decisions.{strengthContents, membershipContents, confirmationContents, inclusionContents, kindContents}
+use Rattle.packing_decisions.specs.Decisions.{strengthContents, lassoVerdictContents, confirmationContents, inclusionContents, kindContents}
 
 pub strength-told : (x y : Strength) → strengthContents x ≡ strengthContents y → x ≡ y
 strength-told Strong Strong e = refl
@@ -26,11 +26,11 @@ strength-told (Not-decided r i p) Strong e = cc
 strength-told (Not-decided r i p) Weak e = cc
 strength-told (Not-decided r i p) (Not-decided r′ i′ p′) e = same-refusal Not-decided r r′ i i′ p p′ (verdict-of e)
 
-pub membership-told : (x y : Membership) → membershipContents x ≡ membershipContents y → x ≡ y
-membership-told (Decided g t) (Decided g′ t′) e = cc
-membership-told (Decided g t) (Not-a-member r′ i′ p′) e = cc
-membership-told (Not-a-member r i p) (Decided g′ t′) e = cc
-membership-told (Not-a-member r i p) (Not-a-member r′ i′ p′) e = same-refusal Not-a-member r r′ i i′ p p′ (verdict-of e)
+pub lasso-verdict-told : (x y : LassoVerdict) → lassoVerdictContents x ≡ lassoVerdictContents y → x ≡ y
+lasso-verdict-told (Decided g t) (Decided g′ t′) e = cc
+lasso-verdict-told (Decided g t) (Not-graded r′ i′ p′) e = cc
+lasso-verdict-told (Not-graded r i p) (Decided g′ t′) e = cc
+lasso-verdict-told (Not-graded r i p) (Not-graded r′ i′ p′) e = same-refusal Not-graded r r′ i i′ p p′ (verdict-of e)
 
 pub confirmation-told : (x y : Confirmation) → confirmationContents x ≡ confirmationContents y → x ≡ y
 confirmation-told Yes Yes e = refl

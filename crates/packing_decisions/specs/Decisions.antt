@@ -5,8 +5,8 @@ use Rattle.promises.specs.declared.Confirmation.{Confirmation}
 use Rattle.promises.specs.declared.Confirmation.the-variants.{Yes, No, Refused as Not-confirmed}
 use Rattle.promises.specs.declared.Inclusion.{Inclusion}
 use Rattle.promises.specs.declared.Inclusion.the-variants.{Included, NotIncluded, Refused as Not-compared}
-use Rattle.promises.specs.declared.Membership.{Membership}
-use Rattle.promises.specs.declared.Membership.the-variants.{Decided, Refused as Not-a-member}
+use Rattle.promises.specs.declared.LassoVerdict.{LassoVerdict}
+use Rattle.promises.specs.declared.LassoVerdict.the-variants.{Decided, Refused as Not-graded}
 use Rattle.promises.specs.declared.StateKind.{StateKind}
 use Rattle.promises.specs.declared.StateKind.the-variants.{Plain, Initial, Final, Refused as No-kind}
 use Rattle.promises.specs.declared.Strength.{Strength}
@@ -23,13 +23,13 @@ strengthContents (Not-decided refusal input place) = refusal-at (numberOf refusa
 abbrev pub packStrength : Strength → ℕ
 packStrength answer = pack (strengthContents answer)
 
--- the lasso's grade, and the turns that settle its cycle
-abbrev pub membershipContents : Membership → Contents
-membershipContents (Decided grade turns) = fields grade turns 0
-membershipContents (Not-a-member refusal input place) = refusal-at (numberOf refusal) input place
+-- the grade of a lasso, or of the lassos with a monitor's values, and the turns that settle its cycle
+abbrev pub lassoVerdictContents : LassoVerdict → Contents
+lassoVerdictContents (Decided grade turns) = fields grade turns 0
+lassoVerdictContents (Not-graded refusal input place) = refusal-at (numberOf refusal) input place
 
-abbrev pub packMembership : Membership → ℕ
-packMembership answer = pack (membershipContents answer)
+abbrev pub packLassoVerdict : LassoVerdict → ℕ
+packLassoVerdict answer = pack (lassoVerdictContents answer)
 
 -- 1 for yes
 abbrev pub confirmationContents : Confirmation → Contents

@@ -3,11 +3,11 @@ use packing::pack_fields;
 use packing::pack_refusal;
 use promises::Confirmation;
 use promises::Inclusion;
-use promises::Membership;
+use promises::LassoVerdict;
 use promises::StateKind;
 use promises::Strength;
 ghost use mathlib.Core.Path.{_≡_};
-ghost use Rattle.packing_decisions.specs.Decisions.{packStrength, packMembership, packInclusion, packConfirmation, packKind};
+ghost use Rattle.packing_decisions.specs.Decisions.{packStrength, packLassoVerdict, packInclusion, packConfirmation, packKind};
 
 pub fn pack_strength(answer: Strength) -> u64
     ensures { λ r. ⌜ r ≡ packStrength answer ⌝ }
@@ -23,13 +23,13 @@ pub fn pack_strength(answer: Strength) -> u64
     }
 }
 
-// The grade of a lasso, and the turns that settle its cycle.
-pub fn pack_membership(answer: Membership) -> u64
-    ensures { λ r. ⌜ r ≡ packMembership answer ⌝ }
+// The grade of lassos, and the turns that settle its cycle.
+pub fn pack_lasso_verdict(answer: LassoVerdict) -> u64
+    ensures { λ r. ⌜ r ≡ packLassoVerdict answer ⌝ }
 {
     match answer {
-        Membership::Decided { grade, turns } => pack_fields(grade, turns, 0),
-        Membership::Refused {
+        LassoVerdict::Decided { grade, turns } => pack_fields(grade, turns, 0),
+        LassoVerdict::Refused {
             refusal,
             input,
             place,

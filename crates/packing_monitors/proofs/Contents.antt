@@ -1,20 +1,12 @@
 -- What a number holds tells the answer: two answers that hold the same are one. Assumes nothing.
 use mathlib.Core.Path.{_≡_, sym, ap, _∙_}
 use Rattle.answer.proofs.Verdicts.{same-refusal}
-use Rattle.promises.specs.declared.MonitorVerdict.{MonitorVerdict}
-use Rattle.promises.specs.declared.MonitorVerdict.the-variants.{Decided as Judged, Refused as Not-judged}
 use Rattle.promises.specs.declared.Monitor.{Monitor}
 use Rattle.promises.specs.declared.Moved.{Moved}
 use Rattle.promises.specs.declared.Moved.the-variants.{To, Refused as Not-moved}
 use Rattle.promises.specs.Moves.{HandsBack}
 use Rattle.packing.proofs.Contents.{verdict-of}
-use Rattle.packing_monitors.specs.Monitors.{monitorContents, movedContents, monitorVerdictContents}
-
-pub judged-told : (x y : MonitorVerdict) → monitorVerdictContents x ≡ monitorVerdictContents y → x ≡ y
-judged-told (Judged g t) (Judged g′ t′) e = cc
-judged-told (Judged g t) (Not-judged r′ i′ p′) e = cc
-judged-told (Not-judged r i p) (Judged g′ t′) e = cc
-judged-told (Not-judged r i p) (Not-judged r′ i′ p′) e = same-refusal Not-judged r r′ i i′ p p′ (verdict-of e)
+use Rattle.packing_monitors.specs.Monitors.{monitorContents, movedContents}
 
 monitor-told : (f g : Monitor) → monitorContents f ≡ monitorContents g → f ≡ g
 monitor-told f g e =

@@ -4,8 +4,6 @@ use Rattle.answer.specs.Refusals.{numberOf}
 use Rattle.promises.specs.declared.Monitor.{Monitor}
 use Rattle.promises.specs.declared.Moved.{Moved}
 use Rattle.promises.specs.declared.Moved.the-variants.{To, Refused as Not-moved}
-use Rattle.promises.specs.declared.MonitorVerdict.{MonitorVerdict}
-use Rattle.promises.specs.declared.MonitorVerdict.the-variants.{Decided as Judged, Refused as Not-judged}
 use Rattle.board_promises.specs.declared.Board.{Board}
 use Rattle.board_promises.specs.declared.Notice.{Notice}
 use Rattle.board_promises.specs.declared.Notice.the-variants.{Done, Refused as Not-done}
@@ -25,14 +23,6 @@ movedContents (Not-moved m refusal input place) = refusal-at (numberOf refusal) 
 
 abbrev pub packMoved : Moved → ℕ
 packMoved answer = pack (movedContents answer)
-
--- the grade of the lassos with the monitor's values, and the turns that settle their cycles
-abbrev pub monitorVerdictContents : MonitorVerdict → Contents
-monitorVerdictContents (Judged grade turns) = fields grade turns 0
-monitorVerdictContents (Not-judged refusal input place) = refusal-at (numberOf refusal) input place
-
-abbrev pub packMonitorVerdict : MonitorVerdict → ℕ
-packMonitorVerdict answer = pack (monitorVerdictContents answer)
 
 -- the lowest grade of the board that is handed back, 4 for none
 abbrev pub noticeContents : Board → Notice → Contents

@@ -3,10 +3,9 @@ use board_promises::Board;
 use board_promises::Notice;
 use packing::pack_fields;
 use packing::pack_refusal;
-use promises::MonitorVerdict;
 use promises::Moved;
 ghost use mathlib.Core.Path.{_≡_};
-ghost use Rattle.packing_monitors.specs.Monitors.{packMoved, packMonitorVerdict, packNotice};
+ghost use Rattle.packing_monitors.specs.Monitors.{packMoved, packNotice};
 
 pub fn pack_moved(answer: Moved) -> u64
     ensures { λ r. ⌜ r ≡ packMoved answer ⌝ }
@@ -15,19 +14,6 @@ pub fn pack_moved(answer: Moved) -> u64
         Moved::To(m) => pack_fields(m.before, m.since, 0),
         Moved::Refused {
             monitor: _,
-            refusal,
-            input,
-            place,
-        } => pack_refusal(refusal, input, place),
-    }
-}
-
-pub fn pack_monitor_verdict(answer: MonitorVerdict) -> u64
-    ensures { λ r. ⌜ r ≡ packMonitorVerdict answer ⌝ }
-{
-    match answer {
-        MonitorVerdict::Decided { grade, turns } => pack_fields(grade, turns, 0),
-        MonitorVerdict::Refused {
             refusal,
             input,
             place,

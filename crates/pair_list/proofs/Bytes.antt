@@ -1,11 +1,10 @@
 -- The bytes of the list of pairs: what five stores leave. Assumes nothing.
 use Prim.Native.Nat.{ℕ, _+_, _*_, _≤_, _<_}
 use mathlib.Core.Path.{refl}
-use mathlib.Core.Logic.{_≢_}
 use mathlib.Core.List.{List}
 use native.Mathlib.Omega.{arith}
 use lib.ListN.{length, getD, set, length-set}
-use lib.Seq.{getD-set-same, getD-set-other}
+use Rattle.finite.proofs.Stores.{done, put, stores, Apart, here, later, stores-length, stores-other, stores-at}
 use Rattle.formats.specs.RuleChecks.{scratchSize}
 use Rattle.scratch.specs.Map.{pairNumbersBase, pairLeftsBase, pairRightsBase, pairParentsBase, pairLettersBase}
 use Rattle.scratch.proofs.Unchanged.{unchanged-none}
@@ -21,30 +20,19 @@ storedAt l count s t from letter =
 
 module _ (l : List ℕ) (count s t from letter : ℕ) (room : scratchSize ≤ length l) (hc : count < 64) (hs : s < 64) (ht : t < 64) where
   stored : Stored l (storedAt l count s t from letter) count s t from letter
+  unfolding stores Apart
   stored =
-      let ab : pairLeftsBase + count ≢ pairRightsBase + count = omega arith in
-      let ac : pairLeftsBase + count ≢ pairParentsBase + count = omega arith in
-      let ad : pairLeftsBase + count ≢ pairLettersBase + count = omega arith in
-      let ae : pairLeftsBase + count ≢ pairNumbersBase + (s * 64 + t) = omega arith in
-      let bc : pairRightsBase + count ≢ pairParentsBase + count = omega arith in
-      let bd : pairRightsBase + count ≢ pairLettersBase + count = omega arith in
-      let be : pairRightsBase + count ≢ pairNumbersBase + (s * 64 + t) = omega arith in
-      let cd : pairParentsBase + count ≢ pairLettersBase + count = omega arith in
-      let ce : pairParentsBase + count ≢ pairNumbersBase + (s * 64 + t) = omega arith in
-      let de : pairLettersBase + count ≢ pairNumbersBase + (s * 64 + t) = omega arith in
-      let la : pairLeftsBase + count < length l = omega arith in
-      let lb : pairRightsBase + count < length (set l (pairLeftsBase + count) s) = simp length-set (omega arith) in
-      let lc : pairParentsBase + count < length (set (set l (pairLeftsBase + count) s) (pairRightsBase + count) t) = simp length-set (omega arith) in
-      let ld : pairLettersBase + count < length (set (set (set l (pairLeftsBase + count) s) (pairRightsBase + count) t) (pairParentsBase + count) from) = simp length-set (omega arith) in
-      let le : pairNumbersBase + (s * 64 + t) < length (set (set (set (set l (pairLeftsBase + count) s) (pairRightsBase + count) t) (pairParentsBase + count) from) (pairLettersBase + count) letter) = simp length-set (omega arith) in
+      let all =
+      put (pairLeftsBase + count) s (put (pairRightsBase + count) t (put (pairParentsBase + count) from (put (pairLettersBase + count) letter
+      (put (pairNumbersBase + (s * 64 + t)) (count + 1) done)))) in
       record {
-        the-left = rw (getD-set-other, getD-set-other, getD-set-other, getD-set-other, getD-set-same);
-        the-right = rw (getD-set-other, getD-set-other, getD-set-other, getD-set-same);
-        the-parent = rw (getD-set-other, getD-set-other, getD-set-same);
-        the-letter = rw (getD-set-other, getD-set-same);
-        the-number = rw getD-set-same;
-        other = λ i h₁ h₂ h₃ h₄ h₅. simp getD-set-other;
-        same-length = simp length-set;
+        the-left = stores-at all l (here (omega arith, (omega arith, (omega arith, (omega arith, tt))))) (omega arith);
+        the-right = stores-at all l (later (here (omega arith, (omega arith, (omega arith, tt))))) (omega arith);
+        the-parent = stores-at all l (later (later (here (omega arith, (omega arith, tt))))) (omega arith);
+        the-letter = stores-at all l (later (later (later (here (omega arith, tt))))) (omega arith);
+        the-number = stores-at all l (later (later (later (later (here tt))))) (omega arith);
+        other = λ i h₁ h₂ h₃ h₄ h₅. stores-other all l i (h₁, (h₂, (h₃, (h₄, (h₅, tt)))));
+        same-length = stores-length all l;
       }
 
 -- a store of an entry changes nothing outside the list

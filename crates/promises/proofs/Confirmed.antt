@@ -23,7 +23,7 @@ use Rattle.formats.proofs.Buffers.{buffer-long}
 use Rattle.formats.proofs.Front.{one-front}
 use Rattle.formats.proofs.ReadBack.{reads-agree}
 use Rattle.formats.proofs.ReadRules.{reads-strong}
-use Rattle.promises.specs.declared.Reduced.the-variants.{Rule as Is-rule}
+use Rattle.promises.specs.declared.Written.the-variants.{Rule as Is-rule}
 use Rattle.promises.specs.declared.Confirmation.{Confirmation}
 use Rattle.promises.specs.declared.Confirmation.the-variants.{Yes, No, Refused}
 use Rattle.promises.specs.Weak.{WeakAt, weakCheck}

@@ -18,7 +18,7 @@ use Rattle.promises.specs.Logs.{Stored, Log}
 use Rattle.promises.proofs.Logs.{log-run}
 use Rattle.promises.proofs.MonitorValues.{value-element}
 use Rattle.promises.proofs.Histories.{run-follows}
-use Rattle.promises.specs.declared.MonitorVerdict.the-variants.{Decided}
+use Rattle.promises.specs.declared.LassoVerdict.the-variants.{Decided}
 use Rattle.promises.specs.Verdict.{verdictChecks, VerdictPromise}
 
 module _ {bytes : List ℕ} {f : Monitor} {history : List Action} (run : Run bytes f history) where

@@ -17,6 +17,7 @@ pub mod OneListing
 pub mod OneMembership
 pub mod OneMove
 pub mod OneMoveInPlace
+pub mod OneOutput
 pub mod OnePoint
 pub mod OneReduction
 pub mod OneRounds

@@ -22,7 +22,7 @@ use Rattle.promises.specs.declared.Moved.{Moved}
 use Rattle.promises.specs.declared.Moved.the-variants.{To, Refused}
 use Rattle.promises.specs.declared.InPlaceAnswer.{InPlaceAnswer}
 use Rattle.promises.specs.declared.InPlaceAnswer.the-variants.{Done, Refused as Not-done}
-use Rattle.promises.specs.declared.MonitorVerdict.{MonitorVerdict}
+use Rattle.promises.specs.declared.LassoVerdict.{LassoVerdict}
 use Rattle.promises.specs.Monitor.{freshMonitor}
 use Rattle.promises.specs.Moves.{afterEvent, afterMark, EventPromise, MarkPromise}
 use Rattle.promises.specs.InPlace.{EventInPlace}
@@ -55,7 +55,7 @@ after-buffer {needed} {buffer} {checks} {v} long f = go (first-case f)
     go (hands-on p g) = g
 
 -- a verdict is the same with any scratch that is long enough
-other-scratch : {bytes : List ℕ} {f : Monitor} {entry entry′ exit : List ℕ} {answer : MonitorVerdict} → scratchSize ≤ length entry → scratchSize ≤ length entry′
+other-scratch : {bytes : List ℕ} {f : Monitor} {entry entry′ exit : List ℕ} {answer : LassoVerdict} → scratchSize ≤ length entry → scratchSize ≤ length entry′
     → VerdictPromise bytes f entry exit answer → VerdictPromise bytes f entry′ (afterCall entry′) answer
 other-scratch long long′ p = record { refusal = buffer-long long′ (after-buffer long (p .refusal)); answered = p .answered; scratch = refl }
 
@@ -138,7 +138,7 @@ module _ (bytes : List ℕ) where
     log-point name l e = run-monitor bytes (subst (Holds bytes points name) e (log-faithful log .held name l) .1)
 
     -- a monitor that saw the history alone has the same verdict, whatever scratch, long enough, each is asked with
-    pub log-verdict : {g : Monitor} {entry entry′ exit exit′ : List ℕ} {answer answer′ : MonitorVerdict} → scratchSize ≤ length entry → scratchSize ≤ length entry′
+    pub log-verdict : {g : Monitor} {entry entry′ exit exit′ : List ℕ} {answer answer′ : LassoVerdict} → scratchSize ≤ length entry → scratchSize ≤ length entry′
         → Run bytes g history → VerdictPromise bytes f entry exit answer → VerdictPromise bytes g entry′ exit′ answer′ → answer ≡ answer′
     log-verdict {g} {entry} {entry′} {exit} {exit′} {answer} {answer′} long long′ run p q =
         let same : g ≡ f = run-monitor bytes run ∙ sym log-monitor in

@@ -5,7 +5,6 @@ use mathlib.Core.Path.{_≡_, sym, ap, _∙_, subst}
 use mathlib.Core.Logic.{by-cases}
 use mathlib.Core.List.{List}
 use Rattle.answer.proofs.Order.{AllSingle, single-nil, single-at, single-cons, single-append, one-verdict}
-use Rattle.answer.proofs.Verdicts.{same-refusal, not-passed}
 use Rattle.theory.specs.Words.{Lasso}
 use Rattle.theory.specs.Grades.{AtLeast, Graded}
 use Rattle.theory.specs.Smallest.{SameGrades}
@@ -18,12 +17,11 @@ use Rattle.formats.proofs.Grades.{grades-bounded}
 use Rattle.formats.proofs.Buffers.{buffer-single}
 use Rattle.formats.proofs.OneVerdict.{rule-single, checked-single}
 use Rattle.formats.proofs.OneFile.{one-file}
-use Rattle.formats.proofs.Front.{one-length, one-buffer}
+use Rattle.promises.proofs.OneOutput.{one-front, one-written}
 use Rattle.promises.specs.declared.Operation.{Operation}
-use Rattle.promises.specs.declared.Combined.{Combined}
-use Rattle.promises.specs.declared.Combined.the-variants.{Rule as Is-rule, Refused}
+use Rattle.promises.specs.declared.Written.{Written}
 use Rattle.promises.specs.Weak.{WeakAt}
-use Rattle.promises.specs.Combine.{LettersDifferAt, TooManyPairsAt, pairChecks, combineChecks, combinedVerdict, CombinedTo, CombinedAnswer, CombinePromise}
+use Rattle.promises.specs.Combine.{LettersDifferAt, TooManyPairsAt, pairChecks, combineChecks, CombinedTo, CombinePromise}
 
 -- each check of the call fails at one place at most
 pair-single : (first second : List ℕ) → AllSingle (pairChecks first second)
@@ -69,20 +67,14 @@ module _ {first second before after after′ : List ℕ} {operation : Operation}
       one-file (a .rule) (b .rule) (pairs-renumbered (a .pairs) (b .pairs) (a .rule .lawful) (b .rule .lawful))
       (pairs-size (a .pairs) (b .pairs) (a .rule .lawful) (b .rule .lawful)) (a .numbered) (b .numbered) (a .marks) (b .marks) same-grades
 
-module _ (first second : List ℕ) (operation : Operation) (before : List ℕ) {after after′ : List ℕ} where
-  same-answer : (a b : Combined) → CombinedAnswer first second operation before after a → CombinedAnswer first second operation before after′ b
-      → combinedVerdict a ≡ combinedVerdict b → (a ≡ b) × (after ≡ after′)
-  same-answer (Is-rule r) (Is-rule r′) p q e = (ap Is-rule (one-length (p .written .front) (q .written .front) (same-file p q)), one-buffer (p .written .front) (q .written .front) (same-file p q))
-  same-answer (Is-rule r) (Refused k i place) p q e = absurd (not-passed (sym e))
-  same-answer (Refused k i place) (Is-rule r) p q e = absurd (not-passed e)
-  same-answer (Refused k i place) (Refused k′ i′ place′) p q e = (same-refusal Refused k k′ i i′ place place′ e, p ∙ sym q)
-
 module _ {first second : List ℕ} {operation : Operation} {before after after′ entry exit exit′ : List ℕ} where
-  pub one-answer : (answer answer′ : Combined) → CombinePromise first second operation before after entry exit answer
+  pub one-answer : (answer answer′ : Written) → CombinePromise first second operation before after entry exit answer
       → CombinePromise first second operation before after′ entry exit′ answer′ → (answer ≡ answer′) × (after ≡ after′)
   one-answer answer answer′ p q =
-      same-answer first second operation before answer answer′ (p .answered) (q .answered) (one-verdict (combine-single first second before entry) (p .refusal) (q .refusal))
+      one-written (CombinedTo first second operation before after) (CombinedTo first second operation before after′) before after after′
+      (λ r r′ a b. one-front (a .written .front) (b .written .front) (same-file a b)) answer answer′ (p .answered) (q .answered)
+      (one-verdict (combine-single first second before entry) (p .refusal) (q .refusal))
 
-  pub one-scratch : {answer answer′ : Combined} → CombinePromise first second operation before after entry exit answer
+  pub one-scratch : {answer answer′ : Written} → CombinePromise first second operation before after entry exit answer
       → CombinePromise first second operation before after′ entry exit′ answer′ → exit ≡ exit′
   one-scratch p q = p .scratch ∙ sym (q .scratch)

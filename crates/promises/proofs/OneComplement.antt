@@ -6,7 +6,6 @@ use mathlib.Core.List.{List}
 use mathlib.Core.Logic.{⊎-elim}
 use Rattle.finite.proofs.Tests.{T-dec}
 use Rattle.answer.proofs.Order.{one-verdict}
-use Rattle.answer.proofs.Verdicts.{same-refusal, not-passed}
 use Rattle.theory.proofs.Closure.{linked-test, linked-intro, linked-elim}
 use Rattle.theory.proofs.Gradings.{one-lassos-grade}
 use Rattle.formats.specs.RuleFile.{morphismOf}
@@ -14,10 +13,9 @@ use Rattle.promises.proofs.OneStrength.{strong-rule-single}
 use Rattle.formats.specs.WrittenFile.{fileOf}
 use Rattle.formats.proofs.Agree.{Agree}
 use Rattle.formats.proofs.Same.{SameMarks, file-same}
-use Rattle.formats.proofs.Front.{one-length, one-buffer}
-use Rattle.promises.specs.declared.Complemented.{Complemented}
-use Rattle.promises.specs.declared.Complemented.the-variants.{Rule, Refused}
-use Rattle.promises.specs.Complement.{complementVerdict, ComplementWritten, ComplementAnswer, ComplementPromise}
+use Rattle.promises.proofs.OneOutput.{one-front, one-written}
+use Rattle.promises.specs.declared.Written.{Written}
+use Rattle.promises.specs.Complement.{ComplementWritten, ComplementPromise}
 
 -- two complements of one rule have one file
 module _ {bytes before after after′ : List ℕ} {r r′ : ℕ} (a : ComplementWritten bytes before after r) (b : ComplementWritten bytes before after′ r′) where
@@ -40,19 +38,14 @@ module _ {bytes before after after′ : List ℕ} {r r′ : ℕ} (a : Complement
   one-file : fileOf (morphismOf bytes) (b .marks) ≡ fileOf (morphismOf bytes) (a .marks)
   one-file = file-same same-table same-marks
 
-module _ (bytes before : List ℕ) {after after′ : List ℕ} where
-  same-answer : (a b : Complemented) → ComplementAnswer bytes before after a → ComplementAnswer bytes before after′ b → complementVerdict a ≡ complementVerdict b
-      → (a ≡ b) × (after ≡ after′)
-  same-answer (Rule r) (Rule r′) p q e = (ap Rule (one-length (p .written .front) (q .written .front) (one-file p q)), one-buffer (p .written .front) (q .written .front) (one-file p q))
-  same-answer (Rule r) (Refused k i place) p q e = absurd (not-passed (sym e))
-  same-answer (Refused k i place) (Rule r) p q e = absurd (not-passed e)
-  same-answer (Refused k i place) (Refused k′ i′ place′) p q e = (same-refusal Refused k k′ i i′ place place′ e, p ∙ sym q)
-
 module _ {bytes before after after′ entry exit exit′ : List ℕ} where
-  pub one-answer : (answer answer′ : Complemented) → ComplementPromise bytes before after entry exit answer → ComplementPromise bytes before after′ entry exit′ answer′
+  pub one-answer : (answer answer′ : Written) → ComplementPromise bytes before after entry exit answer → ComplementPromise bytes before after′ entry exit′ answer′
       → (answer ≡ answer′) × (after ≡ after′)
-  one-answer answer answer′ p q = same-answer bytes before answer answer′ (p .answered) (q .answered) (one-verdict (strong-rule-single _ before bytes entry) (p .refusal) (q .refusal))
+  one-answer answer answer′ p q =
+      one-written (ComplementWritten bytes before after) (ComplementWritten bytes before after′) before after after′
+      (λ r r′ a b. one-front (a .written .front) (b .written .front) (one-file a b)) answer answer′ (p .answered) (q .answered)
+      (one-verdict (strong-rule-single _ before bytes entry) (p .refusal) (q .refusal))
 
-  pub one-scratch : {answer answer′ : Complemented} → ComplementPromise bytes before after entry exit answer → ComplementPromise bytes before after′ entry exit′ answer′
+  pub one-scratch : {answer answer′ : Written} → ComplementPromise bytes before after entry exit answer → ComplementPromise bytes before after′ entry exit′ answer′
       → exit ≡ exit′
   one-scratch p q = p .scratch ∙ sym (q .scratch)

@@ -23,10 +23,11 @@ use Rattle.formats.proofs.Buffers.{buffer-single}
 use Rattle.formats.proofs.Front.{one-length, one-buffer}
 use Rattle.formats.proofs.ReadBack.{reads-agree}
 use Rattle.formats.proofs.Reached.{word-not-missing}
-use Rattle.promises.specs.declared.Reduced.{Reduced}
-use Rattle.promises.specs.declared.Reduced.the-variants.{Rule as Is-rule, Refused}
+use Rattle.promises.specs.declared.Written.{Written}
+use Rattle.promises.specs.declared.Written.the-variants.{Rule as Is-rule, Refused}
 use Rattle.promises.specs.Weak.{weakCheck}
-use Rattle.promises.specs.Reduce.{reduceChecks, reducedVerdict, ReducedTo, ReducedAnswer, ReducePromise}
+use Rattle.promises.specs.Answers.{writtenVerdict}
+use Rattle.promises.specs.Reduce.{reduceChecks, ReducedTo, ReducedAnswer, ReducePromise}
 use Rattle.promises.proofs.OneStrength.{checked-strong-single}
 use Rattle.promises.proofs.SameReductions.{same-rule, reductions-file}
 
@@ -56,14 +57,14 @@ module _ {bytes before after after′ map map-after map-after′ : List ℕ} {r 
         sym (ext-getD 0 (a .map) (b .map) (sym (a .map-written .counts) ∙ b .map-written .counts) (λ s h. same-entry s (omega (arith, h, a .map-written .counts))))
 
 -- what two answers have in common
-pub record SameOutputs (answer answer′ : Reduced) (after after′ map-after map-after′ : List ℕ) : Type 0 where
+pub record SameOutputs (answer answer′ : Written) (after after′ map-after map-after′ : List ℕ) : Type 0 where
   pub answers : answer ≡ answer′
   pub outs : after ≡ after′
   pub maps : map-after ≡ map-after′
 
 module _ (bytes before map : List ℕ) {after after′ map-after map-after′ : List ℕ} where
-  same-answer : (a b : Reduced) → (reducedVerdict a ≡ passed → FirstFailure (ruleChecks 1 bytes) passed) → ReducedAnswer bytes before after map map-after a
-      → ReducedAnswer bytes before after′ map map-after′ b → reducedVerdict a ≡ reducedVerdict b → SameOutputs a b after after′ map-after map-after′
+  same-answer : (a b : Written) → (writtenVerdict a ≡ passed → FirstFailure (ruleChecks 1 bytes) passed) → ReducedAnswer bytes before after map map-after a
+      → ReducedAnswer bytes before after′ map map-after′ b → writtenVerdict a ≡ writtenVerdict b → SameOutputs a b after after′ map-after map-after′
   same-answer (Is-rule r) (Is-rule r′) checks p q e = record {
     answers = ap Is-rule (one-length (p .written .front) (q .written .front) (same-file p q));
     outs = one-buffer (p .written .front) (q .written .front) (same-file p q);
@@ -82,13 +83,13 @@ pub reduce-rule-passes : (bytes out map entry : List ℕ) → FirstFailure (redu
 reduce-rule-passes bytes out map entry p = passes-tail (passed-first (checkedChecks 1 bytes entry) (weakCheck 1 bytes ∷ []) (passes-tail (passes-tail p)))
 
 module _ {bytes before after after′ map map-after map-after′ entry exit exit′ : List ℕ} where
-  pub one-answer : (answer answer′ : Reduced) → ReducePromise bytes before after map map-after entry exit answer
+  pub one-answer : (answer answer′ : Written) → ReducePromise bytes before after map map-after entry exit answer
       → ReducePromise bytes before after′ map map-after′ entry exit′ answer′ → SameOutputs answer answer′ after after′ map-after map-after′
   one-answer answer answer′ p q =
       same-answer bytes before map answer answer′
       (λ e. reduce-rule-passes bytes before map entry (subst (FirstFailure (reduceChecks bytes before map entry)) e (p .refusal)))
       (p .answered) (q .answered) (one-verdict (reduce-single bytes before map entry) (p .refusal) (q .refusal))
 
-  pub one-scratch : {answer answer′ : Reduced} → ReducePromise bytes before after map map-after entry exit answer
+  pub one-scratch : {answer answer′ : Written} → ReducePromise bytes before after map map-after entry exit answer
       → ReducePromise bytes before after′ map map-after′ entry exit′ answer′ → exit ≡ exit′
   one-scratch p q = p .scratch ∙ sym (q .scratch)

@@ -7,7 +7,6 @@ use mathlib.Core.Logic.{_↔_}
 use mathlib.Core.List.{List}
 use Rattle.finite.proofs.Pigeonhole.{injection-le}
 use Rattle.answer.proofs.Order.{AllSingle, single-nil, single-at, single-cons, single-append, one-verdict}
-use Rattle.answer.proofs.Verdicts.{same-refusal, not-passed}
 use Rattle.theory.specs.Words.{Lasso}
 use Rattle.theory.specs.Rules.{Rule as Any-rule}
 use Rattle.theory.specs.Grades.{AtLeast}
@@ -19,11 +18,11 @@ use Rattle.buchi.proofs.Numberings.{matrices-renumbered}
 use Rattle.formats.proofs.Buffers.{buffer-single}
 use Rattle.formats.proofs.AutomatonVerdict.{read-single}
 use Rattle.formats.specs.WrittenFile.{fileOf}
-use Rattle.formats.proofs.Front.{one-length, one-buffer}
+use Rattle.promises.proofs.OneOutput.{one-front, one-written}
 use Rattle.formats.proofs.OneFile.{one-file}
-use Rattle.promises.specs.Automaton.{automatonOf, RuleOf, RuleAnswer, ruleVerdict, translateChecks, RulePromise, TooManyMatricesAt}
-use Rattle.promises.specs.declared.Translated.{Translated}
-use Rattle.promises.specs.declared.Translated.the-variants.{Rule, Refused}
+use Rattle.promises.specs.Answers.{writtenVerdict}
+use Rattle.promises.specs.Automaton.{automatonOf, RuleOf, translateChecks, RulePromise, TooManyMatricesAt}
+use Rattle.promises.specs.declared.Written.{Written}
 
 module _ (bytes out entry : List ℕ) where
   -- each check fails at one place at most
@@ -32,12 +31,12 @@ module _ (bytes out entry : List ℕ) where
       buffer-single
       (single-append (read-single 1 bytes entry) (single-cons (single-at (λ place (a : TooManyMatricesAt _ place). a .is-place)) single-nil))
 
-  pub rule-one-verdict : {out-exit out-exit′ exit exit′ : List ℕ} {answer answer′ : Translated} → RulePromise bytes out out-exit entry exit answer
-      → RulePromise bytes out out-exit′ entry exit′ answer′ → ruleVerdict answer ≡ ruleVerdict answer′
+  pub rule-one-verdict : {out-exit out-exit′ exit exit′ : List ℕ} {answer answer′ : Written} → RulePromise bytes out out-exit entry exit answer
+      → RulePromise bytes out out-exit′ entry exit′ answer′ → writtenVerdict answer ≡ writtenVerdict answer′
   rule-one-verdict p q = one-verdict all-single (p .refusal) (q .refusal)
 
 -- scratch is left the same
-pub one-scratch : {bytes out out-exit out-exit′ entry exit exit′ : List ℕ} {answer answer′ : Translated} → RulePromise bytes out out-exit entry exit answer
+pub one-scratch : {bytes out out-exit out-exit′ entry exit exit′ : List ℕ} {answer answer′ : Written} → RulePromise bytes out out-exit entry exit answer
     → RulePromise bytes out out-exit′ entry exit′ answer′ → exit ≡ exit′
 one-scratch p q = p .scratch ∙ sym (q .scratch)
 
@@ -80,16 +79,9 @@ module _ {bytes before after after′ : List ℕ} {r r′ : ℕ} (a : RuleOf byt
   same-file : fileOf (b .morphism) (b .marks) ≡ fileOf (a .morphism) (a .marks)
   same-file = one-file (rule-of a) (rule-of b) renumbered same-size (a .numbered) (b .numbered) (a .all-marked) (b .all-marked) same-grades
 
-module _ (bytes before : List ℕ) {after after′ : List ℕ} where
-  same-answer : (a b : Translated) → RuleAnswer bytes before after a → RuleAnswer bytes before after′ b → ruleVerdict a ≡ ruleVerdict b
-      → (a ≡ b) × (after ≡ after′)
-  same-answer (Rule r) (Rule r′) p q e = (ap Rule (one-length (p .written .front) (q .written .front) (same-file p q)), one-buffer (p .written .front) (q .written .front) (same-file p q))
-  same-answer (Rule r) (Refused k i place) p q e = absurd (not-passed (sym e))
-  same-answer (Refused k i place) (Rule r) p q e = absurd (not-passed e)
-  same-answer (Refused k i place) (Refused k′ i′ place′) p q e = (same-refusal Refused k k′ i i′ place place′ e, p ∙ sym q)
-
 -- two answers are one, and leave out alike
-pub one-answer : {bytes before after after′ entry exit exit′ : List ℕ} (answer answer′ : Translated) → RulePromise bytes before after entry exit answer
+pub one-answer : {bytes before after after′ entry exit exit′ : List ℕ} (answer answer′ : Written) → RulePromise bytes before after entry exit answer
     → RulePromise bytes before after′ entry exit′ answer′ → (answer ≡ answer′) × (after ≡ after′)
-one-answer {bytes} {before} {entry = entry} answer answer′ p q =
-    same-answer bytes before answer answer′ (p .answered) (q .answered) (rule-one-verdict bytes before entry p q)
+one-answer {bytes} {before} {after} {after′} {entry} answer answer′ p q =
+    one-written (RuleOf bytes before after) (RuleOf bytes before after′) before after after′
+    (λ r r′ a b. one-front (a .written .front) (b .written .front) (same-file a b)) answer answer′ (p .answered) (q .answered) (rule-one-verdict bytes before entry p q)

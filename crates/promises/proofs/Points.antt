@@ -5,8 +5,8 @@ use mathlib.Core.Path.{_≡_, refl, _∙_}
 use mathlib.Core.Logic.{_≢_}
 use mathlib.Core.List.{List, _∷_}
 use native.Mathlib.Omega.{arith}
-use lib.ListN.{length, getD, set, length-set}
-use lib.Seq.{getD-set-same, getD-set-other}
+use lib.ListN.{length, getD}
+use Rattle.finite.proofs.Stores.{Stores, done, put, stores, Apart, here, later, stores-length, stores-other, stores-at}
 use Rattle.answer.specs.Checks.{passed, FirstFailure}
 use Rattle.answer.proofs.Order.{passed-last, passes-head, passes-tail}
 use Rattle.formats.specs.RuleChecks.{bufferCheck}
@@ -15,27 +15,17 @@ use Rattle.promises.specs.declared.Monitor.{Monitor}
 use Rattle.promises.specs.Points.{namesCount, pointsSize, NeverKept, pointAt, keptPoints, keepChecks, returnChecks}
 
 module _ (points : List ℕ) (name : ℕ) (f : Monitor) where
-  abbrev one : List ℕ
-  one = set points (3 * name) 1
-
-  abbrev two : List ℕ
-  two = set one (3 * name + 1) (f .before)
-
-  one-length : length one ≡ length points
-  one-length = length-set points (3 * name) 1
-
-  two-length : length two ≡ length points
-  two-length = length-set one (3 * name + 1) (f .before) ∙ one-length
+  abbrev all : Stores
+  all = put (3 * name) 1 (put (3 * name + 1) (f .before) (put (3 * name + 2) (f .since) done))
 
   pub kept-length : length (keptPoints points name f) ≡ length points
-  unfolding keptPoints
-  kept-length = length-set two (3 * name + 2) (f .since) ∙ two-length
+  unfolding keptPoints stores
+  kept-length = stores-length all points
 
   -- a byte of another name
   other-byte : (i : ℕ) → i ≢ 3 * name → i ≢ 3 * name + 1 → i ≢ 3 * name + 2 → getD (keptPoints points name f) i 0 ≡ getD points i 0
-  unfolding keptPoints
-  other-byte i a b c =
-      getD-set-other two (3 * name + 2) i (f .since) 0 c ∙ getD-set-other one (3 * name + 1) i (f .before) 0 b ∙ getD-set-other points (3 * name) i 1 0 a
+  unfolding keptPoints stores Apart
+  other-byte i a b c = stores-other all points i (a, (b, (c, tt)))
 
   module _ (other : ℕ) (h : other ≢ name) where
     pub other-flag : getD (keptPoints points name f) (3 * other) 0 ≡ getD points (3 * other) 0
@@ -50,24 +40,19 @@ module _ (points : List ℕ) (name : ℕ) (f : Monitor) where
 
   module _ (room : pointsSize ≤ length points) (named : name < namesCount) where
     kept-flag : getD (keptPoints points name f) (3 * name) 0 ≡ 1
-    unfolding keptPoints
-    kept-flag =
-        getD-set-other two (3 * name + 2) (3 * name) (f .since) 0 (λ e. omega arith)
-        ∙ getD-set-other one (3 * name + 1) (3 * name) (f .before) 0 (λ e. omega arith)
-        ∙ getD-set-same points (3 * name) 1 0 (omega arith)
+    unfolding keptPoints stores Apart
+    kept-flag = stores-at all points (here (omega arith, (omega arith, tt))) (omega arith)
 
     pub kept-kept : NeverKept (keptPoints points name f) name → ⊥
     kept-kept e = omega (arith, kept-flag, e)
 
     kept-before : getD (keptPoints points name f) (3 * name + 1) 0 ≡ f .before
-    unfolding keptPoints
-    kept-before =
-        getD-set-other two (3 * name + 2) (3 * name + 1) (f .since) 0 (λ e. omega arith)
-        ∙ getD-set-same one (3 * name + 1) (f .before) 0 (omega (arith, one-length))
+    unfolding keptPoints stores Apart
+    kept-before = stores-at all points (later (here (omega arith, tt))) (omega arith)
 
     kept-since : getD (keptPoints points name f) (3 * name + 2) 0 ≡ f .since
-    unfolding keptPoints
-    kept-since = getD-set-same two (3 * name + 2) (f .since) 0 (omega (arith, two-length))
+    unfolding keptPoints stores Apart
+    kept-since = stores-at all points (later (later (here tt))) (omega arith)
 
     pub kept-point : pointAt (keptPoints points name f) name ≡ f
     unfolding pointAt

@@ -24,9 +24,10 @@ use Rattle.formats.proofs.Buffers.{buffer-long}
 use Rattle.formats.proofs.Front.{one-front}
 use Rattle.formats.proofs.ReadBack.{reads-agree}
 use Rattle.formats.proofs.ReadRules.{reads-at-least, reads-strong}
-use Rattle.promises.specs.declared.Reduced.{Reduced}
-use Rattle.promises.specs.declared.Reduced.the-variants.{Rule as Is-rule, Refused}
-use Rattle.promises.specs.Reduce.{mapSize, reduceChecks, reducedVerdict, ruleOf, ReducedTo, ReducePromise}
+use Rattle.promises.specs.declared.Written.{Written}
+use Rattle.promises.specs.declared.Written.the-variants.{Rule as Is-rule, Refused}
+use Rattle.promises.specs.Answers.{writtenVerdict}
+use Rattle.promises.specs.Reduce.{mapSize, reduceChecks, ruleOf, ReducedTo, ReducePromise}
 use Rattle.promises.specs.Printed.{Prints, Printed}
 use Rattle.promises.specs.PrintTheorem.{PrintTheorem}
 use Rattle.promises.proofs.OneReduction.{reduce-single}
@@ -87,10 +88,10 @@ module _ (bytes : List ℕ) (checks : FirstFailure (ruleChecks 1 bytes) passed) 
       (passed-before (checkedChecks 1 bytes entry) _ (buffer-long room checks)
       (first-passes (record { nowhere = λ place f. f .weak strong }) none-left)))
 
-  pub strong-printed : (answer : Reduced) → ReducePromise bytes out out′ map map′ entry exit answer → Printed bytes out out′ answer
+  pub strong-printed : (answer : Written) → ReducePromise bytes out out′ map map′ entry exit answer → Printed bytes out out′ answer
   strong-printed answer promise = printed answer promise (one-verdict (reduce-single bytes out map entry) (promise .refusal) strong-passes)
     where
-      printed : (answer : Reduced) → ReducePromise bytes out out′ map map′ entry exit answer → reducedVerdict answer ≡ passed → Printed bytes out out′ answer
+      printed : (answer : Written) → ReducePromise bytes out out′ map map′ entry exit answer → writtenVerdict answer ≡ passed → Printed bytes out out′ answer
       printed (Is-rule end) p e =
           let front = p .answered .written .front in
           record {
@@ -116,7 +117,7 @@ module _ {bytes file : List ℕ} (p : Prints bytes file) where
 
   module _ (out out′ map map′ entry exit : List ℕ) (long : ruleSize ≤ length out) (map-long : mapSize ≤ length map) (room : scratchSize ≤ length entry) where
     -- it is not refused, and the file is printed again
-    pub reduce-again : (answer : Reduced) → ReducePromise file out out′ map map′ entry exit answer → (answer ≡ Is-rule (length file)) × AtFront file out out′ (length file)
+    pub reduce-again : (answer : Written) → ReducePromise file out out′ map map′ entry exit answer → (answer ≡ Is-rule (length file)) × AtFront file out out′ (length file)
     reduce-again answer promise =
         let again = strong-printed file checks-pass print-strong out out′ map map′ entry exit long map-long room answer promise in
         subst (λ (f : List ℕ). (answer ≡ Is-rule (length f)) × AtFront f out out′ (length f)) (sym (print-again p (again .prints))) (again .length-is, again .front)

@@ -20,7 +20,7 @@ use Rattle.formats.specs.RuleFile.{lettersOf, morphismOf, markingOf}
 use Rattle.promises.specs.declared.Monitor.{Monitor}
 use Rattle.promises.specs.declared.Moved.the-variants.{Refused}
 use Rattle.promises.specs.declared.InPlaceAnswer.the-variants.{Done}
-use Rattle.promises.specs.declared.MonitorVerdict.the-variants.{Decided}
+use Rattle.promises.specs.declared.LassoVerdict.the-variants.{Decided}
 use Rattle.promises.specs.Stretch.{unread, stretchOf}
 use Rattle.promises.specs.Automaton.{automatonOf, TooManyMatricesAt}
 use Rattle.promises.specs.Complement.{ComplementMarks}

@@ -4,7 +4,7 @@ use Prim.Native.Nat.{ℕ, _≤_, _<_}
 use mathlib.Core.Path.{_≡_}
 use mathlib.Core.List.{List, [], _∷_, _++_}
 use Rattle.answer.specs.declared.Refusal.the-variants.{TooManyMatrices}
-use Rattle.answer.specs.Checks.{Check, Verdict, passed, refused, FirstFailure}
+use Rattle.answer.specs.Checks.{Check, FirstFailure}
 use Rattle.formats.specs.AutomatonFile.{statesOf, lettersOf, isInitial, isFinal, hasTransition}
 use Rattle.buchi.specs.Automata.{Automaton}
 use Rattle.buchi.specs.Rule.{MoreMatrices, MatricesOf, MarkedBy, AcceptsRuns}
@@ -17,8 +17,8 @@ use Rattle.formats.specs.Calls.{scratchLeft}
 use Rattle.formats.specs.AutomatonChecks.{readChecks}
 use Rattle.buchi.specs.Matrices.{Matrix}
 use Rattle.formats.specs.ReadBack.{WrittenRule}
-use Rattle.promises.specs.declared.Translated.{Translated}
-use Rattle.promises.specs.declared.Translated.the-variants.{Rule, Refused}
+use Rattle.promises.specs.declared.Written.{Written}
+use Rattle.promises.specs.Answers.{writtenVerdict, WrittenAnswer}
 
 -- states "plain, initial, final, both", letters, and transitions "(from, letter, to)", as the bytes have them
 abbrev pub automatonOf : List ℕ → Automaton
@@ -56,22 +56,12 @@ pub record RuleOf (bytes entry exit : List ℕ) (r : ℕ) : Type 0 where
   pub all-marked : MarksGrades morphism marks
   pub written : WrittenRule morphism marks entry exit r
 
--- document 01's number, input and place of an answer
-abbrev pub ruleVerdict : Translated → Verdict
-ruleVerdict (Rule end) = passed
-ruleVerdict (Refused refusal input place) = refused refusal input place
-
--- a refusal keeps every byte of out
-abbrev pub RuleAnswer : List ℕ → List ℕ → List ℕ → Translated → Type 0
-RuleAnswer bytes entry exit (Rule end) = RuleOf bytes entry exit end
-RuleAnswer bytes entry exit (Refused refusal input place) = exit ≡ entry
-
 -- "For an automaton: 13, 1 to 4, 8, 14"; 13 of both buffers
 abbrev pub translateChecks : List ℕ → List ℕ → List ℕ → List Check
 translateChecks bytes out scratch = bufferCheck ruleSize out ∷ (readChecks 1 bytes scratch ++ (matricesCheck bytes ∷ []))
 
 -- scratch as every call leaves it
-pub record RulePromise (bytes out-entry out-exit entry exit : List ℕ) (answer : Translated) : Type 0 where
-  pub refusal : FirstFailure (translateChecks bytes out-entry entry) (ruleVerdict answer)
-  pub answered : RuleAnswer bytes out-entry out-exit answer
+pub record RulePromise (bytes out-entry out-exit entry exit : List ℕ) (answer : Written) : Type 0 where
+  pub refusal : FirstFailure (translateChecks bytes out-entry entry) (writtenVerdict answer)
+  pub answered : WrittenAnswer (RuleOf bytes out-entry out-exit) out-entry out-exit answer
   pub scratch : exit ≡ scratchLeft ruleSize out-entry entry

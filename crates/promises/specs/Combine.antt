@@ -3,7 +3,7 @@ use Prim.Native.Nat.{ℕ, _-_, min, max}
 use mathlib.Core.Path.{_≡_}
 use mathlib.Core.List.{List, [], _∷_, _++_}
 use Rattle.answer.specs.declared.Refusal.the-variants.{LettersDiffer, TooManyPairs}
-use Rattle.answer.specs.Checks.{Check, Verdict, passed, refused, FirstFailure}
+use Rattle.answer.specs.Checks.{Check, FirstFailure}
 use Rattle.theory.specs.Words.{Lasso}
 use Rattle.theory.specs.Rules.{Rule}
 use Rattle.theory.specs.Grades.{Graded, RuleStrong}
@@ -17,8 +17,8 @@ use Rattle.formats.specs.ReadBack.{WrittenRule}
 use Rattle.promises.specs.Weak.{weakCheck}
 use Rattle.promises.specs.declared.Operation.{Operation}
 use Rattle.promises.specs.declared.Operation.the-variants.{Both, Either, Without}
-use Rattle.promises.specs.declared.Combined.{Combined}
-use Rattle.promises.specs.declared.Combined.the-variants.{Rule as Is-rule, Refused}
+use Rattle.promises.specs.declared.Written.{Written}
+use Rattle.promises.specs.Answers.{writtenVerdict, WrittenAnswer}
 
 -- "both is the lower grade, either the higher, without the lower of the first and the second's complement", which "turns g into 3 − g" (Job 12)
 unfoldable pub combinedGrade : Operation → ℕ → ℕ → ℕ
@@ -50,11 +50,6 @@ pairChecks first second = lettersCheck first second ∷ weakCheck 1 first ∷ we
 abbrev pub combineChecks : List ℕ → List ℕ → List ℕ → List ℕ → List Check
 combineChecks first second out scratch = bufferCheck ruleSize out ∷ (checkedChecks 1 first scratch ++ (ruleChecks 2 second ++ pairChecks first second))
 
--- document 01's number, input and place of an answer
-abbrev pub combinedVerdict : Combined → Verdict
-combinedVerdict (Is-rule end) = passed
-combinedVerdict (Refused refusal input place) = refused refusal input place
-
 -- the rule of the pairs was written, whole, "numbered as in Job 3": each lasso, whatever its length, has the combined grade; "the result is strong"
 -- and "marks every linked pair whose lassos it grades 1 or more, with that grade" (Job 12)
 pub record CombinedTo (first second : List ℕ) (operation : Operation) (before after : List ℕ) (end : ℕ) : Type 0 where
@@ -69,13 +64,8 @@ pub record CombinedTo (first second : List ℕ) (operation : Operation) (before 
   pub marks : MarksGrades (rule .morphism) (rule .marks)
   pub written : WrittenRule (rule .morphism) (rule .marks) before after end
 
--- a refusal keeps every byte of out
-abbrev pub CombinedAnswer : List ℕ → List ℕ → Operation → List ℕ → List ℕ → Combined → Type 0
-CombinedAnswer first second operation before after (Is-rule end) = CombinedTo first second operation before after end
-CombinedAnswer first second operation before after (Refused refusal input place) = after ≡ before
-
 -- scratch as every call leaves it
-pub record CombinePromise (first second : List ℕ) (operation : Operation) (before after entry exit : List ℕ) (answer : Combined) : Type 0 where
-  pub refusal : FirstFailure (combineChecks first second before entry) (combinedVerdict answer)
-  pub answered : CombinedAnswer first second operation before after answer
+pub record CombinePromise (first second : List ℕ) (operation : Operation) (before after entry exit : List ℕ) (answer : Written) : Type 0 where
+  pub refusal : FirstFailure (combineChecks first second before entry) (writtenVerdict answer)
+  pub answered : WrittenAnswer (CombinedTo first second operation before after) before after answer
   pub scratch : exit ≡ scratchLeft ruleSize before entry

@@ -8,14 +8,14 @@ use Rattle.theory.specs.Rules.{Morphism, Marking, level}
 use Rattle.theory.specs.Pairs.{LinkedOnly}
 use Rattle.theory.specs.Grades.{AtLeast, StrongMarking}
 use Rattle.theory.specs.Smallest.{Complement}
-use Rattle.answer.specs.Checks.{Check, Verdict, passed, refused, FirstFailure}
+use Rattle.answer.specs.Checks.{Check, FirstFailure}
 use Rattle.formats.specs.RuleFile.{morphismOf, markingOf}
 use Rattle.formats.specs.RuleChecks.{ruleSize, bufferCheck}
 use Rattle.formats.specs.Calls.{checkedChecks, scratchLeft}
 use Rattle.formats.specs.ReadBack.{WrittenRule}
 use Rattle.promises.specs.Weak.{weakCheck}
-use Rattle.promises.specs.declared.Complemented.{Complemented}
-use Rattle.promises.specs.declared.Complemented.the-variants.{Rule, Refused}
+use Rattle.promises.specs.declared.Written.{Written}
+use Rattle.promises.specs.Answers.{writtenVerdict, WrittenAnswer}
 
 -- marks of the complement: they are strong, on linked pairs only, and, for each least grade g from 1 to 3, "in the complement, those of
 -- 4 − g or more are the rest"
@@ -29,24 +29,14 @@ pub record ComplementMarks (m : Morphism) (marks marks′ : Marking) : Type 0 wh
 abbrev pub complementChecks : List ℕ → List ℕ → List ℕ → List Check
 complementChecks bytes out scratch = bufferCheck ruleSize out ∷ (checkedChecks 1 bytes scratch ++ (weakCheck 1 bytes ∷ []))
 
--- document 01's number, input and place of an answer
-abbrev pub complementVerdict : Complemented → Verdict
-complementVerdict (Rule end) = passed
-complementVerdict (Refused refusal input place) = refused refusal input place
-
 -- "same elements and numbering"; "Complement turns g into 3 − g", and the file of that rule was written, its marks by s, then by e
 pub record ComplementWritten (bytes entry exit : List ℕ) (r : ℕ) : Type 0 where
   pub marks : Marking
   pub is-complement : ComplementMarks (morphismOf bytes) (markingOf bytes) marks
   pub written : WrittenRule (morphismOf bytes) marks entry exit r
 
--- a refusal keeps every byte of out
-abbrev pub ComplementAnswer : List ℕ → List ℕ → List ℕ → Complemented → Type 0
-ComplementAnswer bytes entry exit (Rule end) = ComplementWritten bytes entry exit end
-ComplementAnswer bytes entry exit (Refused refusal input place) = exit ≡ entry
-
 -- scratch as every call leaves it
-pub record ComplementPromise (bytes out-entry out-exit entry exit : List ℕ) (answer : Complemented) : Type 0 where
-  pub refusal : FirstFailure (complementChecks bytes out-entry entry) (complementVerdict answer)
-  pub answered : ComplementAnswer bytes out-entry out-exit answer
+pub record ComplementPromise (bytes out-entry out-exit entry exit : List ℕ) (answer : Written) : Type 0 where
+  pub refusal : FirstFailure (complementChecks bytes out-entry entry) (writtenVerdict answer)
+  pub answered : WrittenAnswer (ComplementWritten bytes out-entry out-exit) out-entry out-exit answer
   pub scratch : exit ≡ scratchLeft ruleSize out-entry entry

@@ -11,7 +11,7 @@ use Rattle.theory.specs.Smallest.{SameGrades, Renumbered}
 use Rattle.formats.specs.RuleFile.{elementsOf, lettersOf, morphismOf, markingOf}
 use Rattle.formats.specs.RuleChecks.{ruleChecks, scratchSize}
 use Rattle.formats.specs.Front.{AtFront}
-use Rattle.promises.specs.declared.Reduced.the-variants.{Rule as Is-rule}
+use Rattle.promises.specs.declared.Written.the-variants.{Rule as Is-rule}
 use Rattle.promises.specs.declared.Confirmation.{Confirmation}
 use Rattle.promises.specs.declared.Confirmation.the-variants.{Yes, No}
 use Rattle.promises.specs.Reduce.{ruleOf, ReducedTo, ReducePromise}

@@ -1,3 +1,4 @@
+pub mod Answers
 pub mod Automaton
 pub mod Classes
 pub mod Complement

@@ -4,24 +4,20 @@ use Prim.Native.Nat.{ℕ}
 use mathlib.Core.Path.{_≡_}
 use mathlib.Core.List.{List}
 use Rattle.promises.specs.declared.Inspected.{Inspected}
-use Rattle.promises.specs.declared.Membership.{Membership}
+use Rattle.promises.specs.declared.LassoVerdict.{LassoVerdict}
 use Rattle.promises.specs.declared.Listed.{Listed}
 use Rattle.promises.specs.declared.Strength.{Strength}
-use Rattle.promises.specs.declared.Complemented.{Complemented}
+use Rattle.promises.specs.declared.Written.{Written}
 use Rattle.promises.specs.declared.Inclusion.{Inclusion}
 use Rattle.promises.specs.declared.Inclusion.the-variants.{NotIncluded}
-use Rattle.promises.specs.declared.Reduced.{Reduced}
 use Rattle.promises.specs.declared.Confirmation.{Confirmation}
 use Rattle.promises.specs.declared.Operation.{Operation}
-use Rattle.promises.specs.declared.Combined.{Combined}
 use Rattle.promises.specs.declared.Partition.{Partition}
-use Rattle.promises.specs.declared.Translated.{Translated}
 use Rattle.promises.specs.declared.StateKind.{StateKind}
 use Rattle.promises.specs.declared.SuccessorList.{SuccessorList}
 use Rattle.promises.specs.declared.Monitor.{Monitor}
 use Rattle.promises.specs.declared.Moved.{Moved}
 use Rattle.promises.specs.declared.InPlaceAnswer.{InPlaceAnswer}
-use Rattle.promises.specs.declared.MonitorVerdict.{MonitorVerdict}
 use Rattle.promises.specs.declared.Step.{Step}
 use Rattle.promises.specs.declared.Advanced.{Advanced}
 use Rattle.promises.specs.declared.Summary.{Summary}
@@ -60,21 +56,21 @@ TwoLists = List ℕ × List ℕ
 -- for each call
 pub record OneAnswers : Type 0 where
   pub inspect : (bytes entry : List ℕ) → OneAnswer (λ (exit : List ℕ) (answer : Inspected). InspectPromise bytes entry exit answer)
-  pub member : (bytes u v entry : List ℕ) → OneAnswer (λ (exit : List ℕ) (answer : Membership). MemberPromise bytes u v entry exit answer)
+  pub member : (bytes u v entry : List ℕ) → OneAnswer (λ (exit : List ℕ) (answer : LassoVerdict). MemberPromise bytes u v entry exit answer)
   pub list-classes : (bytes out entry : List ℕ) → OneAnswer (λ (left : TwoLists) (answer : Listed). ListPromise bytes out (left .0) entry (left .1) answer)
   pub strong : (bytes entry : List ℕ) → OneAnswer (λ (exit : List ℕ) (answer : Strength). StrongPromise bytes entry exit answer)
-  pub complement : (bytes out entry : List ℕ) → OneAnswer (λ (left : TwoLists) (answer : Complemented). ComplementPromise bytes out (left .0) entry (left .1) answer)
+  pub complement : (bytes out entry : List ℕ) → OneAnswer (λ (left : TwoLists) (answer : Written). ComplementPromise bytes out (left .0) entry (left .1) answer)
   pub included : (bytes second u u-exit u-exit′ v v-exit v-exit′ entry exit exit′ : List ℕ) (answer answer′ : Inclusion)
       → InclusionPromise bytes second u u-exit v v-exit entry exit answer → InclusionPromise bytes second u u-exit′ v v-exit′ entry exit′ answer′
       → Agree u-exit u-exit′ v-exit v-exit′ answer answer′ × (exit ≡ exit′)
   pub reduce : (bytes out map entry : List ℕ)
-      → OneAnswer (λ (left : List ℕ × TwoLists) (answer : Reduced). ReducePromise bytes out (left .0) map (left .1 .0) entry (left .1 .1) answer)
+      → OneAnswer (λ (left : List ℕ × TwoLists) (answer : Written). ReducePromise bytes out (left .0) map (left .1 .0) entry (left .1 .1) answer)
   pub confirm : (first second map entry : List ℕ) → OneAnswer (λ (exit : List ℕ) (answer : Confirmation). ConfirmPromise first second map entry exit answer)
   pub combine : (first second : List ℕ) (operation : Operation) (out entry : List ℕ)
-      → OneAnswer (λ (left : TwoLists) (answer : Combined). CombinePromise first second operation out (left .0) entry (left .1) answer)
+      → OneAnswer (λ (left : TwoLists) (answer : Written). CombinePromise first second operation out (left .0) entry (left .1) answer)
   pub reduce-rounds : (bytes : List ℕ) (limit : ℕ) (blocks entry : List ℕ)
       → OneAnswer (λ (left : TwoLists) (answer : Partition). RoundsPromise bytes limit blocks (left .0) entry (left .1) answer)
-  pub automaton-rule : (bytes out entry : List ℕ) → OneAnswer (λ (left : TwoLists) (answer : Translated). RulePromise bytes out (left .0) entry (left .1) answer)
+  pub automaton-rule : (bytes out entry : List ℕ) → OneAnswer (λ (left : TwoLists) (answer : Written). RulePromise bytes out (left .0) entry (left .1) answer)
   pub state-kind : (bytes : List ℕ) (s e least : ℕ) (entry : List ℕ) → OneAnswer (λ (exit : List ℕ) (answer : StateKind). KindPromise bytes s e least entry exit answer)
   pub successors : (bytes : List ℕ) (s e letter : ℕ) (out entry : List ℕ)
       → OneAnswer (λ (left : TwoLists) (answer : SuccessorList). SuccessorsPromise bytes s e letter out (left .0) entry (left .1) answer)
@@ -86,7 +82,7 @@ pub record OneAnswers : Type 0 where
       → OneAnswer (λ (left : TwoLists) (answer : Moved). KeepPromise bytes f name points (left .0) entry (left .1) answer)
   pub return-to : (bytes : List ℕ) (f : Monitor) (name : ℕ) (points entry : List ℕ)
       → OneAnswer (λ (exit : List ℕ) (answer : Moved). ReturnPromise bytes f name points entry exit answer)
-  pub verdict : (bytes : List ℕ) (f : Monitor) (entry : List ℕ) → OneAnswer (λ (exit : List ℕ) (answer : MonitorVerdict). VerdictPromise bytes f entry exit answer)
+  pub verdict : (bytes : List ℕ) (f : Monitor) (entry : List ℕ) → OneAnswer (λ (exit : List ℕ) (answer : LassoVerdict). VerdictPromise bytes f entry exit answer)
   pub advance : (input : ℕ) (bytes : List ℕ) (f : Monitor) (step : Step) (entry : List ℕ)
       → OneAnswer (λ (exit : List ℕ) (answer : Advanced). AdvancePromise input bytes f step entry exit answer)
   pub summarize : (bytes work entry : List ℕ) → OneAnswer (λ (left : TwoLists) (answer : Summary). SummaryPromise bytes work (left .0) entry (left .1) answer)

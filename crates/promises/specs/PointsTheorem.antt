@@ -13,8 +13,8 @@ use Rattle.promises.specs.declared.Monitor.{Monitor}
 use Rattle.promises.specs.declared.Moved.{Moved}
 use Rattle.promises.specs.declared.Moved.the-variants.{To, Refused}
 use Rattle.promises.specs.declared.InPlaceAnswer.{InPlaceAnswer}
-use Rattle.promises.specs.declared.MonitorVerdict.{MonitorVerdict}
-use Rattle.promises.specs.declared.MonitorVerdict.the-variants.{Decided}
+use Rattle.promises.specs.declared.LassoVerdict.{LassoVerdict}
+use Rattle.promises.specs.declared.LassoVerdict.the-variants.{Decided}
 use Rattle.promises.specs.Monitor.{freshMonitor}
 use Rattle.promises.specs.Moves.{EventPromise, MarkPromise}
 use Rattle.promises.specs.InPlace.{EventInPlace}
@@ -47,7 +47,7 @@ pub record PointsTheorem : Type 0 where
       → (name : ℕ) (entry exit : List ℕ) → ReturnPromise bytes f name points entry exit (To g) → (past : List Action) × (names name ≡ stored past)
   -- asked with any scratch that is long enough, of the monitor and of one that saw the history alone
   pub verdict : (bytes : List ℕ) (f g : Monitor) (points : List ℕ) (history : List Action) (names : ℕ → Stored) → Log bytes f points history names → Run bytes g history
-      → (entry entry′ exit exit′ : List ℕ) (answer answer′ : MonitorVerdict) → scratchSize ≤ length entry → scratchSize ≤ length entry′
+      → (entry entry′ exit exit′ : List ℕ) (answer answer′ : LassoVerdict) → scratchSize ≤ length entry → scratchSize ≤ length entry′
       → VerdictPromise bytes f entry exit answer → VerdictPromise bytes g entry′ exit′ answer′ → answer ≡ answer′
   pub graded : (bytes : List ℕ) (f : Monitor) (points : List ℕ) (history : List Action) (names : ℕ → Stored) → Log bytes f points history names
       → (entry exit : List ℕ) (grade turns : ℕ) → VerdictPromise bytes f entry exit (Decided grade turns)

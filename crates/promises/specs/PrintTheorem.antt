@@ -12,8 +12,8 @@ use Rattle.theory.specs.Smallest.{SameGrades}
 use Rattle.formats.specs.RuleFile.{morphismOf, markingOf}
 use Rattle.formats.specs.RuleChecks.{ruleChecks, ruleSize, scratchSize}
 use Rattle.formats.specs.Front.{AtFront}
-use Rattle.promises.specs.declared.Reduced.{Reduced}
-use Rattle.promises.specs.declared.Reduced.the-variants.{Rule as Is-rule}
+use Rattle.promises.specs.declared.Written.{Written}
+use Rattle.promises.specs.declared.Written.the-variants.{Rule as Is-rule}
 use Rattle.promises.specs.Reduce.{mapSize, ruleOf, ReducePromise}
 use Rattle.promises.specs.Printed.{Prints, Printed}
 
@@ -23,7 +23,7 @@ pub record PrintTheorem : Type 0 where
   -- of a strong rule that passes the checks, with buffers that are long enough, whatever answer the promise allows
   pub printed : (bytes : List ℕ) → FirstFailure (ruleChecks 1 bytes) passed → StrongMarking (morphismOf bytes) (markingOf bytes)
       → (out out′ map map′ entry exit : List ℕ) → ruleSize ≤ length out → mapSize ≤ length map → scratchSize ≤ length entry
-      → (answer : Reduced) → ReducePromise bytes out out′ map map′ entry exit answer → Printed bytes out out′ answer
+      → (answer : Written) → ReducePromise bytes out out′ map map′ entry exit answer → Printed bytes out out′ answer
   pub again : (bytes file : List ℕ) → Prints bytes file → (out out′ map map′ entry exit : List ℕ) → ruleSize ≤ length out → mapSize ≤ length map
-      → scratchSize ≤ length entry → (answer : Reduced) → ReducePromise file out out′ map map′ entry exit answer
+      → scratchSize ≤ length entry → (answer : Written) → ReducePromise file out out′ map map′ entry exit answer
       → (answer ≡ Is-rule (length file)) × AtFront file out out′ (length file)

@@ -4,8 +4,8 @@ use mathlib.Core.Path.{_≡_}
 use mathlib.Core.List.{List}
 use lib.ListN.{length}
 use Rattle.formats.specs.Front.{AtFront}
-use Rattle.promises.specs.declared.Reduced.{Reduced}
-use Rattle.promises.specs.declared.Reduced.the-variants.{Rule as Is-rule}
+use Rattle.promises.specs.declared.Written.{Written}
+use Rattle.promises.specs.declared.Written.the-variants.{Rule as Is-rule}
 use Rattle.promises.specs.Reduce.{ReducePromise}
 
 -- some buffers, and an answer that the promise of `reduce` allows for them: the file stands at the front of out
@@ -21,7 +21,7 @@ pub record Prints (bytes file : List ℕ) : Type 0 where
   pub printed : AtFront file before after end
 
 -- an answer is no refusal, and says how long the file at the front of out is, which is what `reduce` prints
-pub record Printed (bytes before after : List ℕ) (answer : Reduced) : Type 0 where
+pub record Printed (bytes before after : List ℕ) (answer : Written) : Type 0 where
   pub file : List ℕ
   pub length-is : answer ≡ Is-rule (length file)
   pub front : AtFront file before after (length file)

@@ -5,7 +5,7 @@ use mathlib.Core.Bool.{cond}
 use mathlib.Core.List.{List, [], _∷_, _++_}
 use lib.ListN.{length, getD}
 use lib.Dec.{ltb}
-use Rattle.answer.specs.Checks.{Check, Verdict, passed, refused, FirstFailure}
+use Rattle.answer.specs.Checks.{Check, FirstFailure}
 use Rattle.theory.specs.Rules.{Rule, Lawful}
 use Rattle.theory.specs.Maps.{MapsOnto}
 use Rattle.theory.specs.Smallest.{Reduction}
@@ -16,8 +16,9 @@ use Rattle.formats.specs.Calls.{checkedChecks, scratchLeft}
 use Rattle.formats.specs.Front.{AtFront}
 use Rattle.formats.specs.ReadBack.{WrittenRule}
 use Rattle.promises.specs.Weak.{weakCheck}
-use Rattle.promises.specs.declared.Reduced.{Reduced}
-use Rattle.promises.specs.declared.Reduced.the-variants.{Rule as Is-rule, Refused}
+use Rattle.promises.specs.declared.Written.{Written}
+use Rattle.promises.specs.declared.Written.the-variants.{Rule as Is-rule, Refused}
+use Rattle.promises.specs.Answers.{writtenVerdict}
 
 -- "Our reducer now hands out its map too, in a lent 64 bytes" (Job 13)
 abbrev pub mapSize : ℕ
@@ -26,11 +27,6 @@ mapSize = 64
 -- "First 13", of every buffer, then the rule's own checks, then 12
 abbrev pub reduceChecks : List ℕ → List ℕ → List ℕ → List ℕ → List Check
 reduceChecks bytes out map scratch = bufferCheck ruleSize out ∷ bufferCheck mapSize map ∷ (checkedChecks 1 bytes scratch ++ weakCheck 1 bytes ∷ [])
-
--- document 01's number, input and place of an answer
-abbrev pub reducedVerdict : Reduced → Verdict
-reducedVerdict (Is-rule end) = passed
-reducedVerdict (Refused refusal input place) = refused refusal input place
 
 -- the rule that a file means, where its table is lawful
 abbrev pub ruleOf : (bytes : List ℕ) → Lawful (morphismOf bytes) → Rule
@@ -53,7 +49,7 @@ pub record ReductionKept (before after map-before map-after : List ℕ) : Type 0
   pub out-kept : after ≡ before
   pub map-kept : map-after ≡ map-before
 
-abbrev pub ReducedAnswer : List ℕ → List ℕ → List ℕ → List ℕ → List ℕ → Reduced → Type 0
+abbrev pub ReducedAnswer : List ℕ → List ℕ → List ℕ → List ℕ → List ℕ → Written → Type 0
 ReducedAnswer bytes before after map-before map-after (Is-rule end) = ReducedTo bytes before after map-before map-after end
 ReducedAnswer bytes before after map-before map-after (Refused refusal input place) = ReductionKept before after map-before map-after
 
@@ -61,7 +57,7 @@ ReducedAnswer bytes before after map-before map-after (Refused refusal input pla
 abbrev pub reduceLeft : List ℕ → List ℕ → List ℕ → List ℕ
 reduceLeft out map scratch = cond (ltb (length out) ruleSize) scratch (scratchLeft mapSize map scratch)
 
-pub record ReducePromise (bytes before after map-before map-after entry exit : List ℕ) (answer : Reduced) : Type 0 where
-  pub refusal : FirstFailure (reduceChecks bytes before map-before entry) (reducedVerdict answer)
+pub record ReducePromise (bytes before after map-before map-after entry exit : List ℕ) (answer : Written) : Type 0 where
+  pub refusal : FirstFailure (reduceChecks bytes before map-before entry) (writtenVerdict answer)
   pub answered : ReducedAnswer bytes before after map-before map-after answer
   pub scratch : exit ≡ reduceLeft before map-before entry

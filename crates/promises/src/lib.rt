@@ -49,8 +49,8 @@ pub enum Strength {
     },
 }
 
-// The number of bytes that were written.
-pub enum Complemented {
+// A rule that a call wrote, by the number of its bytes.
+pub enum Written {
     Rule(usize),
     Refused {
         refusal: Refusal,
@@ -58,6 +58,11 @@ pub enum Complemented {
         place: usize,
     },
 }
+
+// The bytes of u and v that included asks for, as specs/Inclusion has them.
+pub const START_SIZE: usize = 64;
+
+pub const CYCLE_SIZE: usize = 4224;
 
 pub enum Inclusion {
     Included,
@@ -65,16 +70,6 @@ pub enum Inclusion {
         u: usize,
         v: usize,
     },
-    Refused {
-        refusal: Refusal,
-        input: usize,
-        place: usize,
-    },
-}
-
-// A reduced rule's length, or a refusal.
-pub enum Reduced {
-    Rule(usize),
     Refused {
         refusal: Refusal,
         input: usize,
@@ -92,16 +87,6 @@ pub enum Operation {
     Both,
     Either,
     Without,
-}
-
-// The number of bytes that were written.
-pub enum Combined {
-    Rule(usize),
-    Refused {
-        refusal: Refusal,
-        input: usize,
-        place: usize,
-    },
 }
 
 // The bytes of the map that reduce hands out, as specs/Reduce has them.
@@ -124,16 +109,6 @@ pub enum Partition {
         rounds: usize,
         finished: bool,
     },
-    Refused {
-        refusal: Refusal,
-        input: usize,
-        place: usize,
-    },
-}
-
-// The number of bytes that were written.
-pub enum Translated {
-    Rule(usize),
     Refused {
         refusal: Refusal,
         input: usize,
@@ -166,8 +141,9 @@ pub enum SuccessorList {
     },
 }
 
-// The grade of the lasso, 0 to 3, and how many turns of v together have a value that repeating no longer changes.
-pub enum Membership {
+// The grade of a lasso, or of the lassos with a monitor's values, 0 to 3, and how many turns of its cycle together have a value that repeating no
+// longer changes.
+pub enum LassoVerdict {
     Decided {
         grade: usize,
         turns: usize,
@@ -221,19 +197,6 @@ pub enum Advanced {
 // What a call that is lent a monitor answers: the monitor has moved, or the refusal.
 pub enum InPlaceAnswer {
     Done,
-    Refused {
-        refusal: Refusal,
-        input: usize,
-        place: usize,
-    },
-}
-
-// The grade of the lassos with a monitor's values, and the same number of turns for the value of since.
-pub enum MonitorVerdict {
-    Decided {
-        grade: usize,
-        turns: usize,
-    },
     Refused {
         refusal: Refusal,
         input: usize,

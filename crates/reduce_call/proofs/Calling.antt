@@ -24,7 +24,7 @@ use Rattle.formats.proofs.GoodRule.{graded-marks, GoodRule, called-good}
 use Rattle.rule_check.proofs.Calls.{shape-morphism}
 use Rattle.mark_strong.specs.Deciding.{StrongIf, Decided}
 use Rattle.mark_strong.proofs.Calling.{checked-lawful, checked-reached, decided-file, decided-strong, closure-stands, decided-room, decided-left}
-use Rattle.promises.specs.declared.Reduced.the-variants.{Rule as Is-rule, Refused}
+use Rattle.promises.specs.declared.Written.the-variants.{Rule as Is-rule, Refused}
 use Rattle.reduce_output.specs.Steps.{ReduceNeeds, ReducedWritten}
 use Rattle.promises.specs.Reduce.{mapSize, ruleOf, ReducedTo, reduceLeft, ReducePromise}
 use Rattle.promises.proofs.ReduceOrder.{file-first, weak-last, none-fails}

@@ -6,7 +6,7 @@ use answer::Refusal;
 use formats::RULE_SIZE;
 use mark_strong::decide;
 use promises::MAP_SIZE;
-use promises::Reduced;
+use promises::Written;
 use reduce_output::write_reduced;
 use rule_check::Checked;
 use rule_check::check;
@@ -15,18 +15,18 @@ ghost use Rattle.promises.specs.Reduce.{ReducePromise};
 
 // Checks a rule and writes its reduction, with the map of its elements to those of the reduction, or refuses it. Scratch ends as zeros, but
 // where a buffer is too short.
-pub fn reduce(rule: &[u8], out: &mut [u8], map: &mut [u8], scratch: &mut [u8]) -> Reduced
+pub fn reduce(rule: &[u8], out: &mut [u8], map: &mut [u8], scratch: &mut [u8]) -> Written
     ensures { λ r. ⌜ ReducePromise (now (rule .entry)) (now (out .entry)) (now (out .exit)) (now (map .entry)) (now (map .exit)) (now (scratch .entry)) (now (scratch .exit)) r ⌝ }
 {
     if out.len() < RULE_SIZE {
-        return Reduced::Refused {
+        return Written::Refused {
             refusal: Refusal::BufferTooShort,
             input: 1,
             place: 0,
         };
     }
     if map.len() < MAP_SIZE {
-        return Reduced::Refused {
+        return Written::Refused {
             refusal: Refusal::BufferTooShort,
             input: 1,
             place: 0,
@@ -39,7 +39,7 @@ pub fn reduce(rule: &[u8], out: &mut [u8], map: &mut [u8], scratch: &mut [u8]) -
             input,
             place,
         } => {
-            return Reduced::Refused {
+            return Written::Refused {
                 refusal,
                 input,
                 place,
@@ -49,7 +49,7 @@ pub fn reduce(rule: &[u8], out: &mut [u8], map: &mut [u8], scratch: &mut [u8]) -
     let strong = decide(rule, shape.elements, shape.letters, scratch);
     if !strong {
         zero(scratch);
-        return Reduced::Refused {
+        return Written::Refused {
             refusal: Refusal::NotStrong,
             input: 1,
             place: 0,
@@ -57,5 +57,5 @@ pub fn reduce(rule: &[u8], out: &mut [u8], map: &mut [u8], scratch: &mut [u8]) -
     }
     let length = write_reduced(rule, shape.elements, shape.letters, scratch, out, map);
     zero(scratch);
-    Reduced::Rule(length)
+    Written::Rule(length)
 }

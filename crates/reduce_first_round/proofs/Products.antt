@@ -10,17 +10,11 @@ use native.Mathlib.Decide.{ℕ-discrete}
 use lib.ListN.{getD}
 use Rattle.scratch.specs.Map.{blocksBase}
 use Rattle.theory.specs.Rules.{Morphism}
-use Rattle.formats.proofs.Tables.{Table}
-use Rattle.formats.specs.Table.{imageAt}
 use Rattle.theory.specs.Rounds.{StillTogether}
 use Rattle.reduce_first_round.specs.Map.{InOneBlock}
 use Rattle.finite.specs.Tells.{Tells}
 use Rattle.finite.proofs.Tells.{told-yes, told-no}
 use Rattle.reduce_first_round.specs.Steps.{ProductsTogether}
-
--- the element of a letter
-pub letter-below : {bytes : List ℕ} {n k a h : ℕ} → Table bytes n k → a < k → h ≡ imageAt bytes n a → h < n
-letter-below {a = a} table letter e = rw e (table .images a letter)
 
 -- products with one letter, by the numbers that the code has
 module _ (scratch : List ℕ) {m : Morphism} {s t a h p q : ℕ} (eh : h ≡ m .image a) where

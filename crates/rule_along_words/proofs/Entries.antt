@@ -11,15 +11,11 @@ use Rattle.finite.proofs.Numbers.{le-or-lt}
 use Rattle.finite.proofs.FirstWords.{sooner-parent}
 use Rattle.theory.specs.Rules.{element, join}
 use Rattle.theory.proofs.Values.{element-apart, element-same}
-use Rattle.formats.proofs.Tables.{Table}
+use Rattle.formats.proofs.Tables.{Table, image-below}
 use Rattle.formats.specs.Table.{imageAt}
 use Rattle.rule_reach.specs.Reach.{entryAt, parentAt, placeAt, wordStep}
 use Rattle.rule_letter_columns.specs.Columns.{AllFound, LetterEntries, Column, LetterColumns}
 use Rattle.rule_letter_columns.proofs.Entries.{letter-small, letters-few}
-
--- a letter's element is an element
-image-below : {bytes : List ℕ} {n k a h : ℕ} → Table bytes n k → a < k → h ≡ imageAt bytes n a → h < n
-image-below {a = a} t l e = rw e (t .images a l)
 
 -- a letter's element, as one of the first entries
 pub record LetterEntry (bytes : List ℕ) (n : ℕ) (queue : List ℕ) (letters a : ℕ) : Type 0 where

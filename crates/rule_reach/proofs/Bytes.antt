@@ -9,7 +9,7 @@ use native.Mathlib.Numerals.{add-one}
 use native.Mathlib.Decide.{ℕ-discrete}
 use borrow.Author.Count.{below-more}
 use lib.ListN.{length, getD, set, length-set}
-use lib.Seq.{getD-set-same, getD-set-other}
+use Rattle.finite.proofs.Stores.{done, put, stores, Apart, here, later, stores-length, stores-other, stores-at}
 use Rattle.finite.proofs.Pigeonhole.{injection-le, update, update-cases, update-apart}
 use Rattle.finite.proofs.Worklist.{Entry}
 use Rattle.theory.specs.Rules.{element}
@@ -24,24 +24,16 @@ use Rattle.rule_reach.proofs.Order.{Extends, Newest}
 -- the four stores of a new entry
 stored : (queue : List ℕ) (count s from letter : ℕ) → 256 ≤ length queue → count < 64 → s < 64
     → Stored queue (set (set (set (set queue count s) (64 + count) from) (128 + count) letter) (192 + s) (count + 1)) count s from letter
+unfolding stores Apart
 stored queue count s from letter room hc hs =
-    let e₁ : count ≢ 64 + count = omega arith in
-    let e₂ : count ≢ 128 + count = omega arith in
-    let e₃ : count ≢ 192 + s = omega arith in
-    let p₁ : 64 + count ≢ 128 + count = omega arith in
-    let p₂ : 64 + count ≢ 192 + s = omega arith in
-    let a₁ : 128 + count ≢ 192 + s = omega arith in
-    let l₁ : count < length queue = omega arith in
-    let l₂ : 64 + count < length (set queue count s) = simp length-set (omega arith) in
-    let l₃ : 128 + count < length (set (set queue count s) (64 + count) from) = simp length-set (omega arith) in
-    let l₄ : 192 + s < length (set (set (set queue count s) (64 + count) from) (128 + count) letter) = simp length-set (omega arith) in
+    let all = put count s (put (64 + count) from (put (128 + count) letter (put (192 + s) (count + 1) done))) in
     record {
-      the-element = rw (getD-set-other, getD-set-other, getD-set-other, getD-set-same);
-      the-parent = rw (getD-set-other, getD-set-other, getD-set-same);
-      the-letter = rw (getD-set-other, getD-set-same);
-      the-place = rw getD-set-same;
-      other = λ i h₁ h₂ h₃ h₄. simp getD-set-other;
-      same-length = simp length-set;
+      the-element = stores-at all queue (here (omega arith, (omega arith, (omega arith, tt)))) (omega arith);
+      the-parent = stores-at all queue (later (here (omega arith, (omega arith, tt)))) (omega arith);
+      the-letter = stores-at all queue (later (later (here (omega arith, tt)))) (omega arith);
+      the-place = stores-at all queue (later (later (later (here tt)))) (omega arith);
+      other = λ i h₁ h₂ h₃ h₄. stores-other all queue i (h₁, (h₂, (h₃, (h₄, tt))));
+      same-length = stores-length all queue;
     }
 
 module _ {queue : List ℕ} {count s from letter : ℕ} where

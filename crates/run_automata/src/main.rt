@@ -1,16 +1,15 @@
 // Runs `rules::automaton_rule` over document 01's automata and over automata at the limit of 64 matrices, and writes a line for each.
+use rules::LassoVerdict;
 use rules::MAP_SIZE;
-use rules::Membership;
 use rules::RULE_SIZE;
-use rules::Reduced;
 use rules::SCRATCH_SIZE;
-use rules::Translated;
+use rules::Written;
 
-// How many bytes a translation wrote. For a refusal this writes its line, and answers 0.
-fn written(answer: Translated) -> usize {
+// How many bytes a call wrote. For a refusal this writes its line, and answers 0.
+fn written(answer: Written) -> usize {
     match answer {
-        Translated::Rule(length) => length,
-        Translated::Refused {
+        Written::Rule(length) => length,
+        Written::Refused {
             refusal,
             input,
             place,
@@ -34,21 +33,10 @@ fn rule_line(rule: &[u8]) {
     }
 }
 
-fn reduced_line(answer: Reduced, out: &[u8]) {
+fn member_line(answer: LassoVerdict) {
     match answer {
-        Reduced::Rule(length) => rule_line(example_text::front(out, length)),
-        Reduced::Refused {
-            refusal,
-            input,
-            place,
-        } => example_text::refused_line(rules::number(refusal), input, place),
-    }
-}
-
-fn member_line(answer: Membership) {
-    match answer {
-        Membership::Decided { grade, turns } => example_text::graded_line(grade, turns),
-        Membership::Refused {
+        LassoVerdict::Decided { grade, turns } => example_text::graded_line(grade, turns),
+        LassoVerdict::Refused {
             refusal,
             input,
             place,
@@ -59,7 +47,8 @@ fn member_line(answer: Membership) {
 fn reduce(rule: &[u8], scratch: &mut [u8]) {
     let mut out = [9u8; RULE_SIZE];
     let mut map = [9u8; MAP_SIZE];
-    reduced_line(rules::reduce(rule, &mut out, &mut map, scratch), &out);
+    let length = written(rules::reduce(rule, &mut out, &mut map, scratch));
+    rule_line(example_text::front(&out, length));
 }
 
 // Translates an automaton. The command says whether its rule is written, reduced, or asked for the lasso of letter 0.

@@ -6,7 +6,7 @@
 // The entry of word w for the states p and q is at 36 · w + 6 · p + q.
 use rules::RULE_SIZE;
 use rules::SCRATCH_SIZE;
-use rules::Translated;
+use rules::Written;
 ghost use Prim.Native.Nat.{_<_};
 
 // The entry of a path that goes on to a state, by the one that it had before.
@@ -150,14 +150,14 @@ fn compare(file: &[u8], rule: &[u8]) {
     counts_line(&entries, &values);
 }
 
-fn rule_line(answer: Translated, rule: &[u8]) {
+fn rule_line(answer: Written, rule: &[u8]) {
     match answer {
-        Translated::Rule(length) => {
+        Written::Rule(length) => {
             example_text::word_and(b"bytes ", length);
             example_text::row(b", elements", rule, 1);
             example_text::word(b"\n");
         }
-        Translated::Refused {
+        Written::Refused {
             refusal,
             input,
             place,

@@ -1,8 +1,8 @@
 // Runs `rules::combine` over pairs of small rules in all three ways, and writes a line for each.
-use rules::Combined;
 use rules::Operation;
 use rules::RULE_SIZE;
 use rules::SCRATCH_SIZE;
+use rules::Written;
 
 // What was written: its bytes where they are few, and else how many there are and the number of its elements.
 fn written_line(out: &[u8], length: usize) {
@@ -15,10 +15,10 @@ fn written_line(out: &[u8], length: usize) {
     example_text::word(b"\n");
 }
 
-fn combined_line(answer: Combined, out: &[u8]) {
+fn combined_line(answer: Written, out: &[u8]) {
     match answer {
-        Combined::Rule(length) => written_line(out, length),
-        Combined::Refused {
+        Written::Rule(length) => written_line(out, length),
+        Written::Refused {
             refusal,
             input,
             place,

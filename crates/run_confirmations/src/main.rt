@@ -2,8 +2,8 @@
 use rules::Confirmation;
 use rules::MAP_SIZE;
 use rules::RULE_SIZE;
-use rules::Reduced;
 use rules::SCRATCH_SIZE;
+use rules::Written;
 
 fn confirmed_line(answer: Confirmation) {
     match answer {
@@ -18,8 +18,8 @@ fn confirmed_line(answer: Confirmation) {
 }
 
 // How many bytes a reduction wrote, 0 for a refusal.
-fn length_of(answer: Reduced) -> usize {
-    let Reduced::Rule(length) = answer else {
+fn length_of(answer: Written) -> usize {
+    let Written::Rule(length) = answer else {
         return 0;
     };
     length

@@ -1,14 +1,14 @@
 // Runs `rules::member`, `rules::stretch` and the calls on a monitor over document 01's small rules, and writes a line for
 // each. A word is written as its letters in a row.
-use rules::Membership;
+use rules::LassoVerdict;
 use rules::Monitor;
 use rules::Moved;
 use rules::SCRATCH_SIZE;
 
-fn answer_line(answer: Membership) {
+fn answer_line(answer: LassoVerdict) {
     match answer {
-        Membership::Decided { grade, turns } => example_text::graded_line(grade, turns),
-        Membership::Refused {
+        LassoVerdict::Decided { grade, turns } => example_text::graded_line(grade, turns),
+        LassoVerdict::Refused {
             refusal,
             input,
             place,

@@ -1,14 +1,16 @@
 // Runs the calls on a rule's marks, `rules::list_classes`, `rules::strong`, `rules::complement`, `rules::included` and
 // `rules::verdict`, over document 01's small rules and over the largest, and writes a line for each.
-use rules::Complemented;
+use rules::CYCLE_SIZE;
 use rules::Inclusion;
+use rules::LassoVerdict;
 use rules::Listed;
 use rules::Monitor;
-use rules::MonitorVerdict;
 use rules::RULE_SIZE;
 use rules::Refusal;
 use rules::SCRATCH_SIZE;
+use rules::START_SIZE;
 use rules::Strength;
+use rules::Written;
 
 fn refused(refusal: Refusal, input: usize, place: usize) {
     example_text::refused_line(rules::number(refusal), input, place);
@@ -42,16 +44,16 @@ fn strength_line(answer: Strength) {
 }
 
 // A complement is written out where it is short, and else told by its length.
-fn complement_line(answer: Complemented, out: &[u8]) {
+fn complement_line(answer: Written, out: &[u8]) {
     match answer {
-        Complemented::Rule(length) => {
+        Written::Rule(length) => {
             example_text::word_and(b"complement of bytes ", length);
             if length < 64 {
                 example_text::row(b":", out, length);
             }
             example_text::word(b"\n");
         }
-        Complemented::Refused {
+        Written::Refused {
             refusal,
             input,
             place,
@@ -84,10 +86,10 @@ fn inclusion_line(answer: Inclusion, u: &[u8], v: &[u8]) {
     }
 }
 
-fn verdict_line(answer: MonitorVerdict) {
+fn verdict_line(answer: LassoVerdict) {
     match answer {
-        MonitorVerdict::Decided { grade, turns } => example_text::graded_line(grade, turns),
-        MonitorVerdict::Refused {
+        LassoVerdict::Decided { grade, turns } => example_text::graded_line(grade, turns),
+        LassoVerdict::Refused {
             refusal,
             input,
             place,
@@ -106,8 +108,8 @@ fn complement(rule: &[u8], scratch: &mut [u8]) {
 }
 
 fn inclusion(rule: &[u8], second: &[u8], scratch: &mut [u8]) {
-    let mut u = [9u8; 64];
-    let mut v = [9u8; 4224];
+    let mut u = [9u8; START_SIZE];
+    let mut v = [9u8; CYCLE_SIZE];
     inclusion_line(
         rules::included(rule, second, &mut u, &mut v, scratch),
         &u,

@@ -1,6 +1,6 @@
 // Runs `rules::keep` and `rules::return_to` among events, marks and verdicts, on one monitor and its points, and writes a line for each.
+use rules::LassoVerdict;
 use rules::Monitor;
-use rules::MonitorVerdict;
 use rules::Moved;
 use rules::POINTS_SIZE;
 use rules::SCRATCH_SIZE;
@@ -25,11 +25,11 @@ fn monitor_line(line: &[u8], moved: Moved) -> Monitor {
     }
 }
 
-fn verdict_line(line: &[u8], answer: MonitorVerdict) {
+fn verdict_line(line: &[u8], answer: LassoVerdict) {
     example_text::label(line);
     match answer {
-        MonitorVerdict::Decided { grade, turns } => example_text::graded_line(grade, turns),
-        MonitorVerdict::Refused {
+        LassoVerdict::Decided { grade, turns } => example_text::graded_line(grade, turns),
+        LassoVerdict::Refused {
             refusal,
             input,
             place,

@@ -1,8 +1,8 @@
 // Runs `rules::reduce` over document 01's small rules and over rules of 64 elements, and writes a line for each.
 use rules::MAP_SIZE;
 use rules::RULE_SIZE;
-use rules::Reduced;
 use rules::SCRATCH_SIZE;
+use rules::Written;
 
 // What a reduction wrote: its bytes where they are few, and else how many there are and the number of its elements; and where the elements
 // of the rule went, the first eight of them.
@@ -21,10 +21,10 @@ fn written_line(out: &[u8], length: usize, map: &[u8], elements: usize) {
     example_text::word(b"\n");
 }
 
-fn reduced_line(answer: Reduced, out: &[u8], map: &[u8], elements: usize) {
+fn reduced_line(answer: Written, out: &[u8], map: &[u8], elements: usize) {
     match answer {
-        Reduced::Rule(length) => written_line(out, length, map, elements),
-        Reduced::Refused {
+        Written::Rule(length) => written_line(out, length, map, elements),
+        Written::Refused {
             refusal,
             input,
             place,
@@ -40,8 +40,8 @@ fn tell(rule: &[u8], scratch: &mut [u8]) {
 }
 
 // How many bytes a reduction wrote, 0 for a refusal.
-fn length_of(answer: Reduced) -> usize {
-    let Reduced::Rule(length) = answer else {
+fn length_of(answer: Written) -> usize {
+    let Written::Rule(length) = answer else {
         return 0;
     };
     length

@@ -27,8 +27,8 @@ use Rattle.promises.specs.declared.Listed.{Listed}
 use Rattle.promises.specs.declared.Listed.the-variants.{Counts as Listed-counts, Refused as Listed-refused}
 use Rattle.promises.specs.Classes.{classesSize, ListPromise}
 use Rattle.promises.specs.Weak.{weakCheck}
-use Rattle.promises.specs.declared.Reduced.{Reduced}
-use Rattle.promises.specs.declared.Reduced.the-variants.{Rule as Reduced-rule, Refused as Reduced-refused}
+use Rattle.promises.specs.declared.Written.{Written}
+use Rattle.promises.specs.declared.Written.the-variants.{Rule as Reduced-rule, Refused as Reduced-refused}
 use Rattle.promises.specs.Reduce.{mapSize, reduceChecks, reduceLeft, ReducePromise}
 use Rattle.promises.proofs.OneReduction.{reduce-single}
 use Rattle.promises.specs.declared.Summary.{Summary}
@@ -63,7 +63,7 @@ module _ {bytes work entry : List ℕ} (p : CheckedNeeds bytes work entry) where
       q .scratch ∙ kept ∙ sym (zeros-after entry long)
 
   -- of the reduction
-  module _ (answer : Reduced) {after map map′ exit : List ℕ} (map-room : mapSize ≤ length map) (q : ReducePromise bytes work after map map′ entry exit answer) where
+  module _ (answer : Written) {after map map′ exit : List ℕ} (map-room : mapSize ≤ length map) (q : ReducePromise bytes work after map map′ entry exit answer) where
     reduction-left : exit ≡ replicate (length entry) 0
     reduction-left =
         let kept : reduceLeft work map entry ≡ afterCall entry = simp (le-ltb (length work) ruleSize (p .room), le-ltb (length map) mapSize map-room) in

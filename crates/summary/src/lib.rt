@@ -6,8 +6,8 @@ use mark_classes::list_classes;
 use promises::Inspected;
 use promises::Listed;
 use promises::MAP_SIZE;
-use promises::Reduced;
 use promises::Summary;
+use promises::Written;
 use reduce_call::reduce;
 use rule_inspect::inspect;
 use sections::zero;
@@ -29,11 +29,11 @@ fn reduced_size(rule: &[u8], work: &mut [u8], scratch: &mut [u8]) -> ReducedSize
 {
     let mut map = [0u8; MAP_SIZE];
     match reduce(rule, work, &mut map, scratch) {
-        Reduced::Rule(_) => ReducedSize {
+        Written::Rule(_) => ReducedSize {
             strong: true,
             reduced: work[0] as usize,
         },
-        Reduced::Refused {
+        Written::Refused {
             refusal: _,
             input: _,
             place: _,

@@ -10,7 +10,8 @@ use Rattle.finite.proofs.Numbers.{le-or-lt}
 use Rattle.finite.proofs.Highest.{same-above}
 use Rattle.finite.proofs.Tests.{T-dec}
 use Rattle.theory.specs.Words.{Lasso}
-use Rattle.theory.specs.Rules.{Morphism, Lawful, Marking, Rule, Value, level, element, value}
+use Rattle.theory.specs.Rules.{Morphism, Lawful, Marking, Pairs, Rule, Value, level, element, value}
+use Rattle.theory.specs.Acceptance.{Accepts}
 use Rattle.theory.specs.Pairs.{LinkedOnly}
 use Rattle.theory.specs.Grades.{AtLeast, Graded, StrongMarking, LassosGraded}
 use Rattle.theory.specs.Smallest.{SameGrades, MarksGrades}
@@ -37,9 +38,9 @@ module _ (marks : Marking) where
   pub level-falls : (g h s e : ℕ) → g ≤ h → T (level h marks s e) → T (level g marks s e)
   level-falls g h s e l t = level-up g s e (omega (arith, level-down h s e t))
 
--- a lasso of a grade has every lower one
-pub at-least-falls : {m : Morphism} {u v : List ℕ} (marks : Marking) (g h : ℕ) → g ≤ h → AtLeast m marks h u v → AtLeast m marks g u v
-at-least-falls marks g h l a = record {
+-- a lasso that a set of pairs accepts is accepted by a larger one, of which only the pair that shows it need be asked
+pub accepts-larger : {m : Morphism} {P Q : Pairs} {u v : List ℕ} (a : Accepts m P u v) → T (Q (a .start-element) (a .cycle-element)) → Accepts m Q u v
+accepts-larger a t = record {
   cycle-some = a .cycle-some;
   start = a .start;
   cycle = a .cycle;
@@ -50,8 +51,12 @@ at-least-falls marks g h l a = record {
   cycle-element = a .cycle-element;
   start-value = a .start-value;
   cycle-value = a .cycle-value;
-  is-marked = level-falls marks g h (a .start-element) (a .cycle-element) l (a .is-marked);
+  is-marked = t;
 }
+
+-- a lasso of a grade has every lower one
+pub at-least-falls : {m : Morphism} {u v : List ℕ} (marks : Marking) (g h : ℕ) → g ≤ h → AtLeast m marks h u v → AtLeast m marks g u v
+at-least-falls marks g h l a = accepts-larger a (level-falls marks g h (a .start-element) (a .cycle-element) l (a .is-marked))
 
 -- a lasso whose least grades are those up to a number has that grade
 pub graded-by : {m : Morphism} {marks : Marking} {u v : List ℕ} {n : ℕ} → ((g : ℕ) → 1 ≤ g → AtLeast m marks g u v ↔ (g ≤ n)) → Graded m marks u v n

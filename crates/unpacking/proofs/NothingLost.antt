@@ -1,6 +1,6 @@
--- Packing loses nothing. Of each exported call, for inputs of any length: the number is read back as what the answer holds (`-read`), so
--- two calls that give one number gave one answer (`-told`). An answer that meets its call's promise keeps to the limits of packing
--- (`-fits`): the refusals by Limits, the results by what their promises say. Assumes nothing.
+-- Packing loses nothing. Of each exported call, for inputs of any length: the number is read back as what the answer holds, so two calls
+-- that give one number gave one answer (`-told`). An answer that meets its call's promise keeps to the limits of packing (`-fits`): the
+-- refusals by Limits, the results by what their promises say. Assumes nothing.
 use Prim.Native.Nat.{ℕ, _+_, _*_, _≤_, _<_}
 use mathlib.Core.Path.{_≡_, refl, sym, ap, _∙_, subst}
 use mathlib.Core.Logic.{⊎-elim}
@@ -28,19 +28,15 @@ use Rattle.promises.specs.Monitor.{freshMonitor, MonitorValueOutOfRangeAt, moni
 use Rattle.promises.specs.Moves.{LoneUnknownLetterAt, EventPromise, MarkPromise}
 use Rattle.promises.specs.Points.{NameOutOfRangeAt, NameNeverKeptAt, MonitorOrPointOutOfRangeAt, KeepPromise, ReturnPromise}
 use Rattle.promises.specs.Verdict.{NoneAt, VerdictPromise}
-use Rattle.promises.specs.declared.Translated.{Translated}
-use Rattle.promises.specs.declared.Translated.the-variants.{Rule as Automaton-rule, Refused as Not-translated}
+use Rattle.promises.specs.declared.Written.{Written}
+use Rattle.promises.specs.declared.Written.the-variants.{Rule, Refused as Not-written}
 use Rattle.promises.specs.Automaton.{RulePromise}
 use Rattle.promises.specs.declared.Listed.{Listed}
 use Rattle.promises.specs.declared.Listed.the-variants.{Counts, Refused as Not-listed}
 use Rattle.promises.specs.Classes.{ListPromise}
 use Rattle.mark_classes.proofs.Counting.{counted-le}
-use Rattle.promises.specs.declared.Complemented.{Complemented}
-use Rattle.promises.specs.declared.Complemented.the-variants.{Rule as Complement-rule, Refused as Not-complemented}
 use Rattle.promises.specs.Complement.{ComplementPromise}
 use Rattle.promises.specs.declared.Operation.{Operation}
-use Rattle.promises.specs.declared.Combined.{Combined}
-use Rattle.promises.specs.declared.Combined.the-variants.{Rule as Combined-rule, Refused as Not-combined}
 use Rattle.promises.specs.declared.Confirmation.{Confirmation}
 use Rattle.promises.specs.declared.Confirmation.the-variants.{Yes, No, Refused as Not-confirmed}
 use Rattle.promises.specs.Confirm.{ConfirmPromise}
@@ -48,13 +44,11 @@ use Rattle.promises.specs.Combine.{LettersDifferAt, TooManyPairsAt, CombineProm
 use Rattle.promises.specs.declared.Inclusion.{Inclusion}
 use Rattle.promises.specs.declared.Inclusion.the-variants.{Included, NotIncluded, Refused as Not-compared}
 use Rattle.promises.specs.Inclusion.{InclusionPromise}
-use Rattle.promises.specs.declared.Membership.{Membership}
-use Rattle.promises.specs.declared.Membership.the-variants.{Decided, Refused as Not-a-member}
+use Rattle.promises.specs.declared.LassoVerdict.{LassoVerdict}
+use Rattle.promises.specs.declared.LassoVerdict.the-variants.{Decided, Refused as Not-graded}
 use Rattle.promises.specs.Member.{MemberPromise}
 use Rattle.promises.specs.declared.Moved.{Moved}
 use Rattle.promises.specs.declared.Moved.the-variants.{To, Refused as Not-moved}
-use Rattle.promises.specs.declared.Reduced.{Reduced}
-use Rattle.promises.specs.declared.Reduced.the-variants.{Rule as Reduced-rule, Refused as Not-reduced}
 use Rattle.promises.specs.Reduce.{ReducePromise}
 use Rattle.promises.specs.declared.Partition.{Partition}
 use Rattle.promises.specs.declared.Partition.the-variants.{Blocks, Refused as Not-partitioned}
@@ -68,20 +62,18 @@ use Rattle.buchi.specs.RuleAutomaton.{transition}
 use Rattle.promises.specs.declared.Strength.{Strength}
 use Rattle.promises.specs.declared.Strength.the-variants.{Strong, Weak, Refused as Not-decided}
 use Rattle.promises.specs.Strong.{StrongPromise}
-use Rattle.promises.specs.declared.MonitorVerdict.{MonitorVerdict}
-use Rattle.promises.specs.declared.MonitorVerdict.the-variants.{Decided as Judged, Refused as Not-judged}
 use Rattle.board_promises.specs.declared.Board.{Board}
 use Rattle.board_promises.specs.declared.Posted.{Posted}
 use Rattle.board_state.specs.State.{stateSize}
-use Rattle.packing.specs.Packing.{fields, refusal-at, unpack}
-use Rattle.packing_counts.specs.Counts.{listedContents, complementedContents, reducedContents, combinedContents, bit, partitionContents, translatedContents, successorsContents}
-use Rattle.packing_decisions.specs.Decisions.{strengthContents, membershipContents, confirmationContents, inclusionContents, kindContents}
-use Rattle.packing_monitors.specs.Monitors.{monitorContents, movedContents, monitorVerdictContents, packMonitor, noticeContents, packNotice}
+use Rattle.packing.specs.Packing.{Contents, fields, refusal-at, unpack}
+use Rattle.packing_counts.specs.Counts.{listedContents, writtenContents, bit, partitionContents, successorsContents}
+use Rattle.packing_decisions.specs.Decisions.{strengthContents, lassoVerdictContents, confirmationContents, inclusionContents, kindContents}
+use Rattle.packing_monitors.specs.Monitors.{monitorContents, movedContents, packMonitor, noticeContents, packNotice}
 use Rattle.packing.proofs.ReadBack.{FieldsFit, Fits, read-back}
-use Rattle.packing_counts.proofs.Contents.{listed-told, complemented-told, reduced-told, combined-told, partition-told, translated-told, successors-told}
-use Rattle.packing_decisions.proofs.Contents.{strength-told, membership-told, confirmation-told, inclusion-told, kind-told}
-use Rattle.packing_monitors.proofs.Contents.{judged-told, moved-told}
-use Rattle.exports.specs.Exports.{ExportedClasses, ExportedStrength, ExportedMember, ExportedComplement, ExportedInclusion, ExportedEvent, ExportedMark, ExportedKeep, ExportedReturn, ExportedReduction, ExportedConfirmation, ExportedCombination, ExportedRounds, ExportedVerdict, ExportedAutomaton, ExportedKind, ExportedSuccessors}
+use Rattle.packing_counts.proofs.Contents.{listed-told, written-told, partition-told, successors-told}
+use Rattle.packing_decisions.proofs.Contents.{strength-told, lasso-verdict-told, confirmation-told, inclusion-told, kind-told}
+use Rattle.packing_monitors.proofs.Contents.{moved-told}
+use Rattle.exports.specs.Exports.{Exported}
 use Rattle.exports.specs.BoardExports.{ExportedBoardCall, ExportedBoardEmpty, ExportedBoardEnter, ExportedBoardLeave, ExportedBoardEvent, ExportedBoardMark}
 use Rattle.unpacking.proofs.Limits.{Near, near, refused-fits, at-zero, buffer-limited, rule-limited, checked-limited, second-limited, lasso-limited}
 use Rattle.unpacking.proofs.AutomatonLimits.{translated-limited}
@@ -133,23 +125,23 @@ strength-fits Weak p = bit-fits (omega arith)
 strength-fits {bytes} {entry} (Not-decided r i place) p = refused-fits r (checked-limited bytes entry) (p .refusal)
 
 -- member
-member-fits : {bytes u v entry exit : List ℕ} (answer : Membership) → MemberPromise bytes u v entry exit answer → Fits (membershipContents answer)
+member-fits : {bytes u v entry exit : List ℕ} (answer : LassoVerdict) → MemberPromise bytes u v entry exit answer → Fits (lassoVerdictContents answer)
 member-fits {bytes} {entry = entry} (Decided grade turns) p =
     let good = called-good 1 bytes entry (passed-first (checkedChecks 1 bytes entry) _ (p .refusal)) in
     decided-fits (graded-small (good .lawful) (graded-marks good) (p .answered .0)) (good .table .small) (p .answered .1 .turns-are)
-member-fits {bytes} {u} {v} {entry} (Not-a-member r i place) p =
+member-fits {bytes} {u} {v} {entry} (Not-graded r i place) p =
     refused-fits r (limited-append (checkedChecks 1 bytes entry) (checked-limited bytes entry) (λ _. lasso-limited (lettersOf bytes) u v)) (p .refusal)
 
 -- complement
-complement-fits : {bytes before after entry exit : List ℕ} (answer : Complemented) → ComplementPromise bytes before after entry exit answer
-    → Fits (complementedContents answer)
-complement-fits (Complement-rule end) p = written-fits (p .answered .written)
-complement-fits {bytes} {entry = entry} (Not-complemented r i place) p = refused-fits r (buffer-limited (checked-strong-limited bytes entry)) (p .refusal)
+complement-fits : {bytes before after entry exit : List ℕ} (answer : Written) → ComplementPromise bytes before after entry exit answer
+    → Fits (writtenContents answer)
+complement-fits (Rule end) p = written-fits (p .answered .written)
+complement-fits {bytes} {entry = entry} (Not-written r i place) p = refused-fits r (buffer-limited (checked-strong-limited bytes entry)) (p .refusal)
 
 -- reduce
-reduce-fits : {bytes before after map map′ entry exit : List ℕ} (answer : Reduced) → ReducePromise bytes before after map map′ entry exit answer → Fits (reducedContents answer)
-reduce-fits (Reduced-rule end) p = written-fits (p .answered .written)
-reduce-fits {bytes} {entry = entry} (Not-reduced r i place) p = refused-fits r (buffer-limited (buffer-limited (checked-strong-limited bytes entry))) (p .refusal)
+reduce-fits : {bytes before after map map′ entry exit : List ℕ} (answer : Written) → ReducePromise bytes before after map map′ entry exit answer → Fits (writtenContents answer)
+reduce-fits (Rule end) p = written-fits (p .answered .written)
+reduce-fits {bytes} {entry = entry} (Not-written r i place) p = refused-fits r (buffer-limited (buffer-limited (checked-strong-limited bytes entry))) (p .refusal)
 
 -- confirm
 confirm-fits : {first second map entry exit : List ℕ} (answer : Confirmation) → ConfirmPromise first second map entry exit answer → Fits (confirmationContents answer)
@@ -161,10 +153,10 @@ confirm-fits {first} {second} {entry = entry} (Not-confirmed r i place) p =
     (λ _. limited-cons (λ place (f : WeakAt _ place). at-zero (f .is-place)) (λ _. limited-nil)))) (p .refusal)
 
 -- combine
-combine-fits : {first second : List ℕ} {operation : Operation} {before after entry exit : List ℕ} (answer : Combined)
-    → CombinePromise first second operation before after entry exit answer → Fits (combinedContents answer)
-combine-fits (Combined-rule end) p = written-fits (p .answered .written)
-combine-fits {first} {second} {entry = entry} (Not-combined r i place) p =
+combine-fits : {first second : List ℕ} {operation : Operation} {before after entry exit : List ℕ} (answer : Written)
+    → CombinePromise first second operation before after entry exit answer → Fits (writtenContents answer)
+combine-fits (Rule end) p = written-fits (p .answered .written)
+combine-fits {first} {second} {entry = entry} (Not-written r i place) p =
     refused-fits r (buffer-limited (limited-append (checkedChecks 1 first entry) (checked-limited first entry)
     (λ _. limited-append (ruleChecks 2 second) (rule-limited 2 second (omega arith))
     (λ _. limited-cons (λ place (f : LettersDifferAt _ _ place). at-zero (f .is-place))
@@ -189,10 +181,10 @@ rounds-fits {bytes} {limit} {entry = entry} (Not-partitioned r i place) p =
     (λ _. limited-cons (λ place (f : WeakAt _ place). at-zero (f .is-place)) (λ _. limited-nil))))) (p .refusal)
 
 -- automaton_rule
-automaton-fits : {bytes before after entry exit : List ℕ} (answer : Translated) → RulePromise bytes before after entry exit answer
-    → Fits (translatedContents answer)
-automaton-fits (Automaton-rule end) p = written-fits (p .answered .written)
-automaton-fits {bytes} {entry = entry} (Not-translated r i place) p = refused-fits r (buffer-limited (translated-limited bytes entry)) (p .refusal)
+automaton-fits : {bytes before after entry exit : List ℕ} (answer : Written) → RulePromise bytes before after entry exit answer
+    → Fits (writtenContents answer)
+automaton-fits (Rule end) p = written-fits (p .answered .written)
+automaton-fits {bytes} {entry = entry} (Not-written r i place) p = refused-fits r (buffer-limited (translated-limited bytes entry)) (p .refusal)
 
 -- included
 inclusion-fits : {bytes second u-entry u-exit v-entry v-exit entry exit : List ℕ} (answer : Inclusion)
@@ -246,11 +238,11 @@ return-answer-fits {bytes} {f} {name} {points} {entry} (Not-moved g r i place) p
     (λ _. limited-cons (λ place (a : MonitorOrPointOutOfRangeAt _ _ _ place). at-zero (a .is-place)) (λ _. limited-nil)))))) (p .refusal)
 
 -- verdict
-verdict-fits : {bytes : List ℕ} {f : Monitor} {entry exit : List ℕ} (answer : MonitorVerdict) → VerdictPromise bytes f entry exit answer → Fits (monitorVerdictContents answer)
-verdict-fits {bytes} {f} {entry} (Judged grade turns) p =
+verdict-fits : {bytes : List ℕ} {f : Monitor} {entry exit : List ℕ} (answer : LassoVerdict) → VerdictPromise bytes f entry exit answer → Fits (lassoVerdictContents answer)
+verdict-fits {bytes} {f} {entry} (Decided grade turns) p =
     let good = called-good 1 bytes entry (passed-first (checkedChecks 1 bytes entry) _ (passed-first (monitorChecks bytes f entry) _ (p .refusal))) in
     decided-fits (lassos-small (good .lawful) (graded-marks good) (p .answered .0)) (good .table .small) (p .answered .1)
-verdict-fits {bytes} {f} {entry} (Not-judged r i place) p =
+verdict-fits {bytes} {f} {entry} (Not-graded r i place) p =
     refused-fits r (limited-append (monitorChecks bytes f entry) (monitor-limited bytes f entry)
     (λ _. limited-cons (λ place (a : NoneAt _ place). at-zero (a .is-place))
     (λ _. limited-cons (λ place (a : WeakAt _ place). at-zero (a .is-place)) (λ _. limited-nil)))) (p .refusal)
@@ -281,60 +273,82 @@ successors-fits {bytes} {entry = entry} (No-successors r i place) p =
 pub fresh-read : unpack (packMonitor freshMonitor) ≡ monitorContents freshMonitor
 fresh-read = read-back _ (record { first = omega arith; second = omega arith; third = omega arith })
 
-module _ {bytes entry exit : List ℕ} {r : ℕ} where
-  pub strong-read : (x : ExportedStrength bytes entry exit r) → unpack r ≡ strengthContents (x .answer)
-  strong-read x = ap unpack (x .packed) ∙ read-back _ (strength-fits (x .answer) (x .promise))
+-- and of any call: the number is read back as what its answer holds, so that one number is one answer, whatever the inputs were
+pub record Told {Answer : Type 0} (holds : Answer → Contents) (Promise Promise′ : Answer → Type 0) : Type 0 where
+  pub read : {r : ℕ} (x : Exported Promise holds r) → unpack r ≡ holds (x .answer)
+  pub one-answer : {r : ℕ} (x : Exported Promise holds r) (y : Exported Promise′ holds r) → x .answer ≡ y .answer
 
-  pub confirm-read : {second map : List ℕ} (x : ExportedConfirmation bytes second map entry exit r) → unpack r ≡ confirmationContents (x .answer)
-  confirm-read x = ap unpack (x .packed) ∙ read-back _ (confirm-fits (x .answer) (x .promise))
+module _ {Answer : Type 0} {holds : Answer → Contents} where
+  read-answer : {Promise : Answer → Type 0} {r : ℕ} → ((answer : Answer) → Promise answer → Fits (holds answer)) → (x : Exported Promise holds r) → unpack r ≡ holds (x .answer)
+  read-answer fits x = ap unpack (x .packed) ∙ read-back _ (fits (x .answer) (x .promise))
 
-  pub kind-read : {s e least : ℕ} (x : ExportedKind bytes s e least entry exit r) → unpack r ≡ kindContents (x .answer)
-  kind-read x = ap unpack (x .packed) ∙ read-back _ (kind-fits (x .answer) (x .promise))
+  told : {Promise Promise′ : Answer → Type 0} → ((answer : Answer) → Promise answer → Fits (holds answer)) → ((answer : Answer) → Promise′ answer → Fits (holds answer))
+      → ((a b : Answer) → Promise a → Promise′ b → holds a ≡ holds b → a ≡ b) → Told holds Promise Promise′
+  told fits fits′ one = record {
+    read = λ x. read-answer fits x;
+    one-answer = λ x y. one (x .answer) (y .answer) (x .promise) (y .promise) (sym (read-answer fits x) ∙ read-answer fits′ y);
+  }
 
+module _ {bytes entry exit bytes′ entry′ exit′ : List ℕ} where
+  pub strong-told : Told strengthContents (StrongPromise bytes entry exit) (StrongPromise bytes′ entry′ exit′)
+  strong-told = told strength-fits strength-fits (λ a b p q. strength-told a b)
+
+  pub member-told : {u v u′ v′ : List ℕ} → Told lassoVerdictContents (MemberPromise bytes u v entry exit) (MemberPromise bytes′ u′ v′ entry′ exit′)
+  member-told = told member-fits member-fits (λ a b p q. lasso-verdict-told a b)
+
+  pub verdict-told : {f f′ : Monitor} → Told lassoVerdictContents (VerdictPromise bytes f entry exit) (VerdictPromise bytes′ f′ entry′ exit′)
+  verdict-told = told verdict-fits verdict-fits (λ a b p q. lasso-verdict-told a b)
+
+  pub confirm-told : {second map second′ map′ : List ℕ} → Told confirmationContents (ConfirmPromise bytes second map entry exit) (ConfirmPromise bytes′ second′ map′ entry′ exit′)
+  confirm-told = told confirm-fits confirm-fits (λ a b p q. confirmation-told a b)
+
+  pub state-kind-told : {s e least s′ e′ least′ : ℕ} → Told kindContents (KindPromise bytes s e least entry exit) (KindPromise bytes′ s′ e′ least′ entry′ exit′)
+  state-kind-told = told kind-fits kind-fits (λ a b p q. kind-told a b)
+
+  pub included-told : {second u u-exit v v-exit second′ u′ u-exit′ v′ v-exit′ : List ℕ}
+      → Told inclusionContents (InclusionPromise bytes second u u-exit v v-exit entry exit) (InclusionPromise bytes′ second′ u′ u-exit′ v′ v-exit′ entry′ exit′)
+  included-told = told inclusion-fits inclusion-fits (λ a b p q. inclusion-told a b)
+
+  -- for one monitor, which a refused call hands back
   module _ {f : Monitor} where
-    pub event-read : {letter : ℕ} (x : ExportedEvent bytes f letter entry exit r) → unpack r ≡ movedContents (x .answer)
-    event-read x = ap unpack (x .packed) ∙ read-back _ (event-answer-fits (x .answer) (x .promise))
+    pub event-told : {letter letter′ : ℕ} → Told movedContents (EventPromise bytes f letter entry exit) (EventPromise bytes′ f letter′ entry′ exit′)
+    event-told = told event-answer-fits event-answer-fits (λ a b p q. moved-told f _ _ a b (p .monitor) (q .monitor))
 
-    pub mark-read : (x : ExportedMark bytes f entry exit r) → unpack r ≡ movedContents (x .answer)
-    mark-read x = ap unpack (x .packed) ∙ read-back _ (mark-answer-fits (x .answer) (x .promise))
+    pub mark-told : Told movedContents (MarkPromise bytes f entry exit) (MarkPromise bytes′ f entry′ exit′)
+    mark-told = told mark-answer-fits mark-answer-fits (λ a b p q. moved-told f _ _ a b (p .monitor) (q .monitor))
 
-    pub keep-read : {name : ℕ} {points points-exit : List ℕ} (x : ExportedKeep bytes f name points points-exit entry exit r) → unpack r ≡ movedContents (x .answer)
-    keep-read x = ap unpack (x .packed) ∙ read-back _ (keep-answer-fits (x .answer) (x .promise))
+    pub keep-told : {name name′ : ℕ} {points points-exit points′ points-exit′ : List ℕ}
+        → Told movedContents (KeepPromise bytes f name points points-exit entry exit) (KeepPromise bytes′ f name′ points′ points-exit′ entry′ exit′)
+    keep-told = told keep-answer-fits keep-answer-fits (λ a b p q. moved-told f _ _ a b (p .monitor) (q .monitor))
 
-    pub return-read : {name : ℕ} {points : List ℕ} (x : ExportedReturn bytes f name points entry exit r) → unpack r ≡ movedContents (x .answer)
-    return-read x = ap unpack (x .packed) ∙ read-back _ (return-answer-fits (x .answer) (x .promise))
+    pub return-told : {name name′ : ℕ} {points points′ : List ℕ}
+        → Told movedContents (ReturnPromise bytes f name points entry exit) (ReturnPromise bytes′ f name′ points′ entry′ exit′)
+    return-told = told return-answer-fits return-answer-fits (λ a b p q. moved-told f _ _ a b (p .monitor) (q .monitor))
 
-    pub verdict-read : (x : ExportedVerdict bytes f entry exit r) → unpack r ≡ monitorVerdictContents (x .answer)
-    verdict-read x = ap unpack (x .packed) ∙ read-back _ (verdict-fits (x .answer) (x .promise))
+  module _ {out out-exit out′ out-exit′ : List ℕ} where
+    pub classes-told : Told listedContents (ListPromise bytes out out-exit entry exit) (ListPromise bytes′ out′ out-exit′ entry′ exit′)
+    classes-told = told listed-fits listed-fits (λ a b p q. listed-told a b)
 
-  module _ {before after : List ℕ} where
-    pub classes-read : (x : ExportedClasses bytes before after entry exit r) → unpack r ≡ listedContents (x .answer)
-    classes-read x = ap unpack (x .packed) ∙ read-back _ (listed-fits (x .answer) (x .promise))
+    pub complement-told : Told writtenContents (ComplementPromise bytes out out-exit entry exit) (ComplementPromise bytes′ out′ out-exit′ entry′ exit′)
+    complement-told = told complement-fits complement-fits (λ a b p q. written-told a b)
 
-    pub complement-read : (x : ExportedComplement bytes before after entry exit r) → unpack r ≡ complementedContents (x .answer)
-    complement-read x = ap unpack (x .packed) ∙ read-back _ (complement-fits (x .answer) (x .promise))
+    pub reduce-told : {map map-exit map′ map-exit′ : List ℕ}
+        → Told writtenContents (ReducePromise bytes out out-exit map map-exit entry exit) (ReducePromise bytes′ out′ out-exit′ map′ map-exit′ entry′ exit′)
+    reduce-told = told reduce-fits reduce-fits (λ a b p q. written-told a b)
 
-    pub reduce-read : {map map′ : List ℕ} (x : ExportedReduction bytes before after map map′ entry exit r) → unpack r ≡ reducedContents (x .answer)
-    reduce-read x = ap unpack (x .packed) ∙ read-back _ (reduce-fits (x .answer) (x .promise))
+    pub combine-told : {second second′ : List ℕ} {operation operation′ : Operation}
+        → Told writtenContents (CombinePromise bytes second operation out out-exit entry exit) (CombinePromise bytes′ second′ operation′ out′ out-exit′ entry′ exit′)
+    combine-told = told combine-fits combine-fits (λ a b p q. written-told a b)
 
-    pub combine-read : {second : List ℕ} {operation : Operation} (x : ExportedCombination bytes second operation before after entry exit r) → unpack r ≡ combinedContents (x .answer)
-    combine-read x = ap unpack (x .packed) ∙ read-back _ (combine-fits (x .answer) (x .promise))
+    pub automaton-rule-told : Told writtenContents (RulePromise bytes out out-exit entry exit) (RulePromise bytes′ out′ out-exit′ entry′ exit′)
+    automaton-rule-told = told automaton-fits automaton-fits (λ a b p q. written-told a b)
 
-    pub rounds-read : {limit : ℕ} (x : ExportedRounds bytes limit before after entry exit r) → unpack r ≡ partitionContents (x .answer)
-    rounds-read x = ap unpack (x .packed) ∙ read-back _ (rounds-fits (x .answer) (x .promise))
+    pub rounds-told : {limit limit′ : ℕ} → Told partitionContents (RoundsPromise bytes limit out out-exit entry exit) (RoundsPromise bytes′ limit′ out′ out-exit′ entry′ exit′)
+    rounds-told = told rounds-fits rounds-fits (λ a b p q. partition-told a b)
 
-    pub successors-read : {s e letter : ℕ} (x : ExportedSuccessors bytes s e letter before after entry exit r) → unpack r ≡ successorsContents (x .answer)
-    successors-read x = ap unpack (x .packed) ∙ read-back _ (successors-fits (x .answer) (x .promise))
-
-    pub automaton-rule-read : (x : ExportedAutomaton bytes before after entry exit r) → unpack r ≡ translatedContents (x .answer)
-    automaton-rule-read x = ap unpack (x .packed) ∙ read-back _ (automaton-fits (x .answer) (x .promise))
-
-  pub member-read : {u v : List ℕ} (x : ExportedMember bytes u v entry exit r) → unpack r ≡ membershipContents (x .answer)
-  member-read x = ap unpack (x .packed) ∙ read-back _ (member-fits (x .answer) (x .promise))
-
-  pub included-read : {second u-entry u-exit v-entry v-exit : List ℕ} (x : ExportedInclusion bytes second u-entry u-exit v-entry v-exit entry exit r)
-      → unpack r ≡ inclusionContents (x .answer)
-  included-read x = ap unpack (x .packed) ∙ read-back _ (inclusion-fits (x .answer) (x .promise))
+    pub successor-list-told : {s e letter s′ e′ letter′ : ℕ}
+        → Told successorsContents (SuccessorsPromise bytes s e letter out out-exit entry exit) (SuccessorsPromise bytes′ s′ e′ letter′ out′ out-exit′ entry′ exit′)
+    successor-list-told = told successors-fits successors-fits (λ a b p q. successors-told a b)
 
 -- the board's calls: what a state that is too short gives, and what the others answer
 module _ {Promise : Board → Posted → Type 0} {Kept : Type 0} {state state-exit : List ℕ} {r : ℕ} (x : ExportedBoardCall Promise Kept state state-exit r) where
@@ -370,76 +384,3 @@ pub board-empty-read : {state state-exit : List ℕ} {r : ℕ} (h : stateSize �
 board-empty-read h x =
     ap unpack (x .long h .packed ∙ ap (λ (answer : Posted). packNotice (answer .board) (answer .notice)) (x .long h .promise))
     ∙ read-back (fields 4 0 0) (record { first = omega arith; second = omega arith; third = omega arith })
-
--- so one number is one answer, whatever the inputs were
-module _ {bytes entry exit bytes′ entry′ exit′ : List ℕ} {r : ℕ} where
-  pub strong-told : (x : ExportedStrength bytes entry exit r) (y : ExportedStrength bytes′ entry′ exit′ r) → x .answer ≡ y .answer
-  strong-told x y = strength-told _ _ (sym (strong-read x) ∙ strong-read y)
-
-  pub confirm-told : {second map second′ map′ : List ℕ} (x : ExportedConfirmation bytes second map entry exit r) (y : ExportedConfirmation bytes′ second′ map′ entry′ exit′ r)
-      → x .answer ≡ y .answer
-  confirm-told x y = confirmation-told _ _ (sym (confirm-read x) ∙ confirm-read y)
-
-  pub state-kind-told : {s e least s′ e′ least′ : ℕ} (x : ExportedKind bytes s e least entry exit r) (y : ExportedKind bytes′ s′ e′ least′ entry′ exit′ r)
-      → x .answer ≡ y .answer
-  state-kind-told x y = kind-told _ _ (sym (kind-read x) ∙ kind-read y)
-
-  pub verdict-told : {f f′ : Monitor} (x : ExportedVerdict bytes f entry exit r) (y : ExportedVerdict bytes′ f′ entry′ exit′ r)
-      → x .answer ≡ y .answer
-  verdict-told x y = judged-told _ _ (sym (verdict-read x) ∙ verdict-read y)
-
-  -- for one monitor, which a refused call hands back
-  module _ {f : Monitor} where
-    pub event-told : {letter letter′ : ℕ} (x : ExportedEvent bytes f letter entry exit r) (y : ExportedEvent bytes′ f letter′ entry′ exit′ r)
-        → x .answer ≡ y .answer
-    event-told x y = moved-told f _ _ _ _ (x .promise .monitor) (y .promise .monitor) (sym (event-read x) ∙ event-read y)
-
-    pub mark-told : (x : ExportedMark bytes f entry exit r) (y : ExportedMark bytes′ f entry′ exit′ r) → x .answer ≡ y .answer
-    mark-told x y = moved-told f _ _ _ _ (x .promise .monitor) (y .promise .monitor) (sym (mark-read x) ∙ mark-read y)
-
-    pub keep-told : {name name′ : ℕ} {points points-exit points′ points-exit′ : List ℕ} (x : ExportedKeep bytes f name points points-exit entry exit r)
-        (y : ExportedKeep bytes′ f name′ points′ points-exit′ entry′ exit′ r) → x .answer ≡ y .answer
-    keep-told x y = moved-told f _ _ _ _ (x .promise .monitor) (y .promise .monitor) (sym (keep-read x) ∙ keep-read y)
-
-    pub return-told : {name name′ : ℕ} {points points′ : List ℕ} (x : ExportedReturn bytes f name points entry exit r)
-        (y : ExportedReturn bytes′ f name′ points′ entry′ exit′ r) → x .answer ≡ y .answer
-    return-told x y = moved-told f _ _ _ _ (x .promise .monitor) (y .promise .monitor) (sym (return-read x) ∙ return-read y)
-
-  module _ {before after before′ after′ : List ℕ} where
-    pub classes-told : (x : ExportedClasses bytes before after entry exit r) (y : ExportedClasses bytes′ before′ after′ entry′ exit′ r)
-        → x .answer ≡ y .answer
-    classes-told x y = listed-told _ _ (sym (classes-read x) ∙ classes-read y)
-
-    pub complement-told : (x : ExportedComplement bytes before after entry exit r) (y : ExportedComplement bytes′ before′ after′ entry′ exit′ r)
-        → x .answer ≡ y .answer
-    complement-told x y = complemented-told _ _ (sym (complement-read x) ∙ complement-read y)
-
-    pub reduce-told : {map map-after map′ map-after′ : List ℕ} (x : ExportedReduction bytes before after map map-after entry exit r)
-        (y : ExportedReduction bytes′ before′ after′ map′ map-after′ entry′ exit′ r)
-        → x .answer ≡ y .answer
-    reduce-told x y = reduced-told _ _ (sym (reduce-read x) ∙ reduce-read y)
-
-    pub combine-told : {second second′ : List ℕ} {operation operation′ : Operation} (x : ExportedCombination bytes second operation before after entry exit r)
-        (y : ExportedCombination bytes′ second′ operation′ before′ after′ entry′ exit′ r) → x .answer ≡ y .answer
-    combine-told x y = combined-told _ _ (sym (combine-read x) ∙ combine-read y)
-
-    pub rounds-told : {limit limit′ : ℕ} (x : ExportedRounds bytes limit before after entry exit r) (y : ExportedRounds bytes′ limit′ before′ after′ entry′ exit′ r)
-        → x .answer ≡ y .answer
-    rounds-told x y = partition-told _ _ (sym (rounds-read x) ∙ rounds-read y)
-
-    pub successor-list-told : {s e letter s′ e′ letter′ : ℕ} (x : ExportedSuccessors bytes s e letter before after entry exit r)
-        (y : ExportedSuccessors bytes′ s′ e′ letter′ before′ after′ entry′ exit′ r) → x .answer ≡ y .answer
-    successor-list-told x y = successors-told _ _ (sym (successors-read x) ∙ successors-read y)
-
-    pub automaton-rule-told : (x : ExportedAutomaton bytes before after entry exit r) (y : ExportedAutomaton bytes′ before′ after′ entry′ exit′ r)
-        → x .answer ≡ y .answer
-    automaton-rule-told x y = translated-told _ _ (sym (automaton-rule-read x) ∙ automaton-rule-read y)
-
-  pub member-told : {u v u′ v′ : List ℕ} (x : ExportedMember bytes u v entry exit r) (y : ExportedMember bytes′ u′ v′ entry′ exit′ r)
-      → x .answer ≡ y .answer
-  member-told x y = membership-told _ _ (sym (member-read x) ∙ member-read y)
-
-  pub included-told : {second u-entry u-exit v-entry v-exit second′ u-entry′ u-exit′ v-entry′ v-exit′ : List ℕ}
-      (x : ExportedInclusion bytes second u-entry u-exit v-entry v-exit entry exit r)
-      (y : ExportedInclusion bytes′ second′ u-entry′ u-exit′ v-entry′ v-exit′ entry′ exit′ r) → x .answer ≡ y .answer
-  included-told x y = inclusion-told _ _ (sym (included-read x) ∙ included-read y)

@@ -1,14 +1,15 @@
 -- `mark_preimages::after_letter` meets its contract: the two cases of the definition. Assumes nothing.
 use borrow.Author.Needs.{needs}
 use Rattle.rule_table.proofs.Facts.{table-place}
-use Rattle.mark_preimages.proofs.Letters.{letter-below, after-element, after-empty}
+use Rattle.formats.proofs.Tables.{image-below}
+use Rattle.mark_preimages.proofs.Letters.{after-element, after-empty}
 use Rattle.mark_preimages.proofs.after_letter.Statement.{statement}
 use Rattle.mark_preimages.proofs.after_letter.Tie as tie
 
 product-requires : tie.Need-product-requires
 product-requires c κs =
     let table = c .before .before .before .pre .0 in
-    let below = letter-below table (c .before .before .before .pre .1) (c .before .image .ensures) in
+    let below = image-below table (c .before .before .before .pre .1) (c .before .image .ensures) in
     search table-place
 
 returns : tie.Need-returns

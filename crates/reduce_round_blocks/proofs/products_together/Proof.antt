@@ -3,13 +3,14 @@ use Prim.Native.Nat.{_<_}
 use native.Mathlib.Omega.{arith}
 use borrow.Author.Needs.{needs}
 use Rattle.rule_table.proofs.Facts.{table-place, product-below}
-use Rattle.reduce_first_round.proofs.Products.{letter-below, right-apart, left-apart, both-together}
+use Rattle.formats.proofs.Tables.{image-below}
+use Rattle.reduce_first_round.proofs.Products.{right-apart, left-apart, both-together}
 use Rattle.reduce_round_blocks.proofs.products_together.Statement.{statement}
 use Rattle.reduce_round_blocks.proofs.products_together.Tie as tie
 
 -- the letter's element is one
 letter : (d : tie.After-image) → d .image .result < d .before .before .before .args .n
-letter d = letter-below (d .before .before .before .pre .0) (d .before .before .before .pre .1 .0 .2) (d .image .ensures)
+letter d = image-below (d .before .before .before .pre .0) (d .before .before .before .pre .1 .0 .2) (d .image .ensures)
 
 product-requires : tie.Need-product-requires
 product-requires c κs =

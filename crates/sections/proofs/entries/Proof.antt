@@ -12,16 +12,23 @@ use Rattle.sections.proofs.entries.Tie as tie
 returns : tie.Need-returns
 returns c = entries-cut-answer _ _ _ _ _ _ _ (c .cut .result) (c .cut .ensures) (c .before .if1 .taken)
 
+abbrev start-of : tie.After-known-told → tie.Start
+start-of c =
+    let at-if1 = c .before .before .before .before in
+    at-if1 .before .before
+
 -- the entry that was found
 out : (c : tie.After-known-told)
     → FirstOut
-    (c .before .before .before .before .before .before .args .rest .now)
-    (c .before .before .before .before .before .before .args .from)
-    (c .before .before .before .before .before .before .args .size)
+    (start-of c .args .rest .now)
+    (start-of c .args .from)
+    (start-of c .args .size)
     (λ i. 0)
-    (λ i. c .before .before .before .before .before .before .args .bound)
+    (λ i. start-of c .args .bound)
     (c .before .i .given .0 .0)
-out c = found-at (c .before .before .before .first-out .result) (c .before .before .before .first-out .ensures) (c .before .i .given .1)
+out c =
+    let at-first-out = c .before .before .before in
+    found-at (at-first-out .first-out .result) (at-first-out .first-out .ensures) (c .before .i .given .1)
 
 add-t14 : tie.Need-add-t14
 add-t14 c = omega (arith, out c .below)
