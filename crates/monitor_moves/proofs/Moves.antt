@@ -56,7 +56,7 @@ module _ (bytes : List ℕ) (f : Monitor) (letter : ℕ) (entry exit : List ℕ)
     -- the letter is foreign
     pub event-foreign : shape .letters ≤ letter → EventPromise bytes f letter entry exit (Refused f UnknownLetter 1 0)
     event-foreign h = record {
-      refusal = passed-before _ _ (p .refusal) (first-fails (loneLetterCheck (lettersOf bytes) letter) (record { foreign = subst (λ (x : ℕ). x ≤ letter) (p .shape .letters) h; is-place = refl }));
+      refusal = passed-before _ _ (p .refusal) (first-fails (loneLetterCheck 1 (lettersOf bytes) letter) (record { foreign = subst (λ (x : ℕ). x ≤ letter) (p .shape .letters) h; is-place = refl }));
       monitor = refl;
       scratch = p .scratch;
     }
