@@ -1,6 +1,6 @@
 -- The theorem on `advance` and `advance_word`: a word of events is its letters one by one, and a step that passes is the call that takes the step, `event` or
 -- `mark`, and then `verdict`. Assumes nothing.
-use Prim.Native.Nat.{ℕ, _+_, _≤_}
+use Prim.Native.Nat.{ℕ, suc, _≤_}
 use mathlib.Core.Path.{_≡_}
 use mathlib.Core.List.{List, [], _∷_}
 use lib.ListN.{length}
@@ -24,7 +24,7 @@ use Rattle.promises.specs.Advance.{AdvancePromise, AdvanceWordPromise}
 -- the answer for a letter and a word behind it, by the one for the word: a refusal lies one position further on, and hands back the monitor before the letter
 abbrev pub behindLetter : Monitor → Advanced → Advanced
 behindLetter f (To g grade turns) = To g grade turns
-behindLetter f (Refused g refusal input place) = Refused f refusal input (place + 1)
+behindLetter f (Refused g refusal input place) = Refused f refusal input (suc place)
 
 pub record AdvanceTheorem : Type 0 where
   -- a word of no letters is a step that leaves the monitor
