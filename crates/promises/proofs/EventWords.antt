@@ -5,8 +5,10 @@ use mathlib.Core.List.{List, [], _∷_}
 use native.Mathlib.Omega.{arith}
 use lib.ListN.{length, getD}
 use Rattle.answer.specs.declared.Refusal.the-variants.{UnknownLetter, WordLength}
-use Rattle.answer.specs.Checks.{Check, Verdict, passed, refused, FirstFailure}
+use Rattle.answer.specs.Refusals.{numberOf}
+use Rattle.answer.specs.Checks.{Check, Verdict, passed, numbered, refused, FirstFailure}
 use Rattle.answer.proofs.Order.{FirstCase, decides-now, hands-on, first-case, first-passes, first-fails, none-left, passes-head, passes-tail, Single, AllSingle, single-nil, single-at, single-cons, one-verdict}
+use Rattle.answer.proofs.Verdicts.{not-passed}
 use Rattle.theory.specs.Words.{Over, over-nil, over-cons}
 use Rattle.theory.proofs.Words.{over-at}
 use Rattle.formats.specs.WordChecks.{UnknownLetterAt}
@@ -39,6 +41,17 @@ pub known-step : (input k : ℕ) (step : Step) → FirstFailure (foreignChecks i
 known-step input k (Event letter) f h = passes-head f .nowhere 0 (record { foreign = h; is-place = refl })
 known-step input k Mark f h = h
 known-step input k Stay f h = h
+
+-- a step that is refused is foreign
+pub step-refused : (input k : ℕ) (step : Step) {number i place : ℕ} → FirstFailure (foreignChecks input k step) (numbered number i place)
+    → (number ≡ numberOf UnknownLetter) × ForeignStep k step
+step-refused input k (Event letter) {number} {i} {place} f = go (first-case f)
+  where
+    go : FirstCase (loneLetterCheck input k letter) [] (numbered number i place) → (number ≡ numberOf UnknownLetter) × (k ≤ letter)
+    go (decides-now d) = let e = d .verdict in (cc, d .fails .foreign)
+    go (hands-on q h) = absurd (not-passed (one-verdict single-nil h none-left))
+step-refused input k Mark f = absurd (not-passed (one-verdict single-nil f none-left))
+step-refused input k Stay f = absurd (not-passed (one-verdict single-nil f none-left))
 
 -- ---- a word
 

@@ -38,6 +38,7 @@ pub mod Printing
 pub mod OneConfirmation
 pub mod Confirmed
 pub mod ConfirmOrder
+pub mod NoLetters
 pub mod NotConfirmed
 pub mod ComplementOrder
 pub mod InclusionOrder
