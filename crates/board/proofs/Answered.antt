@@ -185,8 +185,8 @@ module _ {b : Board} {name : ℕ} {file files : List ℕ} {p : Pass} (pass : Pas
   admit-told {entry} {exit} {r} done room answer a t = go answer (a .refusal) t
     where
       own : {v : Verdict} → FirstFailure (advanceChecks name file freshMonitor Stay entry) v → FirstFailure (allChecks b files ++ (ruleChecks name file ++ weakCheck name file ∷ [])) v
-      own f = passed-before (allChecks b files) _ (passed-pass pass done) (without (ruleChecks name file) (weakCheck name file ∷ []) (fresh-passes name (elementsOf file))
-          (after-long room (subst (λ (checks : List Check). FirstFailure checks _) (append-nil (strongMonitorChecks name file freshMonitor entry)) f)))
+      own {v} f = passed-before (allChecks b files) _ (passed-pass pass done) (without (ruleChecks name file) (weakCheck name file ∷ []) (fresh-passes name (elementsOf file))
+          (after-long room (subst (λ (checks : List Check). FirstFailure checks v) (append-nil (strongMonitorChecks name file freshMonitor entry)) f)))
 
       entered : FirstFailure (advanceChecks name file freshMonitor Stay entry) passed → r ≡ p → Admitted b name file files r
       entered f e = subst (Admitted b name file files) (sym e) (record {

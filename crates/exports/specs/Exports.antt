@@ -32,9 +32,12 @@ use Rattle.promises.specs.declared.Strength.{Strength}
 use Rattle.promises.specs.Strong.{StrongPromise}
 use Rattle.promises.specs.declared.MonitorVerdict.{MonitorVerdict}
 use Rattle.promises.specs.Verdict.{VerdictPromise}
+use Rattle.promises.specs.declared.Step.{Step}
+use Rattle.promises.specs.declared.Advanced.{Advanced}
+use Rattle.promises.specs.Advance.{AdvancePromise, AdvanceWordPromise}
 use Rattle.packing_counts.specs.Counts.{packListed, packComplemented, packReduced, packCombined, packPartition, packTranslated, packSuccessors}
 use Rattle.packing_decisions.specs.Decisions.{packStrength, packMembership, packConfirmation, packInclusion, packKind}
-use Rattle.packing_monitors.specs.Monitors.{packMoved, packMonitorVerdict}
+use Rattle.packing_monitors.specs.Monitors.{packMoved, packMonitorVerdict, packAdvanced}
 
 pub record ExportedClasses (bytes out-entry out-exit entry exit : List ℕ) (r : ℕ) : Type 0 where
   pub answer : Listed
@@ -105,6 +108,17 @@ pub record ExportedVerdict (bytes : List ℕ) (m : Monitor) (entry exit : List �
   pub answer : MonitorVerdict
   pub promise : VerdictPromise bytes m entry exit answer
   pub packed : r ≡ packMonitorVerdict answer
+
+-- a station has one rule a call, so that the rule is input 1
+pub record ExportedAdvance (bytes : List ℕ) (m : Monitor) (step : Step) (entry exit : List ℕ) (r : ℕ) : Type 0 where
+  pub answer : Advanced
+  pub promise : AdvancePromise 1 bytes m step entry exit answer
+  pub packed : r ≡ packAdvanced answer
+
+pub record ExportedAdvanceWord (bytes : List ℕ) (m : Monitor) (w entry exit : List ℕ) (r : ℕ) : Type 0 where
+  pub answer : Advanced
+  pub promise : AdvanceWordPromise 1 bytes m w entry exit answer
+  pub packed : r ≡ packAdvanced answer
 
 pub record ExportedAutomaton (bytes out-entry out-exit entry exit : List ℕ) (r : ℕ) : Type 0 where
   pub answer : Translated

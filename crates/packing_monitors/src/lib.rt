@@ -3,10 +3,12 @@ use board_promises::Board;
 use board_promises::Notice;
 use packing::pack_fields;
 use packing::pack_refusal;
+use promises::Advanced;
 use promises::MonitorVerdict;
 use promises::Moved;
 ghost use mathlib.Core.Path.{_≡_};
-ghost use Rattle.packing_monitors.specs.Monitors.{packMoved, packMonitorVerdict, packNotice};
+ghost use Prim.Native.Nat.{_+_, _*_, _%_};
+ghost use Rattle.packing_monitors.specs.Monitors.{packMoved, packMonitorVerdict, packAdvanced, packNotice};
 
 pub fn pack_moved(answer: Moved) -> u64
     ensures { λ r. ⌜ r ≡ packMoved answer ⌝ }
@@ -28,6 +30,31 @@ pub fn pack_monitor_verdict(answer: MonitorVerdict) -> u64
     match answer {
         MonitorVerdict::Decided { grade, turns } => pack_fields(grade, turns, 0),
         MonitorVerdict::Refused {
+            refusal,
+            input,
+            place,
+        } => pack_refusal(refusal, input, place),
+    }
+}
+
+// A grade and turns in one field.
+fn grade_and_turns(grade: usize, turns: usize) -> usize
+    ensures { λ r. ⌜ r % 65536 ≡ (grade + 256 * turns) % 65536 ⌝ }
+{
+    grade % 65536 + 256 * (turns % 256)
+}
+
+pub fn pack_advanced(answer: Advanced) -> u64
+    ensures { λ r. ⌜ r ≡ packAdvanced answer ⌝ }
+{
+    match answer {
+        Advanced::To {
+            monitor,
+            grade,
+            turns,
+        } => pack_fields(monitor.before, monitor.since, grade_and_turns(grade, turns)),
+        Advanced::Refused {
+            monitor: _,
             refusal,
             input,
             place,
