@@ -168,7 +168,13 @@ pub extern "C" fn duknavet_advance_event(
 ) -> u64
     ensures { λ r. ⌜ ExportedAdvance (now (rule .entry)) (record { before = before; since = since }) (Event letter) (now (scratch .entry)) (now (scratch .exit)) r ⌝ }
 {
-    pack_advanced(rules::advance(rule, 1, Monitor { before, since }, Step::Event(letter), scratch))
+    pack_advanced(rules::advance(
+        rule,
+        1,
+        Monitor { before, since },
+        Step::Event(letter),
+        scratch,
+    ))
 }
 
 // The same after a mark.

@@ -9,7 +9,7 @@ use Rattle.answer.specs.declared.Refusal.the-variants.{EntryOutOfRange, NotStro
 use Rattle.theory.specs.Rules.{Morphism}
 use Rattle.theory.specs.Grades.{LassosGraded}
 use Rattle.formats.specs.Table.{morphismAt}
-use Rattle.formats.specs.RuleFile.{elementsOf, morphismOf, markingOf}
+use Rattle.formats.specs.RuleFile.{morphismOf, markingOf}
 use Rattle.rule_layout.specs.declared.Shape.{Shape}
 use Rattle.rule_check.specs.declared.Checked.the-variants.{Rule, Refused as Checked-refused}
 use Rattle.rule_check.specs.Answers.{CheckPromise}

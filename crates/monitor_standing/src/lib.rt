@@ -81,10 +81,7 @@ pub fn monitor_grade(rule: &[u8], n: usize, k: usize, monitor: Monitor, scratch:
 {
     let since = monitor.since;
     if since == 64 {
-        return Looked {
-            grade: 4,
-            turns: 0,
-        };
+        return Looked { grade: 4, turns: 0 };
     }
     let start = start_element(monitor);
     values_grade(rule, n, k, scratch, start, since)

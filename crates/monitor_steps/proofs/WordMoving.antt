@@ -1,6 +1,6 @@
 -- What a word of events makes of a monitor by a checked table, and its checks. Assumes nothing.
 use Prim.Native.Nat.{ℕ, zero, suc, _+_, _≤_, _<_}
-use mathlib.Core.Path.{_≡_, refl, sym, ap, _∙_, subst}
+use mathlib.Core.Path.{_≡_, refl, sym, ap, _∙_}
 use mathlib.Core.Logic.{inl}
 use mathlib.Core.List.{List, [], _∷_}
 use native.Mathlib.Omega.{arith}
@@ -120,8 +120,8 @@ module _ {bytes : List ℕ} {n k : ℕ} (table : Table bytes n k) where
     unfolding afterWord
     word-from-none {h} none some over e a = (
       a .after (f .before)
-      ∙ ap (λ (g : Monitor). afterWord (morphismAt bytes n k) g (drop 1 w)) (after-event-is table (over-at k w over 0 some) f e (join-left bytes n k (f .since) h none))
-      ∙ ap (afterWord (morphismAt bytes n k) f) (sym (drop-letter w 0 some)),
+          ∙ ap (λ (g : Monitor). afterWord (morphismAt bytes n k) g (drop 1 w)) (after-event-is table (over-at k w over 0 some) f e (join-left bytes n k (f .since) h none))
+          ∙ ap (afterWord (morphismAt bytes n k) f) (sym (drop-letter w 0 some)),
       taken-good (a .inside),
     )
 

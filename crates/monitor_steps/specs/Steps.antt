@@ -8,7 +8,6 @@ use Rattle.theory.specs.Words.{Over}
 use Rattle.theory.specs.Rules.{Morphism}
 use Rattle.rule_marks.specs.declared.Fault.{Fault}
 use Rattle.rule_marks.specs.declared.Fault.the-variants.{Nothing, Refused}
-use Rattle.promises.specs.declared.Monitor.{Monitor}
 use Rattle.promises.specs.EventWords.{longestLog, logChecks, afterWord}
 
 -- a monitor's since after a word, from an element, whatever its before is

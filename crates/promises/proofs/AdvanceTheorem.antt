@@ -2,37 +2,35 @@
 -- Assumes nothing.
 use Prim.Native.Nat.{ℕ, suc, _≤_, _<_}
 use mathlib.Core.Path.{_≡_, refl, sym, ap, _∙_, subst}
-use mathlib.Core.List.{List, [], _∷_, _++_}
+use mathlib.Core.List.{List, [], _∷_}
 use native.Mathlib.Omega.{arith}
 use lib.ListN.{length}
 use Rattle.answer.specs.declared.Refusal.{Refusal}
 use Rattle.answer.specs.declared.Refusal.the-variants.{UnknownLetter}
-use Rattle.answer.specs.Checks.{Check, Verdict, passed, refused, FirstFailure}
-use Rattle.answer.proofs.Order.{FirstCase, decides-now, hands-on, first-case, first-passes, none-left, single-nil, passed-before, passed-first, passed-last, passes-head, passes-tail, refused-before, one-verdict}
-use Rattle.answer.proofs.Verdicts.{same-refusal, not-passed}
-use Rattle.theory.specs.Words.{Over, over-nil, over-cons}
-use Rattle.formats.specs.RuleFile.{elementsOf, lettersOf, morphismOf}
+use Rattle.answer.specs.Checks.{passed, refused, FirstFailure}
+use Rattle.answer.proofs.Order.{FirstCase, decides-now, hands-on, first-case, first-passes, none-left, single-nil, passed-before, passed-first, passed-last, passes-head, passes-tail, one-verdict}
+use Rattle.answer.proofs.Verdicts.{not-passed}
+use Rattle.theory.specs.Words.{over-nil, over-cons}
+use Rattle.formats.specs.RuleFile.{lettersOf, morphismOf}
 use Rattle.formats.specs.RuleChecks.{scratchSize}
-use Rattle.formats.specs.WordChecks.{UnknownLetterAt}
-use Rattle.formats.specs.Calls.{afterCall, checkedChecks}
+use Rattle.formats.specs.Calls.{checkedChecks}
 use Rattle.formats.proofs.Buffers.{buffer-long}
 use Rattle.formats.proofs.GoodRule.{GoodRule, called-good}
 use Rattle.promises.specs.declared.Monitor.{Monitor}
-use Rattle.promises.specs.declared.Moved.the-variants.{To as Moved-to}
 use Rattle.promises.specs.declared.MonitorVerdict.{MonitorVerdict}
 use Rattle.promises.specs.declared.MonitorVerdict.the-variants.{Decided}
 use Rattle.promises.specs.declared.Step.{Step}
-use Rattle.promises.specs.declared.Step.the-variants.{Event, Mark, Stay}
+use Rattle.promises.specs.declared.Step.the-variants.{Event, Stay}
 use Rattle.promises.specs.declared.Advanced.{Advanced}
 use Rattle.promises.specs.declared.Advanced.the-variants.{To, Refused}
 use Rattle.promises.specs.Monitor.{noValue, monitorChecks}
-use Rattle.promises.specs.Moves.{loneLetterCheck, eventChecks, EventPromise, MarkPromise}
+use Rattle.promises.specs.Moves.{loneLetterCheck, eventChecks}
 use Rattle.promises.specs.Verdict.{verdictChecks, VerdictPromise}
 use Rattle.promises.specs.EventWords.{longestLog, logChecks, afterWord}
-use Rattle.promises.specs.Advance.{afterStep, ForeignStep, standingChecks, strongMonitorChecks, foreignChecks, advanceChecks, advanceWordChecks, advancedVerdict, AdvancedTo, AdvanceAnswer, AdvancePromise, AdvanceWordPromise}
+use Rattle.promises.specs.Advance.{ForeignStep, standingChecks, strongMonitorChecks, foreignChecks, advancedVerdict, AdvanceAnswer, AdvancePromise, AdvanceWordPromise}
 use Rattle.promises.specs.AdvanceTheorem.{behindLetter, AdvanceTheorem}
-use Rattle.promises.proofs.CheckParts.{FirstOf, by-first, by-last, first-of, behind-same, behind-passed, rule-as}
-use Rattle.promises.proofs.EventWords.{foreign-single, log-single, known-step, behind-known, foreign-head, log-over, log-passes, log-foreign, log-refused}
+use Rattle.promises.proofs.CheckParts.{behind-same, behind-passed, rule-as}
+use Rattle.promises.proofs.EventWords.{log-single, known-step, behind-known, foreign-head, log-over, log-passes, log-foreign, log-refused}
 use Rattle.promises.proofs.MonitorOrder.{Stray}
 use Rattle.promises.proofs.MonitorGoods.{step-fits, event-element}
 use Rattle.promises.proofs.OneAdvance.{one-answer, one-word-answer}

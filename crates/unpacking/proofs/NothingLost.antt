@@ -24,6 +24,7 @@ use Rattle.formats.specs.ReadBack.{WrittenRule}
 use Rattle.formats.proofs.Listed.{select-listed}
 use Rattle.promises.specs.Weak.{WeakAt, weakCheck}
 use Rattle.promises.specs.declared.Monitor.{Monitor}
+use Rattle.promises.specs.declared.Step.{Step}
 use Rattle.promises.specs.Monitor.{freshMonitor, MonitorValueOutOfRangeAt, monitorChecks}
 use Rattle.promises.specs.Moves.{LoneUnknownLetterAt, EventPromise, MarkPromise}
 use Rattle.promises.specs.Points.{NameOutOfRangeAt, NameNeverKeptAt, MonitorOrPointOutOfRangeAt, KeepPromise, ReturnPromise}
@@ -76,14 +77,15 @@ use Rattle.board_state.specs.State.{stateSize}
 use Rattle.packing.specs.Packing.{fields, refusal-at, unpack}
 use Rattle.packing_counts.specs.Counts.{listedContents, complementedContents, reducedContents, combinedContents, bit, partitionContents, translatedContents, successorsContents}
 use Rattle.packing_decisions.specs.Decisions.{strengthContents, membershipContents, confirmationContents, inclusionContents, kindContents}
-use Rattle.packing_monitors.specs.Monitors.{monitorContents, movedContents, monitorVerdictContents, packMonitor, noticeContents, packNotice}
+use Rattle.packing_monitors.specs.Monitors.{monitorContents, movedContents, monitorVerdictContents, advancedContents, packMonitor, noticeContents, packNotice}
 use Rattle.packing.proofs.ReadBack.{FieldsFit, Fits, read-back}
 use Rattle.packing_counts.proofs.Contents.{listed-told, complemented-told, reduced-told, combined-told, partition-told, translated-told, successors-told}
 use Rattle.packing_decisions.proofs.Contents.{strength-told, membership-told, confirmation-told, inclusion-told, kind-told}
-use Rattle.packing_monitors.proofs.Contents.{judged-told, moved-told}
-use Rattle.exports.specs.Exports.{ExportedClasses, ExportedStrength, ExportedMember, ExportedComplement, ExportedInclusion, ExportedEvent, ExportedMark, ExportedKeep, ExportedReturn, ExportedReduction, ExportedConfirmation, ExportedCombination, ExportedRounds, ExportedVerdict, ExportedAutomaton, ExportedKind, ExportedSuccessors}
+use Rattle.packing_monitors.proofs.Contents.{judged-told, moved-told, advanced-told}
+use Rattle.exports.specs.Exports.{ExportedClasses, ExportedStrength, ExportedMember, ExportedComplement, ExportedInclusion, ExportedEvent, ExportedMark, ExportedKeep, ExportedReturn, ExportedReduction, ExportedConfirmation, ExportedCombination, ExportedRounds, ExportedVerdict, ExportedAdvance, ExportedAdvanceWord, ExportedAutomaton, ExportedKind, ExportedSuccessors}
 use Rattle.exports.specs.BoardExports.{ExportedBoardCall, ExportedBoardEmpty, ExportedBoardEnter, ExportedBoardLeave, ExportedBoardEvent, ExportedBoardMark}
 use Rattle.unpacking.proofs.Limits.{Near, near, refused-fits, at-zero, buffer-limited, rule-limited, checked-limited, second-limited, lasso-limited}
+use Rattle.unpacking.proofs.Advances.{advance-fits, advance-held, advance-word-fits, advance-word-held}
 use Rattle.unpacking.proofs.AutomatonLimits.{translated-limited}
 use Rattle.unpacking.proofs.BoardGrades.{board-enter-fits, board-leave-fits, board-event-fits, board-mark-fits}
 use Rattle.unpacking.proofs.Monitors.{mark-fits, event-fits, keep-fits, return-fits}
@@ -307,6 +309,12 @@ module _ {bytes entry exit : List ℕ} {r : ℕ} where
     pub verdict-read : (x : ExportedVerdict bytes f entry exit r) → unpack r ≡ monitorVerdictContents (x .answer)
     verdict-read x = ap unpack (x .packed) ∙ read-back _ (verdict-fits (x .answer) (x .promise))
 
+    pub advance-read : {step : Step} (x : ExportedAdvance bytes f step entry exit r) → unpack r ≡ advancedContents (x .answer)
+    advance-read x = ap unpack (x .packed) ∙ read-back _ (advance-fits (x .answer) (x .promise))
+
+    pub advance-word-read : {w : List ℕ} (x : ExportedAdvanceWord bytes f w entry exit r) → unpack r ≡ advancedContents (x .answer)
+    advance-word-read x = ap unpack (x .packed) ∙ read-back _ (advance-word-fits (x .answer) (x .promise))
+
   module _ {before after : List ℕ} where
     pub classes-read : (x : ExportedClasses bytes before after entry exit r) → unpack r ≡ listedContents (x .answer)
     classes-read x = ap unpack (x .packed) ∙ read-back _ (listed-fits (x .answer) (x .promise))
@@ -404,6 +412,14 @@ module _ {bytes entry exit bytes′ entry′ exit′ : List ℕ} {r : ℕ} where
     pub return-told : {name name′ : ℕ} {points points′ : List ℕ} (x : ExportedReturn bytes f name points entry exit r)
         (y : ExportedReturn bytes′ f name′ points′ entry′ exit′ r) → x .answer ≡ y .answer
     return-told x y = moved-told f _ _ _ _ (x .promise .monitor) (y .promise .monitor) (sym (return-read x) ∙ return-read y)
+
+    pub advance-told : {step step′ : Step} (x : ExportedAdvance bytes f step entry exit r) (y : ExportedAdvance bytes′ f step′ entry′ exit′ r) → x .answer ≡ y .answer
+    advance-told x y =
+        advanced-told f _ _ (advance-held (x .answer) (x .promise)) (advance-held (y .answer) (y .promise)) (sym (advance-read x) ∙ advance-read y)
+
+    pub advance-word-told : {w w′ : List ℕ} (x : ExportedAdvanceWord bytes f w entry exit r) (y : ExportedAdvanceWord bytes′ f w′ entry′ exit′ r) → x .answer ≡ y .answer
+    advance-word-told x y =
+        advanced-told f _ _ (advance-word-held (x .answer) (x .promise)) (advance-word-held (y .answer) (y .promise)) (sym (advance-word-read x) ∙ advance-word-read y)
 
   module _ {before after before′ after′ : List ℕ} where
     pub classes-told : (x : ExportedClasses bytes before after entry exit r) (y : ExportedClasses bytes′ before′ after′ entry′ exit′ r)
