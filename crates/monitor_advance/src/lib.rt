@@ -131,10 +131,10 @@ fn word_answer(
             };
         }
     }
-    let next = moved_by_word(rule, n, k, monitor, word);
-    let looked = monitor_grade(rule, n, k, next, scratch);
+    let last = moved_by_word(rule, n, k, monitor, word);
+    let looked = monitor_grade(rule, n, k, last, scratch);
     Advanced::To {
-        monitor: next,
+        monitor: last,
         grade: looked.grade,
         turns: looked.turns,
     }

@@ -59,7 +59,8 @@ pub fn check_standing(rule: &[u8], input: usize, monitor: Monitor, scratch: &mut
             place: 0,
         };
     }
-    if !decide(rule, n, k, scratch) {
+    let strong = decide(rule, n, k, scratch);
+    if !strong {
         zero(scratch);
         return Standing::Refused {
             refusal: Refusal::NotStrong,
