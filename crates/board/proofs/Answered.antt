@@ -17,10 +17,10 @@ use Rattle.promises.specs.declared.Monitor.{Monitor}
 use Rattle.promises.specs.declared.Step.{Step}
 use Rattle.promises.specs.declared.Step.the-variants.{Event, Mark, Stay}
 use Rattle.promises.specs.declared.Advanced.{Advanced}
-use Rattle.promises.specs.declared.Advanced.the-variants.{To, Foreign, Refused as Refused-answer}
+use Rattle.promises.specs.declared.Advanced.the-variants.{To, Refused as Refused-answer}
 use Rattle.promises.specs.Monitor.{freshMonitor, monitorValueCheck, MonitorValueOutOfRangeAt}
 use Rattle.promises.specs.Weak.{weakCheck}
-use Rattle.promises.specs.Advance.{ForeignStep, AdvancePromise, advancedVerdict, advanceChecks}
+use Rattle.promises.specs.Advance.{ForeignStep, AdvancePromise, advancedVerdict, strongMonitorChecks, advanceChecks}
 use Rattle.board_promises.specs.declared.Board.{Board}
 use Rattle.board_promises.specs.declared.Notice.{Notice}
 use Rattle.board_promises.specs.declared.Notice.the-variants.{Done, Refused}
@@ -184,22 +184,24 @@ module _ {b : Board} {name : ℕ} {file files : List ℕ} {p : Pass} (pass : Pas
       → AdvancePromise name file freshMonitor Stay entry exit answer → EntryTold p answer r → Admitted b name file files r
   admit-told {entry} {exit} {r} done room answer a t = go answer (a .refusal) t
     where
-      own : {v : Verdict} → FirstFailure (advanceChecks name file freshMonitor entry) v → FirstFailure (allChecks b files ++ (ruleChecks name file ++ weakCheck name file ∷ [])) v
-      own f = passed-before (allChecks b files) _ (passed-pass pass done) (without (ruleChecks name file) (weakCheck name file ∷ []) (fresh-passes name (elementsOf file)) (after-long room f))
+      own : {v : Verdict} → FirstFailure (advanceChecks name file freshMonitor Stay entry) v → FirstFailure (allChecks b files ++ (ruleChecks name file ++ weakCheck name file ∷ [])) v
+      own {v} f = passed-before (allChecks b files) _ (passed-pass pass done) (without (ruleChecks name file) (weakCheck name file ∷ []) (fresh-passes name (elementsOf file))
+          (after-long room (subst (λ (checks : List Check). FirstFailure checks v) (append-nil (strongMonitorChecks name file freshMonitor entry)) f)))
 
-      entered : FirstFailure (advanceChecks name file freshMonitor entry) passed → r ≡ p → Admitted b name file files r
+      entered : FirstFailure (advanceChecks name file freshMonitor Stay entry) passed → r ≡ p → Admitted b name file files r
       entered f e = subst (Admitted b name file files) (sym e) (record {
         refusal = subst (λ (notice : Notice). FirstFailure (allChecks b files ++ (ruleChecks name file ++ weakCheck name file ∷ [])) (noticeVerdict notice)) (sym done) (own f);
         lowest = lowest-of pass;
       })
 
-      go : (answer : Advanced) → FirstFailure (advanceChecks name file freshMonitor entry) (advancedVerdict answer) → EntryTold p answer r → Admitted b name file files r
-      go (To g grade) f e = entered f e
-      go Foreign f e = entered f e
-      go (Refused-answer refusal input place) f e = record {
-        refusal = subst (λ (notice : Notice). FirstFailure (allChecks b files ++ (ruleChecks name file ++ weakCheck name file ∷ [])) (noticeVerdict notice)) (sym e) (own f);
-        lowest = λ r-done. absurd (not-done (sym e ∙ r-done));
-      }
+      go : (answer : Advanced) → FirstFailure (advanceChecks name file freshMonitor Stay entry) (advancedVerdict answer) → EntryTold p answer r → Admitted b name file files r
+      go (To g grade turns) f e = entered f e
+      go (Refused-answer g refusal input place) f e =
+          let told = ap (λ (q : Pass). q .notice) e in
+          record {
+            refusal = subst (λ (notice : Notice). FirstFailure (allChecks b files ++ (ruleChecks name file ++ weakCheck name file ∷ [])) (noticeVerdict notice)) (sym told) (own f);
+            lowest = λ r-done. absurd (not-done (sym told ∙ r-done));
+          }
 
 -- a file that was admitted, and the room for it
 module _ {b : Board} {name : ℕ} {file files : List ℕ} {p : Pass} (admitted : Admitted b name file files p) (done : p .notice ≡ Done) where

@@ -3,10 +3,12 @@ use Prim.Native.Nat.{ℕ, _≤_, _<_}
 use mathlib.Core.Path.{_≡_}
 use mathlib.Core.Bool.{Bool, true, false}
 use mathlib.Core.Logic.{_⊎_}
+use Rattle.answer.specs.declared.Refusal.{Refusal}
 use Rattle.answer.specs.declared.Refusal.the-variants.{UnknownLetter}
+use Rattle.answer.specs.Refusals.{numberOf}
 use Rattle.promises.specs.declared.Monitor.{Monitor}
 use Rattle.promises.specs.declared.Advanced.{Advanced}
-use Rattle.promises.specs.declared.Advanced.the-variants.{To, Foreign, Refused as Refused-answer}
+use Rattle.promises.specs.declared.Advanced.the-variants.{To, Refused as Refused-answer}
 use Rattle.board_promises.specs.declared.Board.{Board}
 use Rattle.board_promises.specs.declared.Notice.{Notice}
 use Rattle.board_promises.specs.declared.Notice.the-variants.{Done, Refused}
@@ -37,20 +39,30 @@ pub record Counted (leaver i : ℕ) (p : Pass) (g : Monitor) (grade : ℕ) (r : 
   pub lowest : LowestWith leaver i (p .lowest) grade (r .lowest)
   pub foreign : r .foreign ≡ p .foreign
 
+-- a name that the step is foreign to: nothing else of the pass changes
 pub record FoundForeign (i : ℕ) (p r : Pass) : Type 0 where
   pub done : r .notice ≡ Done
+  pub moved : r .next ≡ p .next
+  pub lowest : r .lowest ≡ p .lowest
   pub foreign : Lesser (p .foreign) i (r .foreign)
 
+-- a refusal: nothing else changes
+abbrev pub withRefusal : Pass → Refusal → ℕ → ℕ → Pass
+withRefusal p refusal input place = record { next = p .next; lowest = p .lowest; foreign = p .foreign; notice = Refused refusal input place }
+
+-- a foreign step is told by its number
+pub record RefusalTold (i : ℕ) (p : Pass) (refusal : Refusal) (input place : ℕ) (r : Pass) : Type 0 where
+  pub foreign : numberOf refusal ≡ numberOf UnknownLetter → FoundForeign i p r
+  pub other : (numberOf refusal ≡ numberOf UnknownLetter → ⊥) → r ≡ withRefusal p refusal input place
+
 abbrev pub Told : ℕ → ℕ → Pass → Advanced → Pass → Type 0
-Told leaver i p (To g grade) r = Counted leaver i p g grade r
-Told leaver i p Foreign r = FoundForeign i p r
-Told leaver i p (Refused-answer refusal input place) r = r .notice ≡ Refused refusal input place
+Told leaver i p (To g grade turns) r = Counted leaver i p g grade r
+Told leaver i p (Refused-answer g refusal input place) r = RefusalTold i p refusal input place r
 
 -- what the library's answer for the file that enters makes of a pass
 abbrev pub EntryTold : Pass → Advanced → Pass → Type 0
-EntryTold p (To g grade) r = r ≡ p
-EntryTold p Foreign r = r ≡ p
-EntryTold p (Refused-answer refusal input place) r = r .notice ≡ Refused refusal input place
+EntryTold p (To g grade turns) r = r ≡ p
+EntryTold p (Refused-answer g refusal input place) r = r ≡ withRefusal p refusal input place
 
 -- a refused pass hands the board back, another one the board that the call makes
 pub data PassAnswer (b next : Board) (p : Pass) (r : Posted) : Type 0 where

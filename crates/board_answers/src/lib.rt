@@ -5,10 +5,11 @@ use board_promises::Notice;
 use board_promises::Posted;
 use rules::Advanced;
 use rules::Refusal;
+use rules::number;
 ghost use mathlib.Core.Path.{_≡_};
 ghost use Prim.Native.Nat.{_<_};
 ghost use Rattle.board_promises.specs.Boards.{namesCount, withLowest, withLeft};
-ghost use Rattle.board_answers.specs.Answers.{RefusesAnswer, Lesser, LowestWith, Told, EntryTold, PassAnswer, StepAnswer};
+ghost use Rattle.board_answers.specs.Answers.{RefusesAnswer, Lesser, LowestWith, withRefusal, RefusalTold, Told, EntryTold, PassAnswer, StepAnswer};
 
 // How far a pass over the names has come: the followers moved so far, the lowest grade so far, the lowest name that the step is foreign to, 8
 // where there is none, and the first refusal.
@@ -52,6 +53,39 @@ fn lowest_with(leaver: usize, i: usize, lowest: usize, grade: usize) -> usize
     lesser(lowest, grade)
 }
 
+// A pass with a refusal; nothing else of it changes.
+fn refused(pass: Pass, refusal: Refusal, input: usize, place: usize) -> Pass
+    ensures { λ r. ⌜ r ≡ withRefusal pass refusal input place ⌝ }
+{
+    let next = pass.next;
+    Pass {
+        next,
+        lowest: pass.lowest,
+        foreign: pass.foreign,
+        notice: Notice::Refused {
+            refusal,
+            input,
+            place,
+        },
+    }
+}
+
+// What the library's refusal for a name makes of a pass. Of a rule that passed all else an event is refused by 10: others' checks come before that.
+fn told_refusal(i: usize, pass: Pass, refusal: Refusal, input: usize, place: usize) -> Pass
+    ensures { λ r. ⌜ RefusalTold i pass refusal input place r ⌝ }
+{
+    let next = pass.next;
+    if number(refusal) == 10 {
+        return Pass {
+            next,
+            lowest: pass.lowest,
+            foreign: lesser(pass.foreign, i),
+            notice: Notice::Done,
+        };
+    }
+    refused(pass, refusal, input, place)
+}
+
 // What the library's answer for a name makes of a pass.
 pub fn told(leaver: usize, i: usize, pass: Pass, answer: Advanced) -> Pass
     requires { ⌜ i < namesCount ⌝ }
@@ -59,7 +93,11 @@ pub fn told(leaver: usize, i: usize, pass: Pass, answer: Advanced) -> Pass
 {
     let mut next = pass.next;
     match answer {
-        Advanced::To { monitor, grade } => {
+        Advanced::To {
+            monitor,
+            grade,
+            turns: _,
+        } => {
             next.before[i] = monitor.before;
             next.since[i] = monitor.since;
             Pass {
@@ -69,26 +107,12 @@ pub fn told(leaver: usize, i: usize, pass: Pass, answer: Advanced) -> Pass
                 notice: Notice::Done,
             }
         }
-        Advanced::Foreign => Pass {
-            next,
-            lowest: pass.lowest,
-            foreign: lesser(pass.foreign, i),
-            notice: Notice::Done,
-        },
         Advanced::Refused {
+            monitor: _,
             refusal,
             input,
             place,
-        } => Pass {
-            next,
-            lowest: pass.lowest,
-            foreign: pass.foreign,
-            notice: Notice::Refused {
-                refusal,
-                input,
-                place,
-            },
-        },
+        } => told_refusal(i, pass, refusal, input, place),
     }
 }
 
@@ -96,27 +120,18 @@ pub fn told(leaver: usize, i: usize, pass: Pass, answer: Advanced) -> Pass
 pub fn with_answer(pass: Pass, answer: Advanced) -> Pass
     ensures { λ r. ⌜ EntryTold pass answer r ⌝ }
 {
-    let next = pass.next;
     match answer {
         Advanced::To {
             monitor: _,
             grade: _,
+            turns: _,
         } => pass,
-        Advanced::Foreign => pass,
         Advanced::Refused {
+            monitor: _,
             refusal,
             input,
             place,
-        } => Pass {
-            next,
-            lowest: pass.lowest,
-            foreign: pass.foreign,
-            notice: Notice::Refused {
-                refusal,
-                input,
-                place,
-            },
-        },
+        } => refused(pass, refusal, input, place),
     }
 }
 

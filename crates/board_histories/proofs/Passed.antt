@@ -8,7 +8,6 @@ use mathlib.Core.List.{List, [], _∷_, _++_}
 use native.Mathlib.Omega.{arith}
 use native.Mathlib.Decide.{ℕ-discrete}
 use lib.ListN.{length}
-use Rattle.answer.specs.declared.Refusal.the-variants.{UnknownLetter}
 use Rattle.answer.specs.Checks.{Check, passed, FirstFailure}
 use Rattle.answer.proofs.Order.{passed-first, passed-last, passes-head, passes-tail}
 use Rattle.theory.specs.Grades.{StrongMarking}
@@ -16,7 +15,7 @@ use Rattle.formats.specs.RuleFile.{lettersOf, morphismOf, markingOf}
 use Rattle.formats.specs.RuleChecks.{ruleChecks}
 use Rattle.formats.proofs.GoodRule.{good-rule, strong-of, GoodRule}
 use Rattle.promises.specs.Weak.{weakCheck}
-use Rattle.promises.specs.Moves.{LoneUnknownLetterAt}
+use Rattle.promises.specs.Moves.{loneLetterCheck}
 use Rattle.board_promises.specs.declared.Board.{Board}
 use Rattle.board_promises.specs.declared.Notice.{Notice}
 use Rattle.board_promises.specs.declared.Notice.the-variants.{Done}
@@ -58,7 +57,7 @@ module _ (b : Board) (name : ℕ) (file files entry : List ℕ) (all : FirstFail
 -- the letter of an event
 module _ (b : Board) (files : List ℕ) (letter : ℕ) where
   abbrev unknown : ℕ → Check
-  unknown i = record { refusal = UnknownLetter; input = i; Fails = LoneUnknownLetterAt (lettersOf (fileAt files i)) letter }
+  unknown i = loneLetterCheck i (lettersOf (fileAt files i)) letter
 
   name-letter : (i : ℕ) → FirstFailure (letterChecks b files letter i) passed → presentAt b i ≡ true → letter < lettersOf (fileAt files i)
   name-letter i f there =

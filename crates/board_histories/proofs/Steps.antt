@@ -133,8 +133,8 @@ module _ {b : Board} {files : List ℕ} {log : List Deed} (s : NamesAgree b file
       → NamesAgree (movedBelow files (Event letter) b namesCount) files (moved (event letter) ∷ log)
   event-agrees letter entry all =
       move-agrees (Event letter) (event letter) (λ i h file history p.
-      after-event file (p .good .lawful) (p .good .table .small) (p .follows) letter
+      after-event file (p .good) (p .follows) letter
       (subst (λ (bytes : List ℕ). letter < lettersOf bytes) (p .its-file) (event-letter b files letter all i h (p .there))))
 
   pub mark-agrees : NamesAgree (movedBelow files Mark b namesCount) files (moved mark ∷ log)
-  mark-agrees = move-agrees Mark mark (λ i h file history p. after-mark file (p .good .lawful) (p .good .table .small) (p .follows))
+  mark-agrees = move-agrees Mark mark (λ i h file history p. after-mark file (p .good) (p .follows))

@@ -7,15 +7,21 @@ use mathlib.Core.List.{List, _++_, append-nil}
 use native.Mathlib.Omega.{arith}
 use native.Mathlib.Decide.{ℕ-discrete}
 use lib.ListN.{length}
-use Rattle.answer.specs.Checks.{Check, Verdict, passed, FirstFailure}
-use Rattle.answer.proofs.Order.{none-left, refused-before, passed-before, passed-first}
+use Rattle.answer.specs.declared.Refusal.{Refusal}
+use Rattle.answer.specs.declared.Refusal.the-variants.{UnknownLetter}
+use Rattle.answer.specs.Refusals.{numberOf}
+use Rattle.answer.specs.Checks.{Check, Verdict, passed, numbered, refused, FirstFailure}
+use Rattle.answer.proofs.Order.{none-left, refused-before, passed-before, passed-first, passed-last}
 use Rattle.formats.specs.RuleFile.{lettersOf}
 use Rattle.formats.specs.RuleChecks.{scratchSize, ruleChecks}
 use Rattle.promises.specs.declared.Monitor.{Monitor}
 use Rattle.promises.specs.declared.Step.{Step}
 use Rattle.promises.specs.declared.Advanced.{Advanced}
-use Rattle.promises.specs.declared.Advanced.the-variants.{To, Foreign, Refused}
-use Rattle.promises.specs.Advance.{noGrade, ForeignStep, MonitorGrade, standingChecks, AdvancePromise}
+use Rattle.promises.specs.declared.Advanced.the-variants.{To, Refused}
+use Rattle.promises.specs.Advance.{noGrade, ForeignStep, MonitorGrade, standingChecks, foreignChecks, AdvancePromise}
+use Rattle.promises.proofs.CheckParts.{FirstOf, by-first, by-last, first-of}
+use Rattle.promises.proofs.EventWords.{known-step, step-refused}
+use Rattle.promises.proofs.NoLetters.{standing-none}
 use Rattle.board_promises.specs.declared.Board.{Board}
 use Rattle.board_promises.specs.declared.Notice.{Notice}
 use Rattle.board_promises.specs.declared.Notice.the-variants.{Done, Refused as Refused-notice}
@@ -27,7 +33,7 @@ use Rattle.board_promises.proofs.NameRows.{one-more, present-decides, absent-ch
 use Rattle.board_promises.proofs.SmallFiles.{grade-small}
 use Rattle.board_promises.proofs.Moved.{moved-none, moved-absent, moved-present}
 use Rattle.board_answers.specs.declared.Pass.{Pass}
-use Rattle.board_answers.specs.Answers.{Counted, FoundForeign, Told}
+use Rattle.board_answers.specs.Answers.{Counted, FoundForeign, RefusalTold, Told}
 use Rattle.board_answers.proofs.Notices.{not-done}
 use Rattle.board_pass.specs.Passes.{Cleared, NoneForeign, FirstForeign, AllKnown, PassAt}
 use Rattle.board_pass.proofs.ClearedScratch.{after-long, call-leaves}
@@ -119,16 +125,36 @@ module _ (b : Board) (files : List ℕ) (step : Step) (leaver : ℕ) {i : ℕ} {
             (λ f. subst (FirstForeign b files step (i + 1)) (sym (is-earlier f)) (found-more f)) (before .result done));
       }
 
+    -- refused: by one of its own checks, or by the step's, whose number none of those has
+    module _ {r : Pass} {number : Refusal} {input place : ℕ} (named : i < namesCount) (t : RefusalTold i p number input place r) where
+      own-refused : FirstFailure (ruleChecks i (fileAt files i) ++ standingChecks i (fileAt files i) (monitorAt b i)) (refused number input place)
+          → PassAt b files step leaver (i + 1) r
+      own-refused f =
+          let not : numberOf number ≡ numberOf UnknownLetter → ⊥ =
+          λ e. standing-none i (fileAt files i) (monitorAt b i) .never input place
+          (subst (λ (n : ℕ). FirstFailure (ruleChecks i (fileAt files i) ++ standingChecks i (fileAt files i) (monitorAt b i)) (numbered n input place)) e f) in
+          let notice = ap (λ (q : Pass). q .notice) (t .other not) in
+          record {
+            refusal = subst (λ (n : Notice). FirstFailure (namesChecks b files 0 (i + 1)) (noticeVerdict n)) (sym notice) (one-decides f);
+            result = λ r-done. absurd (not-done (sym notice ∙ r-done));
+          }
+
+      pass-refuses : FirstOf (ruleChecks i (fileAt files i) ++ standingChecks i (fileAt files i) (monitorAt b i)) (foreignChecks i (lettersOf (fileAt files i)) step) (refused number input place)
+          → PassAt b files step leaver (i + 1) r
+      pass-refuses (by-first e f) = own-refused f
+      pass-refuses (by-last own f) =
+          let found = step-refused i (lettersOf (fileAt files i)) step f in
+          pass-foreign (t .foreign (found .0)) own (found .1) named
+
     pub pass-told : {entry exit : List ℕ} {r : Pass} → i < namesCount → scratchSize ≤ length entry → (answer : Advanced)
         → AdvancePromise i (fileAt files i) (monitorAt b i) step entry exit answer → Told leaver i p answer r → PassAt b files step leaver (i + 1) r
-    pass-told named room (To g grade) a t =
-        pass-counted t (after-long room (a .refusal)) (a .answered .known) (a .answered .moved) (a .answered .graded)
-    pass-told named room Foreign a t = pass-foreign t (after-long room (a .refusal)) (a .answered) named
-    pass-told named room (Refused refusal input place) a t = record {
-      refusal =
-          subst (λ (notice : Notice). FirstFailure (namesChecks b files 0 (i + 1)) (noticeVerdict notice)) (sym t) (one-decides (after-long room (a .refusal)));
-      result = λ r-done. absurd (not-done (sym t ∙ r-done));
-    }
+    pass-told named room (To g grade turns) a t =
+        let all = after-long room (a .refusal) in
+        pass-counted t (passed-first (ruleChecks i (fileAt files i) ++ standingChecks i (fileAt files i) (monitorAt b i)) _ all)
+        (known-step i (lettersOf (fileAt files i)) step (passed-last (ruleChecks i (fileAt files i) ++ standingChecks i (fileAt files i) (monitorAt b i)) _ all))
+        (a .answered .moved) (a .answered .graded)
+    pass-told named room (Refused g number input place) a t =
+        pass-refuses named t (first-of (ruleChecks i (fileAt files i) ++ standingChecks i (fileAt files i) (monitorAt b i)) _ (after-long room (a .refusal)))
 
     -- the scratch that the call is lent is zeros, and stays so
     pub pass-asked : {file : List ℕ} {f : Monitor} {entry exit : List ℕ} {r : Pass} → file ≡ fileAt files i → f ≡ monitorAt b i → i < namesCount → Cleared entry → (answer : Advanced)

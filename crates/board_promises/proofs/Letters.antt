@@ -10,7 +10,7 @@ use Rattle.answer.specs.declared.Refusal.the-variants.{UnknownLetter}
 use Rattle.answer.specs.Checks.{passed, refused, FirstFailure}
 use Rattle.answer.proofs.Order.{first-passes, first-fails, none-left, refused-before, passed-before}
 use Rattle.formats.specs.RuleFile.{lettersOf}
-use Rattle.promises.specs.Moves.{LoneUnknownLetterAt}
+use Rattle.promises.specs.Moves.{LoneUnknownLetterAt, loneLetterCheck}
 use Rattle.board_promises.specs.declared.Board.{Board}
 use Rattle.board_promises.specs.Boards.{fileAt, presentAt}
 use Rattle.board_promises.specs.Checks.{letterChecks, lettersChecks}
@@ -25,14 +25,14 @@ module _ (b : Board) (files : List ℕ) (letter : ℕ) where
   one-passes i known = go (presentAt b i) refl
     where
       go : (there : Bool) → presentAt b i ≡ there
-          → FirstFailure (cond there (record { refusal = UnknownLetter; input = i; Fails = LoneUnknownLetterAt (lettersOf (fileAt files i)) letter } ∷ []) []) passed
+          → FirstFailure (cond there (loneLetterCheck i (lettersOf (fileAt files i)) letter ∷ []) []) passed
       go true e = first-passes (record { nowhere = λ place (f : LoneUnknownLetterAt _ _ place). known e (f .foreign) }) none-left
       go false e = none-left
 
   one-refuses : (i : ℕ) → presentAt b i ≡ true → ForeignAt i → FirstFailure (letterChecks b files letter i) (refused UnknownLetter i 0)
   one-refuses i there foreign =
-      subst (λ (flag : Bool). FirstFailure (cond flag (record { refusal = UnknownLetter; input = i; Fails = LoneUnknownLetterAt (lettersOf (fileAt files i)) letter } ∷ []) []) (refused UnknownLetter i 0))
-      (sym there) (first-fails (record { refusal = UnknownLetter; input = i; Fails = LoneUnknownLetterAt (lettersOf (fileAt files i)) letter }) (record { foreign = foreign; is-place = refl }))
+      subst (λ (flag : Bool). FirstFailure (cond flag (loneLetterCheck i (lettersOf (fileAt files i)) letter ∷ []) []) (refused UnknownLetter i 0))
+      (sym there) (first-fails (loneLetterCheck i (lettersOf (fileAt files i)) letter) (record { foreign = foreign; is-place = refl }))
 
   -- none of the names
   pub letters-pass : (i count : ℕ) → ((j : ℕ) → i ≤ j → j < i + count → presentAt b j ≡ true → ForeignAt j → ⊥) → FirstFailure (lettersChecks b files letter i count) passed

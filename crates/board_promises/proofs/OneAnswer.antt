@@ -5,7 +5,6 @@ use mathlib.Core.Bool.{Bool, true, false, cond}
 use mathlib.Core.Logic.{⊎-elim}
 use mathlib.Core.List.{List, [], _∷_, _++_}
 use native.Mathlib.Omega.{arith}
-use Rattle.answer.specs.declared.Refusal.the-variants.{UnknownLetter}
 use Rattle.answer.proofs.Order.{AllSingle, single-nil, single-at, single-cons, single-append, one-verdict}
 use Rattle.answer.proofs.Verdicts.{same-refusal, not-passed}
 use Rattle.formats.proofs.Buffers.{buffer-single}
@@ -15,7 +14,7 @@ use Rattle.formats.specs.RuleChecks.{ruleChecks}
 use Rattle.promises.specs.declared.Step.the-variants.{Event, Mark}
 use Rattle.promises.specs.Monitor.{MonitorValueOutOfRangeAt}
 use Rattle.promises.specs.Weak.{WeakAt}
-use Rattle.promises.specs.Moves.{LoneUnknownLetterAt}
+use Rattle.promises.specs.Moves.{LoneUnknownLetterAt, loneLetterCheck}
 use Rattle.promises.specs.Advance.{noGrade, standingChecks}
 use Rattle.board_promises.specs.declared.Board.{Board}
 use Rattle.board_promises.specs.declared.Notice.{Notice}
@@ -47,7 +46,7 @@ module _ (b : Board) (files : List ℕ) where
     letter-single i = go (presentAt b i)
       where
         go : (there : Bool)
-            → AllSingle (cond there (record { refusal = UnknownLetter; input = i; Fails = LoneUnknownLetterAt (lettersOf (fileAt files i)) letter } ∷ []) [])
+            → AllSingle (cond there (loneLetterCheck i (lettersOf (fileAt files i)) letter ∷ []) [])
         go true = single-cons (single-at (λ place (a : LoneUnknownLetterAt _ _ place). a .is-place)) single-nil
         go false = single-nil
 

@@ -4,12 +4,12 @@ use mathlib.Core.Path.{_≡_}
 use mathlib.Core.Bool.{true, false, cond}
 use mathlib.Core.Logic.{_⊎_}
 use mathlib.Core.List.{List, [], _∷_, _++_}
-use Rattle.answer.specs.declared.Refusal.the-variants.{UnknownLetter, NameNotFree, NameNotPresent}
+use Rattle.answer.specs.declared.Refusal.the-variants.{NameNotFree, NameNotPresent}
 use Rattle.answer.specs.Checks.{Check}
 use Rattle.formats.specs.RuleFile.{lettersOf}
 use Rattle.formats.specs.RuleChecks.{bufferCheck, scratchSize, ruleChecks}
 use Rattle.promises.specs.Weak.{weakCheck}
-use Rattle.promises.specs.Moves.{LoneUnknownLetterAt}
+use Rattle.promises.specs.Moves.{loneLetterCheck}
 use Rattle.promises.specs.Advance.{standingChecks}
 use Rattle.board_promises.specs.declared.Board.{Board}
 use Rattle.board_promises.specs.Boards.{namesCount, filesSize, fileAt, presentAt, monitorAt}
@@ -50,7 +50,7 @@ allChecks b files = namesChecks b files 0 namesCount
 -- "An event foreign to a rule is refused by 10 .., with its name as input, the lowest if several"
 abbrev pub letterChecks : Board → List ℕ → ℕ → ℕ → List Check
 letterChecks b files letter i =
-    cond (presentAt b i) (record { refusal = UnknownLetter; input = i; Fails = LoneUnknownLetterAt (lettersOf (fileAt files i)) letter } ∷ []) []
+    cond (presentAt b i) (loneLetterCheck i (lettersOf (fileAt files i)) letter ∷ []) []
 
 unfoldable pub lettersChecks : Board → List ℕ → ℕ → ℕ → ℕ → List Check
 lettersChecks b files letter i zero = []

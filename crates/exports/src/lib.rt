@@ -18,11 +18,14 @@ use packing_decisions::pack_inclusion;
 use packing_decisions::pack_kind;
 use packing_decisions::pack_lasso_verdict;
 use packing_decisions::pack_strength;
+use packing_monitors::pack_advanced;
 use packing_monitors::pack_moved;
 use packing_monitors::pack_notice;
 use promises::Monitor;
 use promises::Operation;
+use promises::Step;
 ghost use mathlib.Core.Path.{_≡_};
+ghost use Rattle.promises.specs.Advance.{AdvancePromise, AdvanceWordPromise};
 ghost use Rattle.promises.specs.Automaton.{RulePromise};
 ghost use Rattle.promises.specs.Classes.{ListPromise};
 ghost use Rattle.promises.specs.Combine.{CombinePromise};
@@ -39,9 +42,10 @@ ghost use Rattle.promises.specs.RuleAutomaton.{KindPromise, SuccessorsPromise};
 ghost use Rattle.promises.specs.Strong.{StrongPromise};
 ghost use Rattle.promises.specs.Verdict.{VerdictPromise};
 ghost use Rattle.promises.specs.declared.Operation.the-variants.{Both, Either, Without};
+ghost use Rattle.promises.specs.declared.Step.the-variants.{Event, Mark, Stay};
 ghost use Rattle.packing_counts.specs.Counts.{listedContents, writtenContents, partitionContents, successorsContents};
 ghost use Rattle.packing_decisions.specs.Decisions.{strengthContents, lassoVerdictContents, inclusionContents, confirmationContents, kindContents};
-ghost use Rattle.packing_monitors.specs.Monitors.{packMonitor, movedContents};
+ghost use Rattle.packing_monitors.specs.Monitors.{packMonitor, movedContents, advancedContents};
 ghost use Rattle.exports.specs.Exports.{Exported};
 ghost use Rattle.exports.specs.BoardExports.{ExportedBoardEmpty, ExportedBoardEnter, ExportedBoardLeave, ExportedBoardEvent, ExportedBoardMark};
 
@@ -163,6 +167,67 @@ pub extern "C" fn duknavet_verdict(
     ensures { λ r. ⌜ Exported (VerdictPromise (now (rule .entry)) (record { before = before; since = since }) (now (scratch .entry)) (now (scratch .exit))) lassoVerdictContents r ⌝ }
 {
     pack_lasso_verdict(rules::verdict(rule, Monitor { before, since }, scratch))
+}
+
+// The values of a monitor after an event, and the grade of the lassos with these values, 0 to 3, with 256 times the turns that settle the value of since. This and the three calls
+// below answer grade 4 and no turns where since is none.
+#[no_mangle]
+pub extern "C" fn duknavet_advance_event(
+    rule: &[u8],
+    before: usize,
+    since: usize,
+    letter: u8,
+    scratch: &mut [u8],
+) -> u64
+    ensures { λ r. ⌜ Exported (AdvancePromise 1 (now (rule .entry)) (record { before = before; since = since }) (Event letter) (now (scratch .entry)) (now (scratch .exit))) advancedContents r ⌝ }
+{
+    pack_advanced(rules::advance(
+        rule,
+        1,
+        Monitor { before, since },
+        Step::Event(letter),
+        scratch,
+    ))
+}
+
+// The same after a mark.
+#[no_mangle]
+pub extern "C" fn duknavet_advance_mark(
+    rule: &[u8],
+    before: usize,
+    since: usize,
+    scratch: &mut [u8],
+) -> u64
+    ensures { λ r. ⌜ Exported (AdvancePromise 1 (now (rule .entry)) (record { before = before; since = since }) Mark (now (scratch .entry)) (now (scratch .exit))) advancedContents r ⌝ }
+{
+    pack_advanced(rules::advance(rule, 1, Monitor { before, since }, Step::Mark, scratch))
+}
+
+// The same of the monitor as it is.
+#[no_mangle]
+pub extern "C" fn duknavet_advance_stay(
+    rule: &[u8],
+    before: usize,
+    since: usize,
+    scratch: &mut [u8],
+) -> u64
+    ensures { λ r. ⌜ Exported (AdvancePromise 1 (now (rule .entry)) (record { before = before; since = since }) Stay (now (scratch .entry)) (now (scratch .exit))) advancedContents r ⌝ }
+{
+    pack_advanced(rules::advance(rule, 1, Monitor { before, since }, Step::Stay, scratch))
+}
+
+// The same after an event for each letter of a word.
+#[no_mangle]
+pub extern "C" fn duknavet_advance_word(
+    rule: &[u8],
+    before: usize,
+    since: usize,
+    word: &[u8],
+    scratch: &mut [u8],
+) -> u64
+    ensures { λ r. ⌜ Exported (AdvanceWordPromise 1 (now (rule .entry)) (record { before = before; since = since }) (now (word .entry)) (now (scratch .entry)) (now (scratch .exit))) advancedContents r ⌝ }
+{
+    pack_advanced(rules::advance_word(rule, 1, Monitor { before, since }, word, scratch))
 }
 
 // How many bytes the reduction has, which stands in `out`; in `map` for each element of the rule the number of the element that it went to.

@@ -1,110 +1,77 @@
--- What each way through the call that moves a monitor and grades it promises. Assumes nothing.
+-- What each way through the calls that move a monitor and grade it promises. Assumes nothing.
 use Prim.Native.Nat.{ℕ}
-use mathlib.Core.Path.{_≡_, refl, sym, ap, _∙_, subst}
-use mathlib.Core.Bool.{Bool, true}
-use mathlib.Core.Logic.{⊎-elim}
-use mathlib.Core.List.{List, [], _∷_}
+use mathlib.Core.Path.{_≡_, refl, subst}
+use mathlib.Core.List.{List, _++_}
 use lib.ListN.{length, replicate}
 use Rattle.answer.specs.declared.Refusal.{Refusal}
-use Rattle.answer.specs.declared.Refusal.the-variants.{EntryOutOfRange}
-use Rattle.answer.specs.Checks.{Verdict, passed, FirstFailure}
-use Rattle.answer.proofs.Order.{first-passes, first-fails, none-left, refused-before, passed-before}
+use Rattle.answer.specs.Checks.{Check, FirstFailure}
+use Rattle.answer.proofs.Order.{passed-before}
 use Rattle.theory.specs.Rules.{Morphism}
-use Rattle.theory.specs.Grades.{LassosGraded}
+use Rattle.theory.specs.Pairs.{LeastExponent}
 use Rattle.formats.specs.Table.{morphismAt}
-use Rattle.formats.specs.RuleFile.{elementsOf, morphismOf, markingOf}
-use Rattle.formats.specs.Calls.{checkedChecks}
 use Rattle.rule_layout.specs.declared.Shape.{Shape}
-use Rattle.rule_check.specs.declared.Checked.the-variants.{Rule, Refused as Checked-refused}
-use Rattle.rule_check.specs.Answers.{CheckPromise}
-use Rattle.rule_check.proofs.Calls.{zeros-left, checked-length, shape-morphism}
-use Rattle.mark_strong.specs.Deciding.{StrongIf, Decided}
-use Rattle.mark_strong.proofs.Calling.{checked-graded, marks-stand, decide-place, decided-file, decided-left}
+use Rattle.rule_check.proofs.Calls.{shape-morphism}
 use Rattle.promises.specs.declared.Monitor.{Monitor}
 use Rattle.promises.specs.declared.Step.{Step}
 use Rattle.promises.specs.declared.Advanced.{Advanced}
-use Rattle.promises.specs.declared.Advanced.the-variants.{To, Foreign, Refused}
-use Rattle.promises.specs.Monitor.{valueOf, monitorValueCheck}
-use Rattle.promises.specs.Weak.{weakCheck}
-use Rattle.promises.specs.Advance.{afterStep, ForeignStep, standingChecks, advanceChecks, MonitorGrade, AdvancePromise}
-use Rattle.monitor_state.proofs.Numbers.{good-not-stray}
-use Rattle.monitor_judging.proofs.Judging.{look-graded}
-use Rattle.monitor_verdict.proofs.Values.{start-graded, values-judgeable}
-use Rattle.monitor_advance.specs.Advancing.{GoodMonitor, StrayAnswer, GradeRead, AdvancedAnswer}
+use Rattle.promises.specs.declared.Advanced.the-variants.{To, Refused}
+use Rattle.promises.specs.EventWords.{logChecks, afterWord}
+use Rattle.promises.specs.Advance.{afterStep, foreignChecks, MonitorTurns, strongMonitorChecks, advancedVerdict, AdvanceAnswer, AdvancePromise, AdvanceWordPromise}
+use Rattle.promises.proofs.AdvanceOrder.{step-others-first, word-others-first}
+use Rattle.monitor_standing.specs.declared.Standing.the-variants.{Refused as Not-standing}
+use Rattle.monitor_standing.specs.Standing.{TurnsRead, Stands, StandingAnswer}
+use Rattle.monitor_advance.specs.Advancing.{LaterAnswer}
 
-module _ (input : ℕ) (bytes : List ℕ) (f : Monitor) (step : Step) (entry : List ℕ) where
-  -- the rule is refused
-  pub rule-refused : {exit : List ℕ} {r : Refusal} {i place : ℕ} → CheckPromise input bytes entry exit (Checked-refused r i place)
-      → AdvancePromise input bytes f step entry exit (Refused r i place)
-  rule-refused p = record { refusal = refused-before _ _ (p .refusal); answered = tt; scratch = p .scratch }
+-- the rule does not stand
+module _ (input : ℕ) (bytes : List ℕ) (f : Monitor) (entry : List ℕ) {exit : List ℕ} {r : Refusal} {i place : ℕ} (p : StandingAnswer input bytes f entry exit (Not-standing r i place)) where
+  pub step-not-standing : (step : Step) → AdvancePromise input bytes f step entry exit (Refused f r i place)
+  step-not-standing step = record { refusal = step-others-first input bytes f entry step r i place (p .0); answered = refl; scratch = p .1 }
 
-  module _ {shape : Shape} {mid : List ℕ} (p : CheckPromise input bytes entry mid (Rule shape)) where
-    after-rule : {v : Verdict} → FirstFailure (standingChecks input bytes f) v → FirstFailure (advanceChecks input bytes f entry) v
-    after-rule r = passed-before (checkedChecks input bytes entry) _ (p .refusal) r
+  pub word-not-standing : (w : List ℕ) → AdvanceWordPromise input bytes f w entry exit (Refused f r i place)
+  word-not-standing w = record { refusal = word-others-first input bytes f entry w r i place (p .0); answered = refl; scratch = p .1 }
 
-    -- a value of the monitor is stray
-    pub monitor-stray : {exit : List ℕ} → StrayAnswer (shape .elements) f true → exit ≡ replicate (length mid) 0
-        → AdvancePromise input bytes f step entry exit (Refused EntryOutOfRange input 0)
-    monitor-stray {exit} s z = record {
+-- the rule stands
+module _ {input : ℕ} {bytes : List ℕ} {f : Monitor} {entry mid : List ℕ} {shape : Shape} (s : Stands input bytes f entry mid shape) where
+  abbrev read : Morphism
+  read = morphismAt bytes (shape .elements) (shape .letters)
+
+  turns-told : {g : Monitor} {turns : ℕ} → TurnsRead read g turns → MonitorTurns bytes g turns
+  turns-told {g} {turns} t = record {
+    without = t .without;
+    with-since = λ some. subst (λ (m : Morphism). LeastExponent m (g .since) turns) (shape-morphism (s .shape-is)) (t .with-since some);
+  }
+
+  -- the checks that are left decide, and what was read is said of the file
+  module _ (later : List Check) (next : Monitor) where
+    later-decides : (answer : Advanced) → LaterAnswer read mid later f next answer → FirstFailure (strongMonitorChecks input bytes f entry ++ later) (advancedVerdict answer)
+    later-decides (To g grade turns) k = passed-before (strongMonitorChecks input bytes f entry) later (s .passes) (k .0)
+    later-decides (Refused g r i place) k = passed-before (strongMonitorChecks input bytes f entry) later (s .passes) (k .0)
+
+    later-answer : (answer : Advanced) → LaterAnswer read mid later f next answer → AdvanceAnswer bytes f next answer
+    later-answer (To g grade turns) k = record { moved = k .1 .moved; graded = s .grades g grade (k .1 .good) (k .1 .read); settled = turns-told (k .1 .settled) }
+    later-answer (Refused g r i place) k = k .1
+
+  module _ {exit : List ℕ} (z : exit ≡ replicate (length mid) 0) (answer : Advanced) where
+    pub step-answered : (step : Step) → LaterAnswer read mid (foreignChecks input (shape .letters) step) f (afterStep read f step) answer
+        → AdvancePromise input bytes f step entry exit answer
+    step-answered step k = record {
       refusal =
-          after-rule
-          (first-fails (monitorValueCheck input (elementsOf bytes) f)
-          (record { stray = subst (λ (n : ℕ). StrayAnswer n f true) (p .scratch .shape-is .elements) s; is-place = refl }));
-      answered = tt;
-      scratch = zeros-left input bytes entry (p .refusal) mid exit (checked-length (p .scratch)) z;
+          subst (λ (n : ℕ). FirstFailure (strongMonitorChecks input bytes f entry ++ foreignChecks input n step) (advancedVerdict answer)) (s .shape-is .letters)
+          (later-decides (foreignChecks input (shape .letters) step) (afterStep read f step) answer k);
+      answered =
+          subst (λ (m : Morphism). AdvanceAnswer bytes f (afterStep m f step) answer) (shape-morphism (s .shape-is))
+          (later-answer (foreignChecks input (shape .letters) step) (afterStep read f step) answer k);
+      scratch = s .zeros exit z;
     }
 
-    module _ (good : GoodMonitor (shape .elements) f) {strong : Bool} {after : List ℕ} (d : Decided (morphismAt bytes (shape .elements) (shape .letters)) mid after strong) where
-      -- both values passed: the strength decides
-      after-values : {v : Verdict} → FirstFailure (weakCheck input bytes ∷ []) v → FirstFailure (advanceChecks input bytes f entry) v
-      after-values w = after-rule (first-passes (record { nowhere = λ place t. none (t .stray) }) w)
-        where
-          none : StrayAnswer (elementsOf bytes) f true → ⊥
-          none s =
-              ⊎-elim (good-not-stray (shape .elements) (f .before) (good .before-good)) (good-not-stray (shape .elements) (f .since) (good .since-good))
-              (subst (λ (n : ℕ). StrayAnswer n f true) (sym (p .scratch .shape-is .elements)) s)
-
-      said-strength : {b : Bool} → strong ≡ b → StrongIf (morphismOf bytes) (markingOf bytes) b
-      said-strength e = subst (StrongIf (morphismOf bytes) (markingOf bytes)) e (decided-file input bytes entry p d)
-
-      -- nothing is refused
-      nothing-refused : strong ≡ true → FirstFailure (advanceChecks input bytes f entry) passed
-      nothing-refused e = after-values (first-passes (record { nowhere = λ place t. t .weak (said-strength e) }) none-left)
-
-      -- what was read in the closure is the grade of the file's lassos
-      grade-told : {g : Monitor} {grade : ℕ} → strong ≡ true → GoodMonitor (shape .elements) g → GradeRead (morphismAt bytes (shape .elements) (shape .letters)) after g grade
-          → MonitorGrade bytes g grade
-      grade-told {g} {grade} e ok read = record {
-        without = read .without;
-        with-since = λ some.
-            let b = values-judgeable (shape .elements) g (ok .before-good) (ok .since-good) some in
-            subst (λ (m : Morphism). LassosGraded m (markingOf bytes) (valueOf (g .before)) (g .since) grade) (shape-morphism (p .scratch .shape-is))
-            (start-graded g
-            (look-graded (decide-place input bytes entry p) (b .start-inside) (b .since-inside) d (read .with-since some) e (markingOf bytes)
-            (checked-graded input bytes entry p) (marks-stand input bytes entry p)));
-      }
-
-      -- the answer, and zeros are left
-      pub answered-by : {exit : List ℕ} (answer : Advanced) → AdvancedAnswer (morphismAt bytes (shape .elements) (shape .letters)) after input strong f step answer
-          → exit ≡ replicate (length after) 0 → AdvancePromise input bytes f step entry exit answer
-      answered-by {exit} (To g grade) k z = record {
-        refusal = nothing-refused (k .0);
-        answered = record {
-          known = subst (λ (x : ℕ). ForeignStep x step → ⊥) (p .scratch .shape-is .letters) (k .1 .known);
-          moved = k .1 .moved ∙ ap (λ (m : Morphism). afterStep m f step) (shape-morphism (p .scratch .shape-is));
-          graded = grade-told (k .0) (k .1 .good) (k .1 .read);
-        };
-        scratch = decided-left input bytes entry p d after exit refl z;
-      }
-      answered-by {exit} Foreign k z = record {
-        refusal = nothing-refused (k .0);
-        answered = subst (λ (x : ℕ). ForeignStep x step) (p .scratch .shape-is .letters) (k .1);
-        scratch = decided-left input bytes entry p d after exit refl z;
-      }
-      answered-by {exit} (Refused r i place) k z = record {
-        refusal =
-            after-values
-            (subst (FirstFailure (weakCheck input bytes ∷ [])) (sym (k .1)) (first-fails (weakCheck input bytes) (record { weak = said-strength (k .0); is-place = refl })));
-        answered = tt;
-        scratch = decided-left input bytes entry p d after exit refl z;
-      }
+    pub word-answered : (w : List ℕ) → LaterAnswer read mid (logChecks input (shape .letters) w) f (afterWord read f w) answer
+        → AdvanceWordPromise input bytes f w entry exit answer
+    word-answered w k = record {
+      refusal =
+          subst (λ (n : ℕ). FirstFailure (strongMonitorChecks input bytes f entry ++ logChecks input n w) (advancedVerdict answer)) (s .shape-is .letters)
+          (later-decides (logChecks input (shape .letters) w) (afterWord read f w) answer k);
+      answered =
+          subst (λ (m : Morphism). AdvanceAnswer bytes f (afterWord m f w) answer) (shape-morphism (s .shape-is))
+          (later-answer (logChecks input (shape .letters) w) (afterWord read f w) answer k);
+      scratch = s .zeros exit z;
+    }

@@ -1,39 +1,26 @@
-// A monitor moved by a step and graded at once (document 02, Job 14): one check of the rule and one decision of its strength serve both,
-// where an event and a verdict would take two of each.
+// A monitor moved by a step, or by a word of events, and graded at once (document 02, Job 14). Of a rule that stands nothing is left to check but the letters.
 use answer::Refusal;
-use mark_strong::decide;
-use monitor_judging::values_grade;
-use monitor_state::join;
-use monitor_state::out_of_range;
-use monitor_verdict::start_element;
+use monitor_standing::Standing;
+use monitor_standing::check_standing;
+use monitor_standing::monitor_grade;
+use monitor_steps::log_fault;
+use monitor_steps::moved;
+use monitor_steps::moved_by_word;
 use promises::Advanced;
 use promises::Monitor;
 use promises::Step;
-use rule_check::Checked;
-use rule_check::check;
-use rule_table::image;
+use rule_marks::Fault;
 use sections::zero;
-ghost use mathlib.Core.Path.{_≡_};
 ghost use Prim.Native.Nat.{_≤_};
 ghost use lib.ListN.{length};
 ghost use Rattle.theory.specs.Rules.{Lawful};
 ghost use Rattle.formats.proofs.Tables.{Table};
 ghost use Rattle.formats.specs.Table.{morphismAt};
 ghost use Rattle.formats.specs.RuleChecks.{scratchSize};
-ghost use Rattle.promises.specs.Advance.{afterStep, ForeignStep, AdvancePromise};
-ghost use Rattle.monitor_advance.specs.Advancing.{GoodMonitor, StrayAnswer, ForeignAnswer, GradeRead, AdvancedAnswer};
-
-// Whether one of a monitor's values is neither an element nor 64.
-fn stray(n: usize, monitor: Monitor) -> bool
-    ensures { λ r. ⌜ StrayAnswer n monitor r ⌝ }
-{
-    let before = monitor.before;
-    let since = monitor.since;
-    if out_of_range(n, before) {
-        return true;
-    }
-    out_of_range(n, since)
-}
+ghost use Rattle.promises.specs.EventWords.{logChecks, afterWord};
+ghost use Rattle.promises.specs.Advance.{afterStep, foreignChecks, AdvancePromise, AdvanceWordPromise};
+ghost use Rattle.monitor_state.specs.Ready.{GoodMonitor};
+ghost use Rattle.monitor_advance.specs.Advancing.{ForeignAnswer, LaterAnswer};
 
 // Whether a step is an event with none of k letters.
 fn foreign(k: usize, step: Step) -> bool
@@ -51,59 +38,12 @@ fn foreign(k: usize, step: Step) -> bool
     }
 }
 
-// The monitor after a step that is not foreign.
-fn moved(rule: &[u8], n: usize, k: usize, monitor: Monitor, step: Step) -> Monitor
-    requires { ⌜ Table (now rule) n k ⌝ }
-    requires { ⌜ GoodMonitor n monitor ⌝ }
-    requires { ⌜ (ForeignStep k step → ⊥) ⌝ }
-    ensures moved { λ r. ⌜ r ≡ afterStep (morphismAt (now (rule .entry)) n k) monitor step ⌝ }
-    ensures good { λ r. ⌜ GoodMonitor n r ⌝ }
-{
-    let before = monitor.before;
-    let since = monitor.since;
-    match step {
-        Step::Event(letter) => {
-            let next = join(rule, n, k, since, image(rule, n, letter as usize));
-            Monitor {
-                before,
-                since: next,
-            }
-        }
-        Step::Mark => {
-            let next = join(rule, n, k, before, since);
-            Monitor {
-                before: next,
-                since: 64,
-            }
-        }
-        Step::Stay => monitor,
-    }
-}
-
-// The grade of a monitor's values by the closure in the second table of marks, or 4 where its since is none.
-fn monitor_grade(rule: &[u8], n: usize, k: usize, monitor: Monitor, scratch: &[u8]) -> usize
-    requires { ⌜ Table (now rule) n k ⌝ }
-    requires { ⌜ Lawful (morphismAt (now rule) n k) ⌝ }
-    requires { ⌜ GoodMonitor n monitor ⌝ }
-    requires { ⌜ scratchSize ≤ length (now scratch) ⌝ }
-    ensures { λ r. ⌜ GradeRead (morphismAt (now (rule .entry)) n k) (now (scratch .entry)) monitor r ⌝ }
-{
-    let since = monitor.since;
-    if since == 64 {
-        return 4;
-    }
-    let start = start_element(monitor);
-    let looked = values_grade(rule, n, k, scratch, start, since);
-    looked.grade
-}
-
-// The answer, once the strength is decided and the closure stands in scratch. A rule that is not strong is refused, whatever the step is.
-fn answer_from(
+// The answer for a step, once all but its letter is checked and the closure stands in scratch.
+fn step_answer(
     rule: &[u8],
     n: usize,
     k: usize,
     input: usize,
-    strong: bool,
     monitor: Monitor,
     step: Step,
     scratch: &[u8],
@@ -112,29 +52,27 @@ fn answer_from(
     requires { ⌜ Lawful (morphismAt (now rule) n k) ⌝ }
     requires { ⌜ GoodMonitor n monitor ⌝ }
     requires { ⌜ scratchSize ≤ length (now scratch) ⌝ }
-    ensures { λ r. ⌜ AdvancedAnswer (morphismAt (now (rule .entry)) n k) (now (scratch .entry)) input strong monitor step r ⌝ }
+    ensures { λ r. ⌜ LaterAnswer (morphismAt (now (rule .entry)) n k) (now (scratch .entry)) (foreignChecks input k step) monitor (afterStep (morphismAt (now (rule .entry)) n k) monitor step) r ⌝ }
 {
-    let outside = foreign(k, step);
-    if !strong {
+    if foreign(k, step) {
         return Advanced::Refused {
-            refusal: Refusal::NotStrong,
+            monitor,
+            refusal: Refusal::UnknownLetter,
             input,
             place: 0,
         };
     }
-    if outside {
-        return Advanced::Foreign;
-    }
     let next = moved(rule, n, k, monitor, step);
-    let grade = monitor_grade(rule, n, k, next, scratch);
+    let looked = monitor_grade(rule, n, k, next, scratch);
     Advanced::To {
         monitor: next,
-        grade,
+        grade: looked.grade,
+        turns: looked.turns,
     }
 }
 
-// Checks a rule, which is the input of the given number, its strength and a monitor's values, moves the monitor by a step and says the
-// grade of its lassos. Scratch ends as zeros, but where it is too short.
+// Checks a rule, which is the input of the given number, a monitor's values, the rule's strength and a step, moves the monitor by the step and says the grade of
+// its lassos. Scratch ends as zeros, but where it is too short.
 pub fn advance(
     rule: &[u8],
     input: usize,
@@ -144,14 +82,15 @@ pub fn advance(
 ) -> Advanced
     ensures { λ r. ⌜ AdvancePromise input (now (rule .entry)) monitor step (now (scratch .entry)) (now (scratch .exit)) r ⌝ }
 {
-    let shape = match check(rule, input, scratch) {
-        Checked::Rule(shape) => shape,
-        Checked::Refused {
+    let shape = match check_standing(rule, input, monitor, scratch) {
+        Standing::Rule(shape) => shape,
+        Standing::Refused {
             refusal,
             input,
             place,
         } => {
             return Advanced::Refused {
+                monitor,
                 refusal,
                 input,
                 place,
@@ -160,16 +99,75 @@ pub fn advance(
     };
     let n = shape.elements;
     let k = shape.letters;
-    if stray(n, monitor) {
-        zero(scratch);
-        return Advanced::Refused {
-            refusal: Refusal::EntryOutOfRange,
-            input,
-            place: 0,
-        };
+    let answer = step_answer(rule, n, k, input, monitor, step, scratch);
+    zero(scratch);
+    answer
+}
+
+// The answer for a word of events, once all but the word is checked and the closure stands in scratch.
+fn word_answer(
+    rule: &[u8],
+    n: usize,
+    k: usize,
+    input: usize,
+    monitor: Monitor,
+    word: &[u8],
+    scratch: &[u8],
+) -> Advanced
+    requires { ⌜ Table (now rule) n k ⌝ }
+    requires { ⌜ Lawful (morphismAt (now rule) n k) ⌝ }
+    requires { ⌜ GoodMonitor n monitor ⌝ }
+    requires { ⌜ scratchSize ≤ length (now scratch) ⌝ }
+    ensures { λ r. ⌜ LaterAnswer (morphismAt (now (rule .entry)) n k) (now (scratch .entry)) (logChecks input k (now (word .entry))) monitor (afterWord (morphismAt (now (rule .entry)) n k) monitor (now (word .entry))) r ⌝ }
+{
+    match log_fault(word, k) {
+        Fault::Nothing => {}
+        Fault::Refused { refusal, place } => {
+            return Advanced::Refused {
+                monitor,
+                refusal,
+                input,
+                place,
+            };
+        }
     }
-    let strong = decide(rule, n, k, scratch);
-    let answer = answer_from(rule, n, k, input, strong, monitor, step, scratch);
+    let last = moved_by_word(rule, n, k, monitor, word);
+    let looked = monitor_grade(rule, n, k, last, scratch);
+    Advanced::To {
+        monitor: last,
+        grade: looked.grade,
+        turns: looked.turns,
+    }
+}
+
+// The same for a word of events: the monitor after each of its letters in turn, and the grade and the turns at its end.
+pub fn advance_word(
+    rule: &[u8],
+    input: usize,
+    monitor: Monitor,
+    word: &[u8],
+    scratch: &mut [u8],
+) -> Advanced
+    ensures { λ r. ⌜ AdvanceWordPromise input (now (rule .entry)) monitor (now (word .entry)) (now (scratch .entry)) (now (scratch .exit)) r ⌝ }
+{
+    let shape = match check_standing(rule, input, monitor, scratch) {
+        Standing::Rule(shape) => shape,
+        Standing::Refused {
+            refusal,
+            input,
+            place,
+        } => {
+            return Advanced::Refused {
+                monitor,
+                refusal,
+                input,
+                place,
+            };
+        }
+    };
+    let n = shape.elements;
+    let k = shape.letters;
+    let answer = word_answer(rule, n, k, input, monitor, word, scratch);
     zero(scratch);
     answer
 }

@@ -2,11 +2,11 @@
 // It holds two values and no count, so its state has the same few forms after years. Every call checks the whole rule.
 use answer::Refusal;
 use monitor_state::Ready;
-use monitor_state::join;
 use monitor_state::prepare;
+use monitor_steps::moved;
 use promises::Monitor;
 use promises::Moved;
-use rule_table::image;
+use promises::Step;
 ghost use Rattle.promises.specs.Moves.{EventPromise, MarkPromise};
 
 // An event: since times the letter's element.
@@ -30,8 +30,7 @@ pub fn event(rule: &[u8], m: Monitor, letter: u8, scratch: &mut [u8]) -> Moved
     };
     let n = shape.elements;
     let k = shape.letters;
-    let a = letter as usize;
-    if k <= a {
+    if k <= letter as usize {
         return Moved::Refused {
             monitor: m,
             refusal: Refusal::UnknownLetter,
@@ -39,13 +38,7 @@ pub fn event(rule: &[u8], m: Monitor, letter: u8, scratch: &mut [u8]) -> Moved
             place: 0,
         };
     }
-    let since = m.since;
-    let next = join(rule, n, k, since, image(rule, n, a));
-    let before = m.before;
-    Moved::To(Monitor {
-        before,
-        since: next,
-    })
+    Moved::To(moved(rule, n, k, m, Step::Event(letter)))
 }
 
 // A mark: before times since, and since is none again.
@@ -69,11 +62,5 @@ pub fn mark(rule: &[u8], m: Monitor, scratch: &mut [u8]) -> Moved
     };
     let n = shape.elements;
     let k = shape.letters;
-    let before = m.before;
-    let since = m.since;
-    let next = join(rule, n, k, before, since);
-    Moved::To(Monitor {
-        before: next,
-        since: 64,
-    })
+    Moved::To(moved(rule, n, k, m, Step::Mark))
 }

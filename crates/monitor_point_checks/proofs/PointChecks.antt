@@ -2,7 +2,7 @@
 use Prim.Native.Nat.{ℕ, _+_, _*_, _≤_, _<_}
 use mathlib.Core.Path.{_≡_, refl, subst}
 use mathlib.Core.Bool.{Bool, true, false}
-use mathlib.Core.Logic.{inl, inr, ⊎-elim}
+use mathlib.Core.Logic.{inr, ⊎-elim}
 use mathlib.Core.List.{List}
 use native.Mathlib.Omega.{arith}
 use native.Mathlib.Decide.{ℕ-discrete}
@@ -11,10 +11,9 @@ use Rattle.answer.specs.Checks.{passed, refused, FirstFailure}
 use Rattle.answer.specs.declared.Refusal.the-variants.{EntryOutOfRange, NameOutOfRange, NameNeverKept}
 use Rattle.answer.proofs.Order.{first-passes, first-fails, none-left}
 use Rattle.promises.specs.declared.Monitor.{Monitor}
-use Rattle.promises.specs.Monitor.{ValueOutOfRange}
 use Rattle.promises.specs.Points.{namesCount, NeverKept, pointAt, nameCheck, neverKeptCheck, pointValuesCheck, PointOutOfRange}
-use Rattle.monitor_state.specs.Ready.{GoodNumber, OutOfRangeAnswer}
-use Rattle.monitor_state.proofs.Numbers.{good-not-stray}
+use Rattle.monitor_state.specs.Ready.{GoodMonitor, StrayAnswer}
+use Rattle.monitor_state.proofs.Numbers.{good-monitor}
 use Rattle.monitor_point_checks.specs.PointChecks.{keepFaults, returnFaults, KeptOutOfRange, NameAnswer, PointsAnswer, AnyOutOfRange, ValuesAnswer, NoneBelow}
 
 -- ---- one name
@@ -23,16 +22,12 @@ module _ (n : ℕ) (points : List ℕ) (name : ℕ) where
   pub never-kept-good : NeverKept points name → KeptOutOfRange n points name → ⊥
   never-kept-good e k = k .kept e
 
-  module _ (kept : NeverKept points name → ⊥) where
-    pub before-stray : ValueOutOfRange n (getD points (3 * name + 1) 0) → KeptOutOfRange n points name
-    unfolding pointAt
-    before-stray s = record { kept = kept; stray = inl s }
-
-    -- before is good, so that since decides
-    pub since-decides : (b : Bool) → GoodNumber n (getD points (3 * name + 1) 0) → OutOfRangeAnswer n (getD points (3 * name + 2) 0) b → NameAnswer n points name b
-    unfolding pointAt
-    since-decides true g s = record { kept = kept; stray = inr s }
-    since-decides false g s = λ k. ⊎-elim (good-not-stray n (getD points (3 * name + 1) 0) g) (good-not-stray n (getD points (3 * name + 2) 0) s) (k .stray)
+  -- one that was kept, by its two values
+  pub kept-decides : (NeverKept points name → ⊥) → (b : Bool) → StrayAnswer n (record { before = getD points (3 * name + 1) 0; since = getD points (3 * name + 2) 0 }) b
+      → NameAnswer n points name b
+  unfolding pointAt
+  kept-decides kept true s = record { kept = kept; stray = s }
+  kept-decides kept false g = λ k. good-monitor g (k .stray)
 
 -- ---- the eight names
 
@@ -62,9 +57,9 @@ said-kept-good n points name b k e = subst (NameAnswer n points name) e k
 -- ---- the monitor and the eight names
 
 -- the monitor is good, so that the points decide
-pub points-decide : (n : ℕ) (f : Monitor) (points : List ℕ) (b : Bool) → GoodNumber n (f .before) → GoodNumber n (f .since) → PointsAnswer n points b → ValuesAnswer n f points b
-points-decide n f points true g h p = inr p
-points-decide n f points false g h p = ⊎-elim (⊎-elim (good-not-stray n (f .before) g) (good-not-stray n (f .since) h)) p
+pub points-decide : (n : ℕ) (f : Monitor) (points : List ℕ) (b : Bool) → GoodMonitor n f → PointsAnswer n points b → ValuesAnswer n f points b
+points-decide n f points true g p = inr p
+points-decide n f points false g p = ⊎-elim (good-monitor g) p
 
 pub said-any-stray : (n : ℕ) (f : Monitor) (points : List ℕ) (b : Bool) → ValuesAnswer n f points b → b ≡ true → AnyOutOfRange n f points
 said-any-stray n f points b k e = subst (ValuesAnswer n f points) e k

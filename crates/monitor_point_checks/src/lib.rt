@@ -20,10 +20,7 @@ fn name_out_of_range(n: usize, points: &[u8], name: usize) -> bool
     }
     let before = points[3 * name + 1] as usize;
     let since = points[3 * name + 2] as usize;
-    if out_of_range(n, before) {
-        return true;
-    }
-    out_of_range(n, since)
+    out_of_range(n, Monitor { before, since })
 }
 
 // Whether any name was.
@@ -44,12 +41,7 @@ fn values_out_of_range(n: usize, m: Monitor, points: &[u8]) -> bool
     requires { ⌜ pointsSize ≤ length (now points) ⌝ }
     ensures { λ r. ⌜ ValuesAnswer n m (now (points .entry)) r ⌝ }
 {
-    let before = m.before;
-    let since = m.since;
-    if out_of_range(n, before) {
-        return true;
-    }
-    if out_of_range(n, since) {
+    if out_of_range(n, m) {
         return true;
     }
     points_out_of_range(n, points)

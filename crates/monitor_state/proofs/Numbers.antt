@@ -1,6 +1,7 @@
 -- The numbers of a monitor: an element, or 64 for none. Assumes nothing.
 use Prim.Native.Nat.{ℕ, _≤_, _<_}
-use mathlib.Core.Path.{_≡_, sym, ap, _∙_}
+use mathlib.Core.Path.{_≡_, sym, ap, _∙_, subst}
+use mathlib.Core.Bool.{Bool, true, false}
 use mathlib.Core.Logic.{inl, inr, ⊎-elim}
 use mathlib.Core.List.{List}
 use native.Mathlib.Omega.{arith}
@@ -9,9 +10,10 @@ use Rattle.finite.proofs.Numbers.{le-or-lt}
 use Rattle.theory.specs.Rules.{Value, element, join}
 use Rattle.theory.proofs.Values.{join-none}
 use Rattle.formats.specs.Table.{morphismAt, productAt}
+use Rattle.promises.specs.declared.Monitor.{Monitor}
 use Rattle.promises.specs.Monitor.{noValue, valueOf, numberFor, ValueOutOfRange}
 use Rattle.promises.proofs.MonitorValues.{value-none, value-element, number-of-value}
-use Rattle.monitor_state.specs.Ready.{GoodNumber, joinAt}
+use Rattle.monitor_state.specs.Ready.{GoodNumber, joinAt, OutOfRangeAnswer, GoodMonitor, StrayAnswer}
 
 -- the product with none
 pub join-left : (bytes : List ℕ) (n k a b : ℕ) → a ≡ noValue → b ≡ joinAt bytes n k a b
@@ -46,3 +48,29 @@ good-not-stray n s g i = ⊎-elim (λ (h : s < n). omega (arith, i .no-element))
 -- an element that is no none is below the size
 pub good-element : {n s : ℕ} → GoodNumber n s → (s ≡ noValue → ⊥) → s < n
 good-element g f = ⊎-elim (λ h. h) (λ e. absurd (f e)) g
+
+-- a test of both values of a monitor
+module _ (n : ℕ) (f : Monitor) {before : Bool} (b : OutOfRangeAnswer n (f .before) before) where
+  pub stray-before : before ≡ true → StrayAnswer n f true
+  stray-before e = inl (subst (OutOfRangeAnswer n (f .before)) e b)
+
+  pub stray-by-since : before ≡ false → (since : Bool) → OutOfRangeAnswer n (f .since) since → StrayAnswer n f since
+  stray-by-since e true s = inr s
+  stray-by-since e false s = record { before-good = subst (OutOfRangeAnswer n (f .before)) e b; since-good = s }
+
+-- the answers of these tests
+pub number-stray : (n s : ℕ) (b : Bool) → OutOfRangeAnswer n s b → b ≡ true → ValueOutOfRange n s
+number-stray n s b k e = subst (OutOfRangeAnswer n s) e k
+
+pub number-good : (n s : ℕ) (b : Bool) → OutOfRangeAnswer n s b → b ≡ false → GoodNumber n s
+number-good n s b k e = subst (OutOfRangeAnswer n s) e k
+
+pub said-stray : (n : ℕ) (f : Monitor) (b : Bool) → StrayAnswer n f b → b ≡ true → StrayAnswer n f true
+said-stray n f b k e = subst (StrayAnswer n f) e k
+
+pub said-good : (n : ℕ) (f : Monitor) (b : Bool) → StrayAnswer n f b → b ≡ false → GoodMonitor n f
+said-good n f b k e = subst (StrayAnswer n f) e k
+
+-- a good monitor is not stray
+pub good-monitor : {n : ℕ} {f : Monitor} → GoodMonitor n f → StrayAnswer n f true → ⊥
+good-monitor {n} {f} g = ⊎-elim (good-not-stray n (f .before) (g .before-good)) (good-not-stray n (f .since) (g .since-good))

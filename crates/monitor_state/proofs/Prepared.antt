@@ -1,8 +1,8 @@
 -- What each way through the preparation of a call shows: the rule's checks, then the monitor's values. Assumes nothing.
 use Prim.Native.Nat.{ℕ}
 use mathlib.Core.Path.{_≡_, refl, sym, subst}
-use mathlib.Core.Bool.{Bool, true, false}
-use mathlib.Core.Logic.{_⊎_, inl, inr}
+use mathlib.Core.Bool.{true}
+use mathlib.Core.Logic.{inl, inr}
 use mathlib.Core.List.{List}
 use lib.ListN.{length, replicate}
 use Rattle.answer.specs.declared.Refusal.{Refusal}
@@ -20,9 +20,9 @@ use Rattle.formats.proofs.GoodRule.{called-good}
 use Rattle.promises.specs.declared.Monitor.{Monitor}
 use Rattle.monitor_state.specs.declared.Ready.{Ready}
 use Rattle.monitor_state.specs.declared.Ready.the-variants.{Rule as Ready-rule, Refused as Not-ready}
-use Rattle.promises.specs.Monitor.{ValueOutOfRange, monitorValueCheck}
-use Rattle.monitor_state.specs.Ready.{GoodNumber, OutOfRangeAnswer, ReadyPromise}
-use Rattle.monitor_state.proofs.Numbers.{not-stray, good-not-stray}
+use Rattle.promises.specs.Monitor.{monitorValueCheck}
+use Rattle.monitor_state.specs.Ready.{GoodMonitor, StrayAnswer, ReadyPromise}
+use Rattle.monitor_state.proofs.Numbers.{not-stray, good-monitor}
 
 module _ (bytes : List ℕ) (f : Monitor) (entry : List ℕ) where
   -- the rule is refused
@@ -34,34 +34,25 @@ module _ (bytes : List ℕ) (f : Monitor) (entry : List ℕ) where
     left = zeros-left 1 bytes entry (p .refusal) mid exit (checked-length (p .scratch)) z
 
     -- a value of the monitor is stray
-    pub monitor-stray : ValueOutOfRange (shape .elements) (f .before) ⊎ ValueOutOfRange (shape .elements) (f .since) → ReadyPromise bytes f entry exit (Not-ready EntryOutOfRange 1 0)
+    pub monitor-stray : StrayAnswer (shape .elements) f true → ReadyPromise bytes f entry exit (Not-ready EntryOutOfRange 1 0)
     monitor-stray s = record {
       refusal =
           passed-before _ _ (p .refusal)
           (first-fails (monitorValueCheck 1 (elementsOf bytes) f)
-          (record { stray = subst (λ (x : ℕ). ValueOutOfRange x (f .before) ⊎ ValueOutOfRange x (f .since)) (p .scratch .shape-is .elements) s; is-place = refl }));
+          (record { stray = subst (λ (x : ℕ). StrayAnswer x f true) (p .scratch .shape-is .elements) s; is-place = refl }));
       shape = tt;
       scratch = left;
     }
 
     -- both are good
-    pub monitor-good : GoodNumber (shape .elements) (f .before) → GoodNumber (shape .elements) (f .since) → ReadyPromise bytes f entry exit (Ready-rule shape)
-    monitor-good b s = record {
-      refusal = passed-before _ _ (p .refusal) (first-passes (record { nowhere = λ place t. none (t .stray) }) none-left);
+    pub monitor-good : GoodMonitor (shape .elements) f → ReadyPromise bytes f entry exit (Ready-rule shape)
+    monitor-good g = record {
+      refusal =
+          passed-before _ _ (p .refusal)
+          (first-passes (record { nowhere = λ place t. good-monitor g (subst (λ (x : ℕ). StrayAnswer x f true) (sym (p .scratch .shape-is .elements)) (t .stray)) }) none-left);
       shape = p .scratch .shape-is;
       scratch = left;
     }
-      where
-        none : ValueOutOfRange (elementsOf bytes) (f .before) ⊎ ValueOutOfRange (elementsOf bytes) (f .since) → ⊥
-        none (inl i) = good-not-stray (shape .elements) (f .before) b (subst (λ (x : ℕ). ValueOutOfRange x (f .before)) (sym (p .scratch .shape-is .elements)) i)
-        none (inr i) = good-not-stray (shape .elements) (f .since) s (subst (λ (x : ℕ). ValueOutOfRange x (f .since)) (sym (p .scratch .shape-is .elements)) i)
-
--- the answer of a test for stray values
-pub said-stray : (n s : ℕ) (b : Bool) → OutOfRangeAnswer n s b → b ≡ true → ValueOutOfRange n s
-said-stray n s b k e = subst (OutOfRangeAnswer n s) e k
-
-pub said-good : (n s : ℕ) (b : Bool) → OutOfRangeAnswer n s b → b ≡ false → GoodNumber n s
-said-good n s b k e = subst (OutOfRangeAnswer n s) e k
 
 -- what a ready rule is known to be
 module _ (bytes : List ℕ) (f : Monitor) (entry exit : List ℕ) {shape : Shape} (p : ReadyPromise bytes f entry exit (Ready-rule shape)) where
@@ -71,14 +62,16 @@ module _ (bytes : List ℕ) (f : Monitor) (entry exit : List ℕ) {shape : Shape
   pub ready-table : Table bytes (shape .elements) (shape .letters)
   ready-table = shape-table (p .shape) (called-good 1 bytes entry rule-passed .table)
 
-  unstray : ValueOutOfRange (elementsOf bytes) (f .before) ⊎ ValueOutOfRange (elementsOf bytes) (f .since) → ⊥
-  unstray s = passes-head (passed-last (checkedChecks 1 bytes entry) _ (p .refusal)) .nowhere 0 (record { stray = s; is-place = refl })
+  unstray : StrayAnswer (shape .elements) f true → ⊥
+  unstray s =
+      passes-head (passed-last (checkedChecks 1 bytes entry) _ (p .refusal)) .nowhere 0
+      (record { stray = subst (λ (x : ℕ). StrayAnswer x f true) (p .shape .elements) s; is-place = refl })
 
-  pub ready-before : GoodNumber (shape .elements) (f .before)
-  ready-before = not-stray (shape .elements) (f .before) (λ i. unstray (inl (subst (λ (x : ℕ). ValueOutOfRange x (f .before)) (p .shape .elements) i)))
-
-  pub ready-since : GoodNumber (shape .elements) (f .since)
-  ready-since = not-stray (shape .elements) (f .since) (λ i. unstray (inr (subst (λ (x : ℕ). ValueOutOfRange x (f .since)) (p .shape .elements) i)))
+  pub ready-monitor : GoodMonitor (shape .elements) f
+  ready-monitor = record {
+    before-good = not-stray (shape .elements) (f .before) (λ i. unstray (inl i));
+    since-good = not-stray (shape .elements) (f .since) (λ i. unstray (inr i));
+  }
 
 module _ (bytes : List ℕ) (f : Monitor) (entry exit : List ℕ) (answer : Ready) (known : ReadyPromise bytes f entry exit answer) where
   pub ready-said : {shape : Shape} → answer ≡ Ready-rule shape → ReadyPromise bytes f entry exit (Ready-rule shape)

@@ -26,6 +26,15 @@ abbrev pub OutOfRangeAnswer : ℕ → ℕ → Bool → Type 0
 OutOfRangeAnswer n s true = ValueOutOfRange n s
 OutOfRangeAnswer n s false = GoodNumber n s
 
+-- each value of a monitor is an element or none
+pub record GoodMonitor (n : ℕ) (f : Monitor) : Type 0 where
+  pub before-good : GoodNumber n (f .before)
+  pub since-good : GoodNumber n (f .since)
+
+abbrev pub StrayAnswer : ℕ → Monitor → Bool → Type 0
+StrayAnswer n f true = ValueOutOfRange n (f .before) ⊎ ValueOutOfRange n (f .since)
+StrayAnswer n f false = GoodMonitor n f
+
 abbrev pub readyVerdict : Ready → Verdict
 readyVerdict (Rule shape) = passed
 readyVerdict (Not-ready refusal input place) = refused refusal input place

@@ -10,7 +10,7 @@ use sections::zero;
 ghost use mathlib.Core.Path.{_≡_};
 ghost use Rattle.formats.proofs.Tables.{Table};
 ghost use Rattle.promises.specs.Monitor.{freshMonitor};
-ghost use Rattle.monitor_state.specs.Ready.{GoodNumber, joinAt, OutOfRangeAnswer, ReadyPromise};
+ghost use Rattle.monitor_state.specs.Ready.{GoodNumber, joinAt, OutOfRangeAnswer, StrayAnswer, ReadyPromise};
 
 // A monitor that has seen nothing.
 pub fn fresh() -> Monitor
@@ -23,7 +23,7 @@ pub fn fresh() -> Monitor
 }
 
 // Whether a number is neither an element nor 64.
-pub fn out_of_range(n: usize, s: usize) -> bool
+pub fn number_out_of_range(n: usize, s: usize) -> bool
     ensures { λ r. ⌜ OutOfRangeAnswer n s r ⌝ }
 {
     if s < n {
@@ -33,6 +33,18 @@ pub fn out_of_range(n: usize, s: usize) -> bool
         return false;
     }
     true
+}
+
+// Whether one of a monitor's values is such a number.
+pub fn out_of_range(n: usize, m: Monitor) -> bool
+    ensures { λ r. ⌜ StrayAnswer n m r ⌝ }
+{
+    let before = m.before;
+    let since = m.since;
+    if number_out_of_range(n, before) {
+        return true;
+    }
+    number_out_of_range(n, since)
 }
 
 // A rule that is checked, with scratch zeros again, and the monitor's values are good.
@@ -63,17 +75,7 @@ pub fn prepare(rule: &[u8], m: Monitor, scratch: &mut [u8]) -> Ready
         }
     };
     zero(scratch);
-    let n = shape.elements;
-    let before = m.before;
-    let since = m.since;
-    if out_of_range(n, before) {
-        return Ready::Refused {
-            refusal: Refusal::EntryOutOfRange,
-            input: 1,
-            place: 0,
-        };
-    }
-    if out_of_range(n, since) {
+    if out_of_range(shape.elements, m) {
         return Ready::Refused {
             refusal: Refusal::EntryOutOfRange,
             input: 1,

@@ -1,7 +1,8 @@
 -- What the look at a monitor's two values shows, on each way. Assumes nothing.
 use Prim.Native.Nat.{ℕ, _<_}
 use mathlib.Core.Path.{_≡_, refl, subst}
-use mathlib.Core.Logic.{_⊎_, ⊎-elim, by-cases}
+use mathlib.Core.Bool.{true}
+use mathlib.Core.Logic.{by-cases}
 use native.Mathlib.Decide.{ℕ-discrete}
 use borrow.Author.Tests.{eq-eqb, ne-eqb}
 use Rattle.theory.specs.Rules.{Morphism, Marking, element}
@@ -14,9 +15,9 @@ use Rattle.answer.proofs.Order.{first-passes, first-fails}
 use Rattle.rule_marks.specs.declared.Fault.{Fault}
 use Rattle.rule_marks.specs.declared.Fault.the-variants.{Nothing, Refused}
 use Rattle.promises.specs.declared.Monitor.{Monitor}
-use Rattle.promises.specs.Monitor.{noValue, valueOf, ValueOutOfRange, monitorValueCheck}
-use Rattle.monitor_state.specs.Ready.{GoodNumber}
-use Rattle.monitor_state.proofs.Numbers.{good-not-stray, good-element}
+use Rattle.promises.specs.Monitor.{noValue, valueOf, monitorValueCheck}
+use Rattle.monitor_state.specs.Ready.{GoodMonitor, StrayAnswer}
+use Rattle.monitor_state.proofs.Numbers.{good-not-stray, good-element, good-monitor}
 use Rattle.promises.proofs.MonitorValues.{value-none, value-element}
 use Rattle.promises.specs.Verdict.{noneCheck}
 use Rattle.monitor_verdict.specs.Judging.{valueChecks, startElement, Judgeable, ValuesAnswer}
@@ -40,22 +41,23 @@ start-graded f k =
 
 module _ (n : ℕ) (f : Monitor) where
   -- a value is stray
-  pub values-stray : ValueOutOfRange n (f .before) ⊎ ValueOutOfRange n (f .since) → FirstFailure (valueChecks n f) (refused EntryOutOfRange 1 0)
+  pub values-stray : StrayAnswer n f true → FirstFailure (valueChecks n f) (refused EntryOutOfRange 1 0)
   values-stray s = first-fails (monitorValueCheck 1 n f) (record { stray = s; is-place = refl })
 
-  module _ (before : GoodNumber n (f .before)) (since : GoodNumber n (f .since)) where
+  module _ (good : GoodMonitor n f) where
     -- both are good, and since is none
     pub values-none : f .since ≡ noValue → FirstFailure (valueChecks n f) (refused WordLength 1 0)
     values-none e =
-        first-passes (record { nowhere = λ place t. ⊎-elim (good-not-stray n (f .before) before) (good-not-stray n (f .since) since) (t .stray) })
+        first-passes (record { nowhere = λ place t. good-monitor good (t .stray) })
         (first-fails (noneCheck f) (record { none = e; is-place = refl }))
 
     -- both are good, and since is an element
     pub values-judgeable : (f .since ≡ noValue → ⊥) → Judgeable n f
     values-judgeable s = record {
-      before-good = good-not-stray n (f .before) before;
-      start-inside = by-cases (ℕ-discrete (f .before) noValue) (λ e. rw (start-none f e) (good-element since s)) (λ b. rw (start-some f b) (good-element before b));
-      since-inside = good-element since s;
+      before-good = good-not-stray n (f .before) (good .before-good);
+      start-inside =
+          by-cases (ℕ-discrete (f .before) noValue) (λ e. rw (start-none f e) (good-element (good .since-good) s)) (λ b. rw (start-some f b) (good-element (good .before-good) b));
+      since-inside = good-element (good .since-good) s;
       since-some = s;
     }
 

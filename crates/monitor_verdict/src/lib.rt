@@ -3,6 +3,7 @@
 // have one grade.
 use answer::Refusal;
 use monitor_judging::judge;
+use monitor_state::out_of_range;
 use promises::LassoVerdict;
 use promises::Monitor;
 use rule_check::Checked;
@@ -17,23 +18,12 @@ ghost use Rattle.promises.specs.Verdict.{VerdictPromise};
 fn values_fault(n: usize, monitor: Monitor) -> Fault
     ensures { λ r. ⌜ ValuesAnswer n monitor r ⌝ }
 {
-    let before = monitor.before;
     let since = monitor.since;
-    if n <= before {
-        if before != 64 {
-            return Fault::Refused {
-                refusal: Refusal::EntryOutOfRange,
-                place: 0,
-            };
-        }
-    }
-    if n <= since {
-        if since != 64 {
-            return Fault::Refused {
-                refusal: Refusal::EntryOutOfRange,
-                place: 0,
-            };
-        }
+    if out_of_range(n, monitor) {
+        return Fault::Refused {
+            refusal: Refusal::EntryOutOfRange,
+            place: 0,
+        };
     }
     if since == 64 {
         return Fault::Refused {

@@ -6,16 +6,21 @@ use native.Mathlib.Omega.{arith}
 use Rattle.answer.specs.Checks.{passed, FirstFailure}
 use Rattle.answer.proofs.Order.{passed-first, passed-last, passes-head}
 use Rattle.theory.specs.Words.{Over, over-nil, over-cons}
-use Rattle.theory.specs.Rules.{Morphism, Lawful, Value, element, join, value}
+use Rattle.theory.specs.Rules.{Morphism, Value, element, join, value}
 use Rattle.theory.proofs.Words.{over-append}
 use Rattle.theory.proofs.Values.{Inside, inside-none, inside-element, join-none, join-inside, value-inside, value-append}
-use Rattle.formats.specs.RuleFile.{elementsOf, lettersOf, morphismOf}
+use Rattle.formats.specs.RuleFile.{lettersOf, morphismOf}
 use Rattle.formats.specs.Calls.{checkedChecks}
-use Rattle.formats.proofs.GoodRule.{called-good}
+use Rattle.formats.proofs.GoodRule.{GoodRule, called-good}
 use Rattle.promises.specs.declared.Monitor.{Monitor}
 use Rattle.promises.specs.Moves.{afterEvent, afterMark, eventChecks}
+use Rattle.promises.specs.declared.Step.{Step}
+use Rattle.promises.specs.declared.Step.the-variants.{Event, Mark, Stay}
+use Rattle.promises.specs.EventWords.{afterWord}
+use Rattle.promises.specs.Advance.{afterStep, ForeignStep, strongMonitorChecks, advanceChecks, advanceWordChecks}
 use Rattle.promises.specs.Monitor.{noValue, valueOf, numberFor, freshMonitor, monitorChecks}
-use Rattle.promises.specs.Histories.{Action, event, mark, sinceWord, beforeWord, Run, begun, moved-by-event, moved-by-mark, moved-in-place, event-refused, mark-refused, refused-in-place, Follows}
+use Rattle.promises.specs.Histories.{Action, event, mark, sinceWord, beforeWord, withStep, withWord, Run, begun, moved-by-event, moved-by-mark, moved-in-place, moved-by-advance, moved-by-word, event-refused, mark-refused, refused-in-place, advance-refused, word-refused, Follows}
+use Rattle.promises.proofs.EventWords.{known-step, log-over}
 use Rattle.promises.proofs.MonitorValues.{value-none, value-element, number-of-value}
 
 -- a value of a rule with at most 64 elements is that of its number
@@ -56,16 +61,16 @@ module _ (bytes : List ℕ) (f : Monitor) (letter : ℕ) (entry : List ℕ) (all
       let not : lettersOf bytes ≤ letter → ⊥ = λ h. passes-head (passed-last (monitorChecks bytes f entry) _ all) .nowhere 0 (record { foreign = h; is-place = refl }) in
       omega arith
 
--- what a lawful table of at most 64 elements makes of the words
-module _ (bytes : List ℕ) (law : Lawful (morphismOf bytes)) (small : elementsOf bytes ≤ 64) {f : Monitor} {history : List Action} (p : Follows bytes f history) where
+-- what a good rule makes of the words
+module _ (bytes : List ℕ) (good : GoodRule bytes) {f : Monitor} {history : List Action} (p : Follows bytes f history) where
   -- the product of two words' values, kept as a number and read again, is the value of the words in a row
   joined : {x y : Value} {v w : List ℕ} → x ≡ value (morphismOf bytes) v → y ≡ value (morphismOf bytes) w → Over (lettersOf bytes) v → Over (lettersOf bytes) w
       → valueOf (numberFor (join (morphismOf bytes) x y)) ≡ value (morphismOf bytes) (v ++ w)
   joined {x} {y} {v} {w} ex ey ov ow =
       ap (λ (z : Value). valueOf (numberFor (join (morphismOf bytes) z y))) ex
       ∙ ap (λ (z : Value). valueOf (numberFor (join (morphismOf bytes) (value (morphismOf bytes) v) z))) ey
-      ∙ value-of-number small (join-inside law (value-inside law ov) (value-inside law ow))
-      ∙ sym (value-append law ov ow)
+      ∙ value-of-number (good .table .small) (join-inside (good .lawful) (value-inside (good .lawful) ov) (value-inside (good .lawful) ow))
+      ∙ sym (value-append (good .lawful) ov ow)
 
   pub after-event : (letter : ℕ) → letter < lettersOf bytes → Follows bytes (afterEvent (morphismOf bytes) f letter) (event letter ∷ history)
   unfolding afterEvent sinceWord beforeWord
@@ -85,17 +90,25 @@ module _ (bytes : List ℕ) (law : Lawful (morphismOf bytes)) (small : elementsO
     since-value = value-none refl;
   }
 
+  pub after-step : (step : Step) → (ForeignStep (lettersOf bytes) step → ⊥) → Follows bytes (afterStep (morphismOf bytes) f step) (withStep step history)
+  after-step (Event letter) known = after-event letter (let h : lettersOf bytes ≤ letter → ⊥ = known in omega arith)
+  after-step Mark known = after-mark
+  after-step Stay known = p
+
+-- an event for each letter of a word
+pub after-word : (bytes : List ℕ) → GoodRule bytes → {f : Monitor} {history : List Action} {w : List ℕ} → Over (lettersOf bytes) w → Follows bytes f history
+    → Follows bytes (afterWord (morphismOf bytes) f w) (withWord w history)
+unfolding afterWord withWord
+after-word bytes good over-nil p = p
+after-word bytes good (over-cons {a} known over) p = after-word bytes good over (after-event bytes good p a known)
+
 module _ (bytes : List ℕ) where
   -- what a call that moved the monitor knows of the rule
-  module _ (f : Monitor) (entry : List ℕ) (all : FirstFailure (monitorChecks bytes f entry) passed) where
-    checked : FirstFailure (checkedChecks 1 bytes entry) passed
-    checked = passed-first (checkedChecks 1 bytes entry) _ all
+  monitor-good : (f : Monitor) (entry : List ℕ) → FirstFailure (monitorChecks bytes f entry) passed → GoodRule bytes
+  monitor-good f entry all = called-good 1 bytes entry (passed-first (checkedChecks 1 bytes entry) _ all)
 
-    law-of : Lawful (morphismOf bytes)
-    law-of = called-good 1 bytes entry checked .lawful
-
-    small-of : elementsOf bytes ≤ 64
-    small-of = called-good 1 bytes entry checked .table .small
+  strong-monitor-good : (input : ℕ) (f : Monitor) (entry : List ℕ) → FirstFailure (strongMonitorChecks input bytes f entry) passed → GoodRule bytes
+  strong-monitor-good input f entry all = called-good input bytes entry (passed-first (checkedChecks input bytes entry) _ all)
 
   pub fresh-follows : Follows bytes freshMonitor []
   unfolding sinceWord beforeWord value
@@ -105,15 +118,32 @@ module _ (bytes : List ℕ) where
   event-follows : {g : Monitor} {history : List Action} (f : Monitor) (letter : ℕ) (entry : List ℕ) → FirstFailure (eventChecks bytes f letter entry) passed
       → g ≡ afterEvent (morphismOf bytes) f letter → Follows bytes f history → Follows bytes g (event letter ∷ history)
   event-follows f letter entry all e p =
-      let own = event-monitor bytes f letter entry all in
-      same-follows e (after-event bytes (law-of f entry own) (small-of f entry own) p letter (event-letter bytes f letter entry all))
+      same-follows e (after-event bytes (monitor-good f entry (event-monitor bytes f letter entry all)) p letter (event-letter bytes f letter entry all))
+
+  -- a step that passed
+  step-follows : {g : Monitor} {history : List Action} (input : ℕ) (f : Monitor) (step : Step) (entry : List ℕ) → FirstFailure (advanceChecks input bytes f step entry) passed
+      → g ≡ afterStep (morphismOf bytes) f step → Follows bytes f history → Follows bytes g (withStep step history)
+  step-follows input f step entry all e p =
+      same-follows e (after-step bytes (strong-monitor-good input f entry (passed-first (strongMonitorChecks input bytes f entry) _ all)) p step
+      (known-step input (lettersOf bytes) step (passed-last (strongMonitorChecks input bytes f entry) _ all)))
+
+  -- a word of events that did
+  word-follows : {g : Monitor} {history : List Action} (input : ℕ) (f : Monitor) (w entry : List ℕ) → FirstFailure (advanceWordChecks input bytes f w entry) passed
+      → g ≡ afterWord (morphismOf bytes) f w → Follows bytes f history → Follows bytes g (withWord w history)
+  word-follows input f w entry all e p =
+      same-follows e (after-word bytes (strong-monitor-good input f entry (passed-first (strongMonitorChecks input bytes f entry) _ all))
+      (log-over input (lettersOf bytes) w (passed-last (strongMonitorChecks input bytes f entry) _ all)) p)
 
   -- a monitor that calls have led to has the values of its history's words
   pub run-follows : {f : Monitor} {history : List Action} → Run bytes f history → Follows bytes f history
   run-follows (begun e) = same-follows e fresh-follows
   run-follows (moved-by-event {f} {letter = letter} {entry = entry} r p) = event-follows f letter entry (p .refusal) (p .monitor) (run-follows r)
-  run-follows (moved-by-mark {f} {entry = entry} r p) = same-follows (p .monitor) (after-mark bytes (law-of f entry (p .refusal)) (small-of f entry (p .refusal)) (run-follows r))
+  run-follows (moved-by-mark {f} {entry = entry} r p) = same-follows (p .monitor) (after-mark bytes (monitor-good f entry (p .refusal)) (run-follows r))
   run-follows (moved-in-place {f} {letter = letter} {entry = entry} r p) = event-follows f letter entry (p .refusal) (p .monitor) (run-follows r)
+  run-follows (moved-by-advance {f} {input = input} {step = step} {entry = entry} r p) = step-follows input f step entry (p .refusal) (p .answered .moved) (run-follows r)
+  run-follows (moved-by-word {f} {input = input} {w = w} {entry = entry} r p) = word-follows input f w entry (p .refusal) (p .answered .moved) (run-follows r)
   run-follows (event-refused r p) = same-follows (p .monitor) (run-follows r)
   run-follows (mark-refused r p) = same-follows (p .monitor) (run-follows r)
   run-follows (refused-in-place r p) = same-follows (p .monitor) (run-follows r)
+  run-follows (advance-refused r p) = same-follows (p .answered) (run-follows r)
+  run-follows (word-refused r p) = same-follows (p .answered) (run-follows r)

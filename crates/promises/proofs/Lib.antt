@@ -1,12 +1,17 @@
+pub mod AdvanceOrder
+pub mod AdvanceTheorem
 pub mod AutomatonGrades
 pub mod AutomatonReadings
 pub mod CombinedGrades
 pub mod CombineOrder
+pub mod CheckParts
+pub mod EventWords
 pub mod ReduceOrder
 pub mod Histories
 pub mod HistoryGrades
 pub mod Limits
 pub mod Logs
+pub mod MonitorGoods
 pub mod MonitorValues
 pub mod OneAdvance
 pub mod OneCombine
@@ -34,6 +39,7 @@ pub mod Printing
 pub mod OneConfirmation
 pub mod Confirmed
 pub mod ConfirmOrder
+pub mod NoLetters
 pub mod NotConfirmed
 pub mod ComplementOrder
 pub mod InclusionOrder

@@ -1,14 +1,16 @@
 -- The numbers of the calls, each by what stands just within its limit and what just outside, and where a part begins and ends. Assumes nothing.
 use Prim.Native.Nat.{ℕ}
 use mathlib.Core.Path.{_≡_, refl}
-use mathlib.Core.List.{[], _∷_}
+use mathlib.Core.List.{List, [], _∷_}
 use native.Mathlib.Omega.{arith}
+use lib.ListN.{length}
 use Rattle.theory.specs.Rules.{Morphism}
 use Rattle.theory.specs.Pairs.{Linked}
 use Rattle.formats.specs.Sections.{twoBytes}
 use Rattle.formats.specs.RuleFile.{lettersAt, lettersOf, marksAt, marksOf, ruleEnd}
 use Rattle.formats.proofs.Limits.{Asks, asks}
 use Rattle.promises.specs.Classes.{classesSize, ClassNumber, not-linked}
+use Rattle.promises.specs.EventWords.{LogTooLongAt}
 use Rattle.promises.specs.FilePart.{filePart}
 use Rattle.promises.specs.Inclusion.{startSize, cycleSize}
 use Rattle.promises.specs.Points.{pointsSize}
@@ -47,6 +49,12 @@ rounds-65 = record { above = omega arith; is-place = refl }
 
 rounds-64 : {place : ℕ} → ¬ LimitOutOfRangeAt 64 place
 rounds-64 a = omega (arith, a .above)
+
+log-16777217 : {w : List ℕ} → length w ≡ 16777217 → LogTooLongAt w 0
+log-16777217 e = record { above = omega arith; is-place = refl }
+
+log-16777216 : {w : List ℕ} {place : ℕ} → length w ≡ 16777216 → ¬ LogTooLongAt w place
+log-16777216 e a = omega (arith, a .above)
 
 -- what stands for a pair that is not linked
 unlinked-number : {m : Morphism} {s e : ℕ} → ¬ Linked m s e → ClassNumber m s e 65535

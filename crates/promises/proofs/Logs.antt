@@ -13,6 +13,7 @@ use lib.Dec.{eqb}
 use lib.ListN.{length}
 use Rattle.answer.specs.Checks.{Verdict, Check, FirstFailure}
 use Rattle.answer.proofs.Order.{FirstCase, decides-now, hands-on, first-case}
+use Rattle.theory.specs.Rules.{Morphism}
 use Rattle.formats.specs.RuleFile.{morphismOf}
 use Rattle.formats.specs.RuleChecks.{scratchSize, bufferCheck}
 use Rattle.formats.specs.Calls.{afterCall}
@@ -26,13 +27,31 @@ use Rattle.promises.specs.declared.LassoVerdict.{LassoVerdict}
 use Rattle.promises.specs.Monitor.{freshMonitor}
 use Rattle.promises.specs.Moves.{afterEvent, afterMark, EventPromise, MarkPromise}
 use Rattle.promises.specs.InPlace.{EventInPlace}
+use Rattle.promises.specs.declared.Step.{Step}
+use Rattle.promises.specs.declared.Step.the-variants.{Event, Mark, Stay}
+use Rattle.promises.specs.declared.Advanced.{Advanced}
+use Rattle.promises.specs.declared.Advanced.the-variants.{To as Advanced-to, Refused as Not-advanced}
+use Rattle.promises.specs.EventWords.{afterWord}
+use Rattle.promises.specs.Advance.{afterStep, AdvancePromise, AdvanceWordPromise}
 use Rattle.promises.specs.Verdict.{VerdictPromise}
-use Rattle.promises.specs.Histories.{Action, Run, begun as run-begun, moved-by-event as run-event, moved-by-mark as run-mark, moved-in-place as run-in-place, event-refused as run-event-refused, mark-refused as run-mark-refused, refused-in-place as run-refused-in-place}
+use Rattle.promises.specs.Histories.{Action, event, Run, begun as run-begun, moved-by-event as run-event, moved-by-mark as run-mark, moved-in-place as run-in-place, moved-by-advance as run-advance, moved-by-word as run-word, event-refused as run-event-refused, mark-refused as run-mark-refused, refused-in-place as run-refused-in-place, advance-refused as run-advance-refused, word-refused as run-word-refused, withStep, withWord}
 use Rattle.promises.specs.Points.{namesCount, pointsSize, NeverKept, pointAt, keptPoints, KeepPromise, ReturnPromise}
-use Rattle.promises.specs.PointsTheorem.{Logged, handedBack}
-use Rattle.promises.specs.Logs.{Stored, never, stored, storedAt, Log, begun, moved-by-event, moved-by-mark, moved-in-place, kept, returned, event-refused, mark-refused, refused-in-place, keep-refused, return-refused, afterHistory}
+use Rattle.promises.specs.PointsTheorem.{Logged, handedBack, advancedMonitor}
+use Rattle.promises.specs.Logs.{Stored, never, stored, storedAt, Log, begun, moved-by-event, moved-by-mark, moved-in-place, moved-by-advance, moved-by-word, kept, returned, event-refused, mark-refused, refused-in-place, advance-refused, word-refused, keep-refused, return-refused, afterHistory}
 use Rattle.promises.proofs.OneVerdict.{one-answer}
 use Rattle.promises.proofs.Points.{other-flag, other-point, kept-kept, kept-point, keep-room, keep-named, return-named, return-kept}
+
+-- the monitor after a history with a step more, and with a word of events more
+history-step : (m : Morphism) {f : Monitor} (history : List Action) (step : Step) → f ≡ afterHistory m history → afterStep m f step ≡ afterHistory m (withStep step history)
+unfolding afterHistory
+history-step m history (Event letter) e = ap (λ (x : Monitor). afterEvent m x letter) e
+history-step m history Mark e = ap (afterMark m) e
+history-step m history Stay e = e
+
+history-word : (m : Morphism) {f : Monitor} (history : List Action) (w : List ℕ) → f ≡ afterHistory m history → afterWord m f w ≡ afterHistory m (withWord w history)
+unfolding afterWord withWord
+history-word m history [] e = e
+history-word m history (letter ∷ w) e = history-word m (event letter ∷ history) w (history-step m history (Event letter) e)
 
 -- a monitor that calls have led to is the one after its history
 pub run-monitor : (bytes : List ℕ) {f : Monitor} {history : List Action} → Run bytes f history → f ≡ afterHistory (morphismOf bytes) history
@@ -41,9 +60,13 @@ run-monitor bytes (run-begun e) = e
 run-monitor bytes (run-event {letter = letter} r p) = p .monitor ∙ ap (λ (x : Monitor). afterEvent (morphismOf bytes) x letter) (run-monitor bytes r)
 run-monitor bytes (run-mark r p) = p .monitor ∙ ap (afterMark (morphismOf bytes)) (run-monitor bytes r)
 run-monitor bytes (run-in-place {letter = letter} r p) = p .monitor ∙ ap (λ (x : Monitor). afterEvent (morphismOf bytes) x letter) (run-monitor bytes r)
+run-monitor bytes (run-advance {history = history} {step = step} r p) = p .answered .moved ∙ history-step (morphismOf bytes) history step (run-monitor bytes r)
+run-monitor bytes (run-word {history = history} {w = w} r p) = p .answered .moved ∙ history-word (morphismOf bytes) history w (run-monitor bytes r)
 run-monitor bytes (run-event-refused r p) = p .monitor ∙ run-monitor bytes r
 run-monitor bytes (run-mark-refused r p) = p .monitor ∙ run-monitor bytes r
 run-monitor bytes (run-refused-in-place r p) = p .monitor ∙ run-monitor bytes r
+run-monitor bytes (run-advance-refused r p) = p .answered ∙ run-monitor bytes r
+run-monitor bytes (run-word-refused r p) = p .answered ∙ run-monitor bytes r
 
 -- behind a buffer that is long enough the other checks have decided
 after-buffer : {needed : ℕ} {buffer : List ℕ} {checks : List Check} {v : Verdict} → needed ≤ length buffer → FirstFailure (bufferCheck needed buffer ∷ checks) v
@@ -100,6 +123,8 @@ module _ (bytes : List ℕ) where
   log-faithful (moved-by-event l p) = let k = log-faithful l in record { run = run-event (k .run) p; held = k .held }
   log-faithful (moved-by-mark l p) = let k = log-faithful l in record { run = run-mark (k .run) p; held = k .held }
   log-faithful (moved-in-place l p) = let k = log-faithful l in record { run = run-in-place (k .run) p; held = k .held }
+  log-faithful (moved-by-advance l p) = let k = log-faithful l in record { run = run-advance (k .run) p; held = k .held }
+  log-faithful (moved-by-word l p) = let k = log-faithful l in record { run = run-word (k .run) p; held = k .held }
   log-faithful (kept {f} {points = points} {history = history} {names = names} {name = name} {entry = entry} l p) =
       let k = log-faithful l in
       let room = keep-room bytes f name points entry (p .refusal) in
@@ -116,6 +141,8 @@ module _ (bytes : List ℕ) where
   log-faithful (event-refused l p) = let k = log-faithful l in record { run = same-run (p .monitor) (k .run); held = k .held }
   log-faithful (mark-refused l p) = let k = log-faithful l in record { run = same-run (p .monitor) (k .run); held = k .held }
   log-faithful (refused-in-place l p) = let k = log-faithful l in record { run = same-run (p .monitor) (k .run); held = k .held }
+  log-faithful (advance-refused l p) = let k = log-faithful l in record { run = same-run (p .answered) (k .run); held = k .held }
+  log-faithful (word-refused l p) = let k = log-faithful l in record { run = same-run (p .answered) (k .run); held = k .held }
   log-faithful (keep-refused {names = names} l p) =
       let k = log-faithful l in
       record {
@@ -173,6 +200,14 @@ module _ {bytes : List ℕ} where
     pub in-place-logged : {letter : ℕ} {g : Monitor} (answer : InPlaceAnswer) → EventInPlace bytes f letter entry exit g answer → Logged bytes g points
     in-place-logged Done p = record { history = _; names = _; log = moved-in-place (l .log) p }
     in-place-logged (Not-done refusal input place) p = record { history = _; names = _; log = refused-in-place (l .log) p }
+
+    pub advance-logged : {input : ℕ} {step : Step} (answer : Advanced) → AdvancePromise input bytes f step entry exit answer → Logged bytes (advancedMonitor answer) points
+    advance-logged (Advanced-to g grade turns) p = record { history = _; names = _; log = moved-by-advance (l .log) p }
+    advance-logged (Not-advanced g refusal i place) p = record { history = _; names = _; log = advance-refused (l .log) p }
+
+    pub advance-word-logged : {input : ℕ} {w : List ℕ} (answer : Advanced) → AdvanceWordPromise input bytes f w entry exit answer → Logged bytes (advancedMonitor answer) points
+    advance-word-logged (Advanced-to g grade turns) p = record { history = _; names = _; log = moved-by-word (l .log) p }
+    advance-word-logged (Not-advanced g refusal i place) p = record { history = _; names = _; log = word-refused (l .log) p }
 
     pub keep-logged : {name : ℕ} {points-exit : List ℕ} (answer : Moved) → KeepPromise bytes f name points points-exit entry exit answer
         → Logged bytes (handedBack answer) points-exit

@@ -46,23 +46,23 @@ module _ (bytes : List ℕ) (f : Monitor) (scratch : List ℕ) where
     -- a refusal of the file, whatever the monitor and the letter are
     pub event-file-first : (r : Refusal) (input place : ℕ) → FirstFailure (checkedChecks 1 bytes scratch) (refused r input place)
         → FirstFailure (eventChecks bytes f letter scratch) (refused r input place)
-    event-file-first = file-decides (loneLetterCheck (lettersOf bytes) letter ∷ [])
+    event-file-first = file-decides (loneLetterCheck 1 (lettersOf bytes) letter ∷ [])
 
     module _ (passes : FirstFailure (checkedChecks 1 bytes scratch) passed) where
       -- a stray value, whatever the letter is
       pub event-values-next : Stray bytes f → FirstFailure (eventChecks bytes f letter scratch) (refused EntryOutOfRange 1 0)
-      event-values-next = values-decide (loneLetterCheck (lettersOf bytes) letter ∷ []) passes
+      event-values-next = values-decide (loneLetterCheck 1 (lettersOf bytes) letter ∷ []) passes
 
       -- a foreign letter
       pub event-letter-last : ¬ Stray bytes f → lettersOf bytes ≤ letter → FirstFailure (eventChecks bytes f letter scratch) (refused UnknownLetter 1 0)
       event-letter-last fits foreign =
-          others-decide (loneLetterCheck (lettersOf bytes) letter ∷ []) passes fits
-          (first-fails (loneLetterCheck (lettersOf bytes) letter) (record { foreign = foreign; is-place = refl }))
+          others-decide (loneLetterCheck 1 (lettersOf bytes) letter ∷ []) passes fits
+          (first-fails (loneLetterCheck 1 (lettersOf bytes) letter) (record { foreign = foreign; is-place = refl }))
 
       -- neither
       pub event-none-fails : ¬ Stray bytes f → ¬ (lettersOf bytes ≤ letter) → FirstFailure (eventChecks bytes f letter scratch) passed
       event-none-fails fits known =
-          others-decide (loneLetterCheck (lettersOf bytes) letter ∷ []) passes fits (first-passes (record { nowhere = λ place a. known (a .foreign) }) none-left)
+          others-decide (loneLetterCheck 1 (lettersOf bytes) letter ∷ []) passes fits (first-passes (record { nowhere = λ place a. known (a .foreign) }) none-left)
 
   -- ---- a verdict
 

@@ -57,5 +57,6 @@ one-answers = record {
   return-to = λ bytes f name points entry. record { one = λ x y a b p q. (named.one-return p q, named.one-return-scratch p q) };
   verdict = λ bytes f entry. record { one = λ x y a b p q. (verdicts.one-answer a b p q, verdicts.one-scratch p q) };
   advance = λ input bytes f step entry. record { one = λ x y a b p q. (advances.one-answer a b p q, advances.one-scratch p q) };
+  advance-word = λ input bytes f w entry. record { one = λ x y a b p q. (advances.one-word-answer a b p q, advances.one-word-scratch p q) };
   summarize = λ bytes work entry. record { one = λ x y a b p q. (summaries.one-answer a b p q, both (summaries.one-work a b p q) (summaries.one-scratch p q)) };
 }

@@ -21,6 +21,11 @@ use Rattle.promises.specs.declared.Monitor.{Monitor}
 use Rattle.promises.specs.declared.Moved.the-variants.{Refused}
 use Rattle.promises.specs.declared.InPlaceAnswer.the-variants.{Done}
 use Rattle.promises.specs.declared.LassoVerdict.the-variants.{Decided}
+use Rattle.promises.specs.declared.Step.{Step}
+use Rattle.promises.specs.declared.Step.the-variants.{Stay}
+use Rattle.promises.specs.declared.Advanced.the-variants.{Refused as Not-advanced}
+use Rattle.promises.specs.EventWords.{afterWord}
+use Rattle.promises.specs.Advance.{AdvancePromise}
 use Rattle.promises.specs.Stretch.{unread, stretchOf}
 use Rattle.promises.specs.Automaton.{automatonOf, TooManyMatricesAt}
 use Rattle.promises.specs.Complement.{ComplementMarks}
@@ -29,7 +34,7 @@ use Rattle.promises.specs.Monitor.{valueOf, freshMonitor}
 use Rattle.promises.specs.Moves.{afterEvent, afterMark, EventPromise}
 use Rattle.promises.specs.InPlace.{EventInPlace}
 use Rattle.promises.specs.Verdict.{NoneAt, VerdictAnswer}
-use Rattle.promises.specs.Histories.{Action, event, mark, sinceWord, beforeWord, Run, event-refused}
+use Rattle.promises.specs.Histories.{Action, event, mark, sinceWord, beforeWord, withStep, withWord, Run, event-refused}
 
 -- ---- stretch: u is 0, v is 1 2
 
@@ -118,6 +123,16 @@ done-in-place : {bytes : List ℕ} {f g : Monitor} {letter : ℕ} {entry exit : 
     → g ≡ afterEvent (morphismOf bytes) f letter
 done-in-place p = p .monitor
 
+-- a word of events is taken from its first letter on
+word-in-order : (m : Morphism) (f : Monitor) → afterWord m f (0 ∷ 1 ∷ []) ≡ afterEvent m (afterEvent m f 0) 1
+unfolding afterWord
+word-in-order m f = refl
+
+-- a refused step hands the monitor back
+refused-step : {input : ℕ} {bytes : List ℕ} {f g : Monitor} {step : Step} {entry exit : List ℕ} {refusal : Refusal} {i place : ℕ}
+    → AdvancePromise input bytes f step entry exit (Not-advanced g refusal i place) → g ≡ f
+refused-step p = p .answered
+
 -- no verdict with since none, whatever before is
 since-none : NoneAt (record { before = 0; since = 64 }) 0
 since-none = record { none = refl; is-place = refl }
@@ -147,6 +162,16 @@ letters-before = refl
 letters-since : sinceWord (event 3 ∷ history) ≡ 2 ∷ 3 ∷ []
 unfolding history sinceWord
 letters-since = refl
+
+-- the letters of a word are events, its last letter the latest
+word-in-history : withWord (3 ∷ 4 ∷ []) (mark ∷ []) ≡ event 4 ∷ event 3 ∷ mark ∷ []
+unfolding withWord
+word-in-history = refl
+
+-- a step that leaves the monitor is no part of it
+stay-in-history : withStep Stay history ≡ history
+unfolding history
+stay-in-history = refl
 
 -- a refused event is no part of the history
 refused-event-left-out : {bytes : List ℕ} {f g : Monitor} {past : List Action} {letter : ℕ} {entry exit : List ℕ} {refusal : Refusal} {input place : ℕ}

@@ -12,6 +12,10 @@ use Rattle.promises.specs.declared.InPlaceAnswer.the-variants.{Done, Ref
 use Rattle.promises.specs.Monitor.{valueOf, freshMonitor}
 use Rattle.promises.specs.Moves.{EventPromise, MarkPromise}
 use Rattle.promises.specs.InPlace.{EventInPlace}
+use Rattle.promises.specs.declared.Step.{Step}
+use Rattle.promises.specs.declared.Step.the-variants.{Event, Mark, Stay}
+use Rattle.promises.specs.declared.Advanced.the-variants.{To as Advanced-to, Refused as Not-advanced}
+use Rattle.promises.specs.Advance.{AdvancePromise, AdvanceWordPromise}
 
 -- what moves a monitor: an event with its letter, or a mark
 pub data Action : Type 0 where
@@ -31,6 +35,17 @@ beforeWord [] = []
 beforeWord (event letter ∷ history) = beforeWord history
 beforeWord (mark ∷ history) = beforeWord history ++ sinceWord history
 
+-- a history with a step: an event or a mark, or nothing more
+abbrev pub withStep : Step → List Action → List Action
+withStep (Event letter) history = event letter ∷ history
+withStep Mark history = mark ∷ history
+withStep Stay history = history
+
+-- a history with an event for each letter of a word, its last letter the latest
+unfoldable pub withWord : List ℕ → List Action → List Action
+withWord [] history = history
+withWord (letter ∷ w) history = withWord w (event letter ∷ history)
+
 -- a monitor that calls have led to, by what the calls promise: it was fresh, each call that moved it is in the history, and a
 -- refused call, which hands a monitor back or leaves one too, is not
 pub data Run (bytes : List ℕ) : Monitor → List Action → Type 0 where
@@ -41,12 +56,20 @@ pub data Run (bytes : List ℕ) : Monitor → List Action → Type 0 where
       → Run bytes f history → MarkPromise bytes f entry exit (To g) → Run bytes g (mark ∷ history)
   moved-in-place : {f g : Monitor} {history : List Action} {letter : ℕ} {entry exit : List ℕ}
       → Run bytes f history → EventInPlace bytes f letter entry exit g Done → Run bytes g (event letter ∷ history)
+  moved-by-advance : {f g : Monitor} {history : List Action} {input : ℕ} {step : Step} {entry exit : List ℕ} {grade turns : ℕ}
+      → Run bytes f history → AdvancePromise input bytes f step entry exit (Advanced-to g grade turns) → Run bytes g (withStep step history)
+  moved-by-word : {f g : Monitor} {history : List Action} {input : ℕ} {w entry exit : List ℕ} {grade turns : ℕ}
+      → Run bytes f history → AdvanceWordPromise input bytes f w entry exit (Advanced-to g grade turns) → Run bytes g (withWord w history)
   event-refused : {f g : Monitor} {history : List Action} {letter : ℕ} {entry exit : List ℕ} {refusal : Refusal} {input place : ℕ}
       → Run bytes f history → EventPromise bytes f letter entry exit (Refused g refusal input place) → Run bytes g history
   mark-refused : {f g : Monitor} {history : List Action} {entry exit : List ℕ} {refusal : Refusal} {input place : ℕ}
       → Run bytes f history → MarkPromise bytes f entry exit (Refused g refusal input place) → Run bytes g history
   refused-in-place : {f g : Monitor} {history : List Action} {letter : ℕ} {entry exit : List ℕ} {refusal : Refusal} {input place : ℕ}
       → Run bytes f history → EventInPlace bytes f letter entry exit g (Not-done refusal input place) → Run bytes g history
+  advance-refused : {f g : Monitor} {history : List Action} {input : ℕ} {step : Step} {entry exit : List ℕ} {refusal : Refusal} {i place : ℕ}
+      → Run bytes f history → AdvancePromise input bytes f step entry exit (Not-advanced g refusal i place) → Run bytes g history
+  word-refused : {f g : Monitor} {history : List Action} {input : ℕ} {w entry exit : List ℕ} {refusal : Refusal} {i place : ℕ}
+      → Run bytes f history → AdvanceWordPromise input bytes f w entry exit (Not-advanced g refusal i place) → Run bytes g history
 
 -- the monitor has the values of its history's two words, and those are words over the rule's letters
 pub record Follows (bytes : List ℕ) (f : Monitor) (history : List Action) : Type 0 where

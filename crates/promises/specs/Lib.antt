@@ -23,6 +23,8 @@ pub mod RuleAutomaton
 pub mod Combine
 pub mod Confirm
 pub mod Advance
+pub mod AdvanceTheorem
+pub mod EventWords
 pub mod FilePart
 pub mod InclusionTheorem
 pub mod OneAnswers

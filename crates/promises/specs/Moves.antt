@@ -26,13 +26,13 @@ pub record LoneUnknownLetterAt (k letter place : ℕ) : Type 0 where
   pub foreign : k ≤ letter
   pub is-place : place ≡ 0
 
--- 10 of a letter, for a rule with k letters
-abbrev pub loneLetterCheck : ℕ → ℕ → Check
-loneLetterCheck k letter = record { refusal = UnknownLetter; input = 1; Fails = LoneUnknownLetterAt k letter }
+-- 10 of a letter, for a rule with k letters, which is the input of the given number
+abbrev pub loneLetterCheck : ℕ → ℕ → ℕ → Check
+loneLetterCheck input k letter = record { refusal = UnknownLetter; input = input; Fails = LoneUnknownLetterAt k letter }
 
 -- and then 10 "for an event"
 abbrev pub eventChecks : List ℕ → Monitor → ℕ → List ℕ → List Check
-eventChecks bytes f letter scratch = monitorChecks bytes f scratch ++ loneLetterCheck (lettersOf bytes) letter ∷ []
+eventChecks bytes f letter scratch = monitorChecks bytes f scratch ++ loneLetterCheck 1 (lettersOf bytes) letter ∷ []
 
 -- document 01's number, input and place of a call on a monitor
 abbrev pub movedVerdict : Moved → Verdict

@@ -37,7 +37,7 @@ use Rattle.promises.specs.Moves.{EventPromise, MarkPromise}
 use Rattle.promises.specs.InPlace.{EventInPlace}
 use Rattle.promises.specs.Points.{KeepPromise, ReturnPromise}
 use Rattle.promises.specs.Verdict.{VerdictPromise}
-use Rattle.promises.specs.Advance.{AdvancePromise}
+use Rattle.promises.specs.Advance.{AdvancePromise, AdvanceWordPromise}
 use Rattle.promises.specs.Summary.{SummaryPromise}
 
 -- one answer, and one of what is left, by a promise of what is left and the answer
@@ -85,4 +85,6 @@ pub record OneAnswers : Type 0 where
   pub verdict : (bytes : List ℕ) (f : Monitor) (entry : List ℕ) → OneAnswer (λ (exit : List ℕ) (answer : LassoVerdict). VerdictPromise bytes f entry exit answer)
   pub advance : (input : ℕ) (bytes : List ℕ) (f : Monitor) (step : Step) (entry : List ℕ)
       → OneAnswer (λ (exit : List ℕ) (answer : Advanced). AdvancePromise input bytes f step entry exit answer)
+  pub advance-word : (input : ℕ) (bytes : List ℕ) (f : Monitor) (w entry : List ℕ)
+      → OneAnswer (λ (exit : List ℕ) (answer : Advanced). AdvanceWordPromise input bytes f w entry exit answer)
   pub summarize : (bytes work entry : List ℕ) → OneAnswer (λ (left : TwoLists) (answer : Summary). SummaryPromise bytes work (left .0) entry (left .1) answer)

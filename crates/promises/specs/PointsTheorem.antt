@@ -18,6 +18,10 @@ use Rattle.promises.specs.declared.LassoVerdict.the-variants.{Decided}
 use Rattle.promises.specs.Monitor.{freshMonitor}
 use Rattle.promises.specs.Moves.{EventPromise, MarkPromise}
 use Rattle.promises.specs.InPlace.{EventInPlace}
+use Rattle.promises.specs.declared.Step.{Step}
+use Rattle.promises.specs.declared.Advanced.{Advanced}
+use Rattle.promises.specs.declared.Advanced.the-variants.{To as Advanced-to, Refused as Not-advanced}
+use Rattle.promises.specs.Advance.{AdvancePromise, AdvanceWordPromise}
 use Rattle.promises.specs.Verdict.{VerdictPromise}
 use Rattle.promises.specs.Points.{namesCount, NeverKept, pointAt, KeepPromise, ReturnPromise}
 use Rattle.promises.specs.Histories.{Action, sinceWord, beforeWord, Run}
@@ -33,6 +37,10 @@ pub record Logged (bytes : List ℕ) (f : Monitor) (points : List ℕ) : Type 0 
 abbrev pub handedBack : Moved → Monitor
 handedBack (To g) = g
 handedBack (Refused g refusal input place) = g
+
+abbrev pub advancedMonitor : Advanced → Monitor
+advancedMonitor (Advanced-to g grade turns) = g
+advancedMonitor (Not-advanced g refusal input place) = g
 
 -- "With one rule throughout, a fresh follower and no name kept first, and both handed on unaltered"
 pub record PointsTheorem : Type 0 where
@@ -62,6 +70,10 @@ pub record PointsTheorem : Type 0 where
       → MarkPromise bytes f entry exit answer → Logged bytes (handedBack answer) points
   pub in-place-logged : (bytes : List ℕ) (f g : Monitor) (points : List ℕ) → Logged bytes f points → (letter : ℕ) (entry exit : List ℕ) (answer : InPlaceAnswer)
       → EventInPlace bytes f letter entry exit g answer → Logged bytes g points
+  pub advance-logged : (bytes : List ℕ) (f : Monitor) (points : List ℕ) → Logged bytes f points → (input : ℕ) (step : Step) (entry exit : List ℕ) (answer : Advanced)
+      → AdvancePromise input bytes f step entry exit answer → Logged bytes (advancedMonitor answer) points
+  pub advance-word-logged : (bytes : List ℕ) (f : Monitor) (points : List ℕ) → Logged bytes f points → (input : ℕ) (w entry exit : List ℕ) (answer : Advanced)
+      → AdvanceWordPromise input bytes f w entry exit answer → Logged bytes (advancedMonitor answer) points
   pub keep-logged : (bytes : List ℕ) (f : Monitor) (points : List ℕ) → Logged bytes f points → (name : ℕ) (points-exit entry exit : List ℕ) (answer : Moved)
       → KeepPromise bytes f name points points-exit entry exit answer → Logged bytes (handedBack answer) points-exit
   pub return-logged : (bytes : List ℕ) (f : Monitor) (points : List ℕ) → Logged bytes f points → (name : ℕ) (entry exit : List ℕ) (answer : Moved)

@@ -66,7 +66,7 @@ kindChecks bytes s e least scratch = checkedChecks 1 bytes scratch ++ kindOwnChe
 
 -- those of a list: 17 "before 10"
 abbrev pub successorOwnChecks : Morphism → ℕ → ℕ → ℕ → List Check
-successorOwnChecks m s e letter = stateCheck m s e ∷ loneLetterCheck (m .letters) letter ∷ []
+successorOwnChecks m s e letter = stateCheck m s e ∷ loneLetterCheck 1 (m .letters) letter ∷ []
 
 -- "First 13", of both buffers
 abbrev pub successorChecks : List ℕ → ℕ → ℕ → ℕ → List ℕ → List ℕ → List Check

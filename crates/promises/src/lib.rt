@@ -179,20 +179,24 @@ pub enum Step {
     Stay,
 }
 
-// A monitor that was moved, with the grade of the lassos that have its values, or 4 where its since is none; or a step that is foreign to a
-// rule which passed all else.
+// A monitor that was moved, with the grade of the lassos that have its values and the number of turns for the value of its since, or 4 and 0
+// where its since is none; a refused call hands it back as it was.
 pub enum Advanced {
     To {
         monitor: Monitor,
         grade: usize,
+        turns: usize,
     },
-    Foreign,
     Refused {
+        monitor: Monitor,
         refusal: Refusal,
         input: usize,
         place: usize,
     },
 }
+
+// How many letters a word of events may have, as specs/EventWords has it.
+pub const LONGEST_LOG: usize = 16777216;
 
 // What a call that is lent a monitor answers: the monitor has moved, or the refusal.
 pub enum InPlaceAnswer {

@@ -2,7 +2,7 @@
 // A state is (s, e), s an element or 64 for none and e idempotent. Nothing is stored: both are read from the product table.
 use answer::Refusal;
 use monitor_state::join;
-use monitor_state::out_of_range;
+use monitor_state::number_out_of_range;
 use promises::StateKind;
 use rule_table::image;
 use rule_table::product;
@@ -24,7 +24,7 @@ pub fn is_state(rule: &[u8], n: usize, k: usize, s: usize, e: usize) -> bool
     requires { ⌜ Table (now rule) n k ⌝ }
     ensures { λ r. ⌜ r ≡ isState (morphismAt (now (rule .entry)) n k) (valueOf s) e ⌝ }
 {
-    if out_of_range(n, s) {
+    if number_out_of_range(n, s) {
         return false;
     }
     if n <= e {

@@ -126,13 +126,13 @@ module _ (bytes : List ℕ) (s e letter : ℕ) (out entry : List ℕ) (long : su
       state : isState read (valueOf s) e ≡ true
       state = said-state is f
 
-      state-passes : {v : Verdict} → FirstFailure (loneLetterCheck (shape .letters) letter ∷ []) v → FirstFailure (successorOwnChecks read s e letter) v
+      state-passes : {v : Verdict} → FirstFailure (loneLetterCheck 1 (shape .letters) letter ∷ []) v → FirstFailure (successorOwnChecks read s e letter) v
       state-passes = first-passes (record { nowhere = λ place q. true≢false (sym state ∙ q .missing) })
 
       -- no such letter
       pub successors-letter : shape .letters ≤ letter → SuccessorsPromise bytes s e letter out out entry end (Successors-refused UnknownLetter 1 0)
       successors-letter h = record {
-        refusal = own (state-passes (first-fails (loneLetterCheck (shape .letters) letter) (record { foreign = h; is-place = refl })));
+        refusal = own (state-passes (first-fails (loneLetterCheck 1 (shape .letters) letter) (record { foreign = h; is-place = refl })));
         answered = refl;
         accepts = λ q. absurd (not-passed q);
         scratch = left;

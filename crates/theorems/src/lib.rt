@@ -4,6 +4,7 @@ ghost use Rattle.promises.specs.OneAnswers.{OneAnswers};
 ghost use Rattle.board_promises.specs.OneAnswers.{BoardOneAnswers};
 ghost use Rattle.promises.specs.SmallestTheorem.{SmallestTheorem};
 ghost use Rattle.promises.specs.InclusionTheorem.{InclusionTheorem};
+ghost use Rattle.promises.specs.AdvanceTheorem.{AdvanceTheorem};
 ghost use Rattle.promises.specs.PointsTheorem.{PointsTheorem};
 ghost use Rattle.promises.specs.PrintTheorem.{PrintTheorem};
 ghost use Rattle.promises.specs.RoundsTheorem.{RoundsTheorem};
@@ -43,6 +44,11 @@ fn empty_starts_theorem()
 // Document 02, Job 1.
 fn points_theorem()
     ensures { λ r. ⌜ PointsTheorem ⌝ }
+{}
+
+// A word of events is its letters one by one, and a step that passes is the call that takes it and then the verdict.
+fn advance_theorem()
+    ensures { λ r. ⌜ AdvanceTheorem ⌝ }
 {}
 
 // Document 02, Job 8.

@@ -5,7 +5,6 @@ use mathlib.Core.Bool.{Bool, true, false, cond}
 use mathlib.Core.Logic.{inl, ⊎-elim}
 use mathlib.Core.List.{List, [], _∷_, _++_}
 use native.Mathlib.Omega.{arith}
-use Rattle.answer.specs.declared.Refusal.the-variants.{UnknownLetter}
 use Rattle.answer.specs.Checks.{Passes}
 use Rattle.answer.proofs.Limits.{Limited, limited-nil, limited-cons, limited-append}
 use Rattle.finite.proofs.Numbers.{le-or-lt}
@@ -13,7 +12,7 @@ use Rattle.formats.specs.RuleFile.{lettersOf}
 use Rattle.formats.specs.RuleChecks.{ruleChecks}
 use Rattle.promises.specs.Weak.{WeakAt}
 use Rattle.promises.specs.Monitor.{MonitorValueOutOfRangeAt}
-use Rattle.promises.specs.Moves.{LoneUnknownLetterAt}
+use Rattle.promises.specs.Moves.{LoneUnknownLetterAt, loneLetterCheck}
 use Rattle.promises.specs.Advance.{standingChecks}
 use Rattle.board_promises.specs.declared.Board.{Board}
 use Rattle.board_promises.specs.Boards.{namesCount, fileAt, presentAt, monitorAt}
@@ -48,7 +47,7 @@ module _ (b : Board) (files : List ℕ) where
     letter-limited i h = go (presentAt b i)
       where
         go : (there : Bool)
-            → Limited Near (cond there (record { refusal = UnknownLetter; input = i; Fails = LoneUnknownLetterAt (lettersOf (fileAt files i)) letter } ∷ []) [])
+            → Limited Near (cond there (loneLetterCheck i (lettersOf (fileAt files i)) letter ∷ []) [])
         go true = limited-cons (λ place (a : LoneUnknownLetterAt _ _ place). near (omega arith) (omega (arith, a .is-place))) (λ _. limited-nil)
         go false = limited-nil
 

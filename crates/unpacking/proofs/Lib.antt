@@ -1,3 +1,4 @@
+pub mod Advances
 pub mod Limits
 pub mod AutomatonLimits
 pub mod Monitors

@@ -1,5 +1,5 @@
 -- Where the refusals of the exported calls lie, for inputs of any length: those of a file no further in than the longest file reaches,
--- since its counts are looked at first, and those of a word within the longest word. Assumes nothing.
+-- since its counts are looked at first, and those of a word within the longest word, or the longest of events. Assumes nothing.
 use Prim.Native.Nat.{ℕ, zero, suc, _+_, _*_, _≤_, _<_}
 use mathlib.Core.Path.{_≡_, refl, subst}
 use mathlib.Core.Logic.{inr}
@@ -22,14 +22,16 @@ use Rattle.formats.proofs.RuleSections.{ruleSections, rule-list, rule-in-any}
 use Rattle.formats.specs.Calls.{checkedChecks}
 use Rattle.formats.proofs.SectionsPassed.{size-small, letters-small, marks-small}
 use Rattle.formats.specs.WordChecks.{longestWord, LengthOutAt, UnknownLetterAt, lassoChecks}
+use Rattle.promises.specs.EventWords.{longestLog, LogTooLongAt, logChecks}
 use Rattle.packing.proofs.ReadBack.{RefusalFits}
 
--- where refusals lie: in an input up to 7, and below 2 to the power 18, which the place of the last triple is just below
+-- where refusals lie: in an input up to 7, and below the length of the longest word of events, 2 to the power 24, which the last letter's place is just below; a number has
+-- room for places below 2 to the power 48
 pub record Near (input place : ℕ) : Type 0 where
   pub input-small : input ≤ 7
-  pub place-small : place < 262144
+  pub place-small : place < longestLog
 
-pub near : {input place : ℕ} → input ≤ 7 → place < 262144 → Near input place
+pub near : {input place : ℕ} → input ≤ 7 → place < longestLog → Near input place
 near i l = record { input-small = i; place-small = l }
 
 -- a refusal that lies there is packed whole
@@ -127,3 +129,10 @@ lasso-limited k u v =
     (λ pu. limited-cons (λ place (f : LengthOutAt _ v place). near (omega arith) (omega (arith, f .is-place)))
     (λ pv. limited-cons (λ place (f : UnknownLetterAt k u place). word-short (pu .nowhere) (omega arith) (f .inside))
     (λ _. limited-cons (λ place (f : UnknownLetterAt k v place). word-short (pv .nowhere) (omega arith) (f .inside)) (λ _. limited-nil))))
+
+-- 11 and 10 of a word of events
+pub log-limited : (k : ℕ) (w : List ℕ) → Limited Near (logChecks 1 k w)
+log-limited k w =
+    limited-cons (λ place (f : LogTooLongAt w place). at-zero (f .is-place))
+    (λ passes. limited-cons (λ place (f : UnknownLetterAt k w place). near (omega arith)
+    (let h : longestLog < length w → ⊥ = λ g. passes .nowhere 0 (record { above = g; is-place = refl }) in omega (arith, f .inside))) (λ _. limited-nil))

@@ -1,36 +1,30 @@
 -- The values of a moved monitor, and of one that is kept or returned to, are elements or 64. Assumes nothing.
 use Prim.Native.Nat.{ℕ, _≤_, _<_}
-use mathlib.Core.Path.{refl, sym, subst}
+use mathlib.Core.Path.{refl}
 use mathlib.Core.Logic.{_⊎_, inl, inr, ⊎-elim}
 use mathlib.Core.List.{List, _∷_}
 use native.Mathlib.Omega.{arith}
 use Rattle.answer.specs.Checks.{passed, FirstFailure}
 use Rattle.answer.proofs.Order.{passed-first, passed-last, passes-head, passes-tail}
-use Rattle.theory.specs.Rules.{Morphism, Value, join}
-use Rattle.theory.proofs.Values.{Inside, inside-none, inside-element, join-inside}
+use Rattle.theory.specs.Words.{Over, over-nil, over-cons}
 use Rattle.formats.specs.RuleFile.{elementsOf, lettersOf, morphismOf}
 use Rattle.formats.proofs.GoodRule.{GoodRule, called-good}
 use Rattle.formats.specs.RuleChecks.{bufferCheck}
 use Rattle.formats.specs.Calls.{checkedChecks}
 use Rattle.promises.specs.declared.Monitor.{Monitor}
-use Rattle.promises.specs.Monitor.{valueOf, numberFor, ValueOutOfRange, monitorChecks}
+use Rattle.promises.specs.declared.Step.{Step}
+use Rattle.promises.specs.declared.Step.the-variants.{Event, Mark}
+use Rattle.promises.specs.Monitor.{ValueOutOfRange, monitorChecks}
 use Rattle.monitor_state.specs.Ready.{GoodNumber}
 use Rattle.monitor_state.proofs.Numbers.{not-stray}
-use Rattle.promises.proofs.MonitorValues.{value-none, value-element}
 use Rattle.promises.specs.Moves.{afterEvent, afterMark, eventChecks}
+use Rattle.promises.specs.EventWords.{afterWord}
+use Rattle.promises.specs.Advance.{afterStep, ForeignStep}
+use Rattle.promises.proofs.MonitorGoods.{step-fits}
 use Rattle.promises.specs.Points.{pointsSize, pointAt, keepChecks, returnChecks}
 use Rattle.promises.proofs.Points.{return-named, return-kept}
 use Rattle.packing_monitors.specs.Monitors.{monitorContents}
 use Rattle.packing.proofs.ReadBack.{Fits}
-
-number-small : {m : Morphism} {x : Value} → m .size ≤ 64 → Inside m x → numberFor x ≤ 64
-unfolding numberFor
-number-small small inside-none = omega arith
-number-small small (inside-element h) = omega arith
-
-good-inside : {m : Morphism} {s : ℕ} → m .size ≤ 64 → GoodNumber (m .size) s → Inside m (valueOf s)
-good-inside {m} {s} small (inl h) = subst (Inside m) (sym (value-element (λ e. omega arith))) (inside-element h)
-good-inside {m} {s} small (inr e) = subst (Inside m) (sym (value-none e)) inside-none
 
 good-small : {n s : ℕ} → n ≤ 64 → GoodNumber n s → s ≤ 64
 good-small small g = ⊎-elim (λ h. omega arith) (λ e. omega arith) g
@@ -53,26 +47,24 @@ both-small small h =
 
 -- and stay so
 module _ {bytes : List ℕ} {f : Monitor} (rule : GoodRule bytes) (unstray : Unstray (elementsOf bytes) f) where
-  before-inside : Inside (morphismOf bytes) (valueOf (f .before))
-  before-inside = good-inside (rule .table .small) (not-stray _ _ (λ i. unstray (inl i)))
-
-  since-inside : Inside (morphismOf bytes) (valueOf (f .since))
-  since-inside = good-inside (rule .table .small) (not-stray _ _ (λ i. unstray (inr i)))
-
-  joined-small : {x y : Value} → Inside (morphismOf bytes) x → Inside (morphismOf bytes) y → numberFor (join (morphismOf bytes) x y) ≤ 64
-  joined-small hx hy = number-small (rule .table .small) (join-inside (rule .lawful) hx hy)
-
-  pub mark-small : SmallValues (afterMark (morphismOf bytes) f)
-  unfolding afterMark
-  mark-small = record { before-small = joined-small before-inside since-inside; since-small = omega arith }
+  pub step-small : (step : Step) → (ForeignStep (lettersOf bytes) step → ⊥) → SmallValues (afterStep (morphismOf bytes) f step)
+  step-small step known = both-small (rule .table .small) (step-fits rule f unstray step known)
 
   pub event-small : {letter : ℕ} → letter < lettersOf bytes → SmallValues (afterEvent (morphismOf bytes) f letter)
-  unfolding afterEvent
-  event-small {letter} known =
-      record {
-        before-small = both-small (rule .table .small) unstray .before-small;
-        since-small = joined-small since-inside (inside-element (rule .lawful .images letter known));
-      }
+  event-small {letter} known = step-small (Event letter) (λ foreign. omega arith)
+
+  pub mark-small : SmallValues (afterMark (morphismOf bytes) f)
+  mark-small = step-small Mark (λ foreign. foreign)
+
+-- after a word of events
+word-unstray : {bytes w : List ℕ} → GoodRule bytes → Over (lettersOf bytes) w → (f : Monitor) → Unstray (elementsOf bytes) f → Unstray (elementsOf bytes) (afterWord (morphismOf bytes) f w)
+unfolding afterWord
+word-unstray rule over-nil f unstray = unstray
+word-unstray {bytes} rule (over-cons {a} known over) f unstray =
+    word-unstray rule over (afterEvent (morphismOf bytes) f a) (step-fits rule f unstray (Event a) (λ foreign. omega arith))
+
+pub word-small : {bytes w : List ℕ} {f : Monitor} → GoodRule bytes → Unstray (elementsOf bytes) f → Over (lettersOf bytes) w → SmallValues (afterWord (morphismOf bytes) f w)
+word-small {f = f} rule unstray over = both-small (rule .table .small) (word-unstray rule over f unstray)
 
 module _ (bytes : List ℕ) (f : Monitor) (entry : List ℕ) where
   module _ (all : FirstFailure (monitorChecks bytes f entry) passed) where

@@ -24,6 +24,7 @@ use Rattle.formats.specs.ReadBack.{WrittenRule}
 use Rattle.formats.proofs.Listed.{select-listed}
 use Rattle.promises.specs.Weak.{WeakAt, weakCheck}
 use Rattle.promises.specs.declared.Monitor.{Monitor}
+use Rattle.promises.specs.declared.Step.{Step}
 use Rattle.promises.specs.Monitor.{freshMonitor, MonitorValueOutOfRangeAt, monitorChecks}
 use Rattle.promises.specs.Moves.{LoneUnknownLetterAt, EventPromise, MarkPromise}
 use Rattle.promises.specs.Points.{NameOutOfRangeAt, NameNeverKeptAt, MonitorOrPointOutOfRangeAt, KeepPromise, ReturnPromise}
@@ -65,17 +66,19 @@ use Rattle.promises.specs.Strong.{StrongPromise}
 use Rattle.board_promises.specs.declared.Board.{Board}
 use Rattle.board_promises.specs.declared.Posted.{Posted}
 use Rattle.board_state.specs.State.{stateSize}
+use Rattle.promises.specs.Advance.{AdvancePromise, AdvanceWordPromise}
 use Rattle.packing.specs.Packing.{Contents, fields, refusal-at, unpack}
 use Rattle.packing_counts.specs.Counts.{listedContents, writtenContents, bit, partitionContents, successorsContents}
 use Rattle.packing_decisions.specs.Decisions.{strengthContents, lassoVerdictContents, confirmationContents, inclusionContents, kindContents}
-use Rattle.packing_monitors.specs.Monitors.{monitorContents, movedContents, packMonitor, noticeContents, packNotice}
+use Rattle.packing_monitors.specs.Monitors.{monitorContents, movedContents, advancedContents, packMonitor, noticeContents, packNotice}
 use Rattle.packing.proofs.ReadBack.{FieldsFit, Fits, read-back}
 use Rattle.packing_counts.proofs.Contents.{listed-told, written-told, partition-told, successors-told}
 use Rattle.packing_decisions.proofs.Contents.{strength-told, lasso-verdict-told, confirmation-told, inclusion-told, kind-told}
-use Rattle.packing_monitors.proofs.Contents.{moved-told}
+use Rattle.packing_monitors.proofs.Contents.{moved-told, advanced-told}
 use Rattle.exports.specs.Exports.{Exported}
 use Rattle.exports.specs.BoardExports.{ExportedBoardCall, ExportedBoardEmpty, ExportedBoardEnter, ExportedBoardLeave, ExportedBoardEvent, ExportedBoardMark}
 use Rattle.unpacking.proofs.Limits.{Near, near, refused-fits, at-zero, buffer-limited, rule-limited, checked-limited, second-limited, lasso-limited}
+use Rattle.unpacking.proofs.Advances.{advance-fits, advance-held, advance-word-fits, advance-word-held}
 use Rattle.unpacking.proofs.AutomatonLimits.{translated-limited}
 use Rattle.unpacking.proofs.BoardGrades.{board-enter-fits, board-leave-fits, board-event-fits, board-mark-fits}
 use Rattle.unpacking.proofs.Monitors.{mark-fits, event-fits, keep-fits, return-fits}
@@ -324,6 +327,12 @@ module _ {bytes entry exit bytes′ entry′ exit′ : List ℕ} where
     pub return-told : {name name′ : ℕ} {points points′ : List ℕ}
         → Told movedContents (ReturnPromise bytes f name points entry exit) (ReturnPromise bytes′ f name′ points′ entry′ exit′)
     return-told = told return-answer-fits return-answer-fits (λ a b p q. moved-told f _ _ a b (p .monitor) (q .monitor))
+
+    pub advance-told : {step step′ : Step} → Told advancedContents (AdvancePromise 1 bytes f step entry exit) (AdvancePromise 1 bytes′ f step′ entry′ exit′)
+    advance-told = told advance-fits advance-fits (λ a b p q. advanced-told f a b (advance-held a p) (advance-held b q))
+
+    pub advance-word-told : {w w′ : List ℕ} → Told advancedContents (AdvanceWordPromise 1 bytes f w entry exit) (AdvanceWordPromise 1 bytes′ f w′ entry′ exit′)
+    advance-word-told = told advance-word-fits advance-word-fits (λ a b p q. advanced-told f a b (advance-word-held a p) (advance-word-held b q))
 
   module _ {out out-exit out′ out-exit′ : List ℕ} where
     pub classes-told : Told listedContents (ListPromise bytes out out-exit entry exit) (ListPromise bytes′ out′ out-exit′ entry′ exit′)

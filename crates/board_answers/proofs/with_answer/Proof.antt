@@ -1,7 +1,7 @@
 -- `board_answers::with_answer` meets its contract, by the kinds of the library's answer. Assumes nothing.
 use mathlib.Core.Path.{refl}
 use borrow.Author.Needs.{needs}
-use Rattle.board_answers.proofs.EntryTelling.{entry-to, entry-foreign, entry-refused}
+use Rattle.board_answers.proofs.EntryTelling.{entry-to, entry-refused}
 use Rattle.board_answers.proofs.with_answer.Statement.{statement}
 use Rattle.board_answers.proofs.with_answer.Tie as tie
 
@@ -9,11 +9,7 @@ returns : tie.Need-returns
 returns c = entry-to _ _ (c .enum-told .given .1) refl
 
 returns-2 : tie.Need-returns-2
-returns-2 c = entry-foreign _ _ (c .enum-told2 .given .1) refl
-
-returns-3 : tie.Need-returns-3
-returns-3 c = entry-refused _ _ (c .before .answer .given .1) refl
+returns-2 c = entry-refused _ _ (c .before .before .answer .given .1) (c .refused .ensures)
 
 pub with-answer-spec : {M : Type 1} → statement M
-with-answer-spec =
-    tie.close (tie.spec (λ c. search needs) (λ c. search needs) (λ c. search needs) returns returns-2 returns-3)
+with-answer-spec = tie.close (tie.spec (λ c. search needs) (λ c. search needs) (λ c κs. search needs) returns returns-2)

@@ -1,7 +1,7 @@
 -- `monitor_state::prepare` meets its contract: the rule's checks decide, then the monitor's two values. Assumes nothing.
-use mathlib.Core.Logic.{inl, inr}
 use Rattle.rule_check.proofs.Calls.{checked-rule, checked-refused}
-use Rattle.monitor_state.proofs.Prepared.{rule-refused, monitor-stray, monitor-good, said-stray, said-good}
+use Rattle.monitor_state.proofs.Prepared.{rule-refused, monitor-stray, monitor-good}
+use Rattle.monitor_state.proofs.Numbers.{said-stray, said-good}
 use borrow.Author.Needs.{needs}
 use Rattle.monitor_state.proofs.prepare.Statement.{statement}
 use Rattle.monitor_state.proofs.prepare.Tie as tie
@@ -11,19 +11,19 @@ returns c = rule-refused _ _ _ (checked-refused 1 _ _ _ (c .before .before .befo
 
 returns-2 : tie.Need-returns-2
 returns-2 c =
-    monitor-stray _ _ _ _ _ (checked-rule 1 _ _ _ (c .before .before .before .before .before .before .before .before .before .before .before .check .result) (c .before .before .before .before .before .before .before .before .before .before .before .check .ensures) (c .before .before .before .before .before .before .before .shape .given .1)) (c .before .before .before .before .zero .ensures)
-    (inl (said-stray _ _ (c .before .out-of-range .result) (c .before .out-of-range .ensures) (c .if1 .taken)))
+    let asked = c .before .out-of-range in
+    let z = c .before .before .before .before in
+    let a = z .before .before .before .before .before .before .before .check in
+    monitor-stray _ _ _ _ _ (checked-rule 1 _ _ _ (a .result) (a .ensures) (z .before .before .before .shape .given .1)) (z .zero .ensures)
+    (said-stray _ _ (asked .result) (asked .ensures) (c .if1 .taken))
 
 returns-3 : tie.Need-returns-3
 returns-3 c =
-    monitor-stray _ _ _ _ _ (checked-rule 1 _ _ _ (c .before .before .before .before .before .before .before .before .before .before .before .before .before .check .result) (c .before .before .before .before .before .before .before .before .before .before .before .before .before .check .ensures) (c .before .before .before .before .before .before .before .before .before .shape .given .1)) (c .before .before .before .before .before .before .zero .ensures)
-    (inr (said-stray _ _ (c .before .out-of-range2 .result) (c .before .out-of-range2 .ensures) (c .if2 .taken)))
-
-returns-4 : tie.Need-returns-4
-returns-4 c =
-    monitor-good _ _ _ _ _ (checked-rule 1 _ _ _ (c .before .before .before .before .before .before .before .before .before .before .before .before .before .check .result) (c .before .before .before .before .before .before .before .before .before .before .before .before .before .check .ensures) (c .before .before .before .before .before .before .before .before .before .shape .given .1)) (c .before .before .before .before .before .before .zero .ensures)
-    (said-good _ _ (c .before .before .before .out-of-range .result) (c .before .before .before .out-of-range .ensures) (c .before .before .if1 .left))
-    (said-good _ _ (c .before .out-of-range2 .result) (c .before .out-of-range2 .ensures) (c .if2 .left))
+    let asked = c .before .out-of-range in
+    let z = c .before .before .before .before in
+    let a = z .before .before .before .before .before .before .before .check in
+    monitor-good _ _ _ _ _ (checked-rule 1 _ _ _ (a .result) (a .ensures) (z .before .before .before .shape .given .1)) (z .zero .ensures)
+    (said-good _ _ (asked .result) (asked .ensures) (c .if1 .left))
 
 pub prepare-spec : {M : Type 1} → statement M
 prepare-spec =
@@ -38,8 +38,5 @@ prepare-spec =
     (λ c κs. search needs)
     (λ c. search needs)
     returns-2
-    (λ c κs. search needs)
     (λ c. search needs)
-    returns-3
-    (λ c. search needs)
-    returns-4)
+    returns-3)
