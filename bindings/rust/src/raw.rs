@@ -98,6 +98,41 @@ mod exported {
             scratch: *mut u8,
             scratch_length: usize,
         ) -> u64;
+        pub fn duknavet_advance_event(
+            rule: *const u8,
+            rule_length: usize,
+            before: usize,
+            since: usize,
+            letter: u8,
+            scratch: *mut u8,
+            scratch_length: usize,
+        ) -> u64;
+        pub fn duknavet_advance_mark(
+            rule: *const u8,
+            rule_length: usize,
+            before: usize,
+            since: usize,
+            scratch: *mut u8,
+            scratch_length: usize,
+        ) -> u64;
+        pub fn duknavet_advance_stay(
+            rule: *const u8,
+            rule_length: usize,
+            before: usize,
+            since: usize,
+            scratch: *mut u8,
+            scratch_length: usize,
+        ) -> u64;
+        pub fn duknavet_advance_word(
+            rule: *const u8,
+            rule_length: usize,
+            before: usize,
+            since: usize,
+            word: *const u8,
+            word_length: usize,
+            scratch: *mut u8,
+            scratch_length: usize,
+        ) -> u64;
         pub fn duknavet_reduce(
             rule: *const u8,
             rule_length: usize,
@@ -391,6 +426,77 @@ pub fn verdict(rule: &[u8], before: usize, since: usize, scratch: &mut [u8]) -> 
             rule.len(),
             before,
             since,
+            scratch.as_mut_ptr(),
+            scratch.len(),
+        )
+    }
+}
+
+pub fn advance_event(
+    rule: &[u8],
+    before: usize,
+    since: usize,
+    letter: u8,
+    scratch: &mut [u8],
+) -> u64 {
+    // SAFETY: as for `event`.
+    unsafe {
+        exported::duknavet_advance_event(
+            rule.as_ptr(),
+            rule.len(),
+            before,
+            since,
+            letter,
+            scratch.as_mut_ptr(),
+            scratch.len(),
+        )
+    }
+}
+
+pub fn advance_mark(rule: &[u8], before: usize, since: usize, scratch: &mut [u8]) -> u64 {
+    // SAFETY: as for `event`.
+    unsafe {
+        exported::duknavet_advance_mark(
+            rule.as_ptr(),
+            rule.len(),
+            before,
+            since,
+            scratch.as_mut_ptr(),
+            scratch.len(),
+        )
+    }
+}
+
+pub fn advance_stay(rule: &[u8], before: usize, since: usize, scratch: &mut [u8]) -> u64 {
+    // SAFETY: as for `event`.
+    unsafe {
+        exported::duknavet_advance_stay(
+            rule.as_ptr(),
+            rule.len(),
+            before,
+            since,
+            scratch.as_mut_ptr(),
+            scratch.len(),
+        )
+    }
+}
+
+pub fn advance_word(
+    rule: &[u8],
+    before: usize,
+    since: usize,
+    word: &[u8],
+    scratch: &mut [u8],
+) -> u64 {
+    // SAFETY: as for `event`; `word` is borrowed for the call and only read.
+    unsafe {
+        exported::duknavet_advance_word(
+            rule.as_ptr(),
+            rule.len(),
+            before,
+            since,
+            word.as_ptr(),
+            word.len(),
             scratch.as_mut_ptr(),
             scratch.len(),
         )
