@@ -60,6 +60,9 @@ extern "C" {
 /* The most letters that u or v of a lasso may have; the fewest is 0 for u and 1 for v. */
 #define DUKNAVET_WORD 4224
 
+/* The most letters that the word of duknavet_advance_word may have; the fewest is 0. */
+#define DUKNAVET_LOG 16777216
+
 /* The highest limit of reduce_rounds. */
 #define DUKNAVET_MOST_ROUNDS 64
 
@@ -73,7 +76,8 @@ extern "C" {
  * answered: 13, then 1 to 3 section by section, 4, 5, 6, 7 and 8 pair by pair, the second input's own, then 3 for a monitor's
  * values, 11 for u, then v, or for a verdict, 10 in u, then v, or for an event, 12. For an automaton: 13, 1 to 4, 8, 14. For
  * keep and return: 13, the rule's, 15, 16, 3 for the values of the monitor and of every kept name. For reduce_rounds: 13, the
- * rule's, 20, 12. For state_kind: 13, the rule's, 3 for the least grade, 17. For successors: 13, the rule's, 17, 10. */
+ * rule's, 20, 12. For state_kind: 13, the rule's, 3 for the least grade, 17. For successors: 13, the rule's, 17, 10. For advance_event,
+ * advance_mark and advance_stay: 13, the rule's, 3, 12, 10; for advance_word: 13, the rule's, 3, 12, 11, 10. */
 enum duknavet_refusal {
     DUKNAVET_RESULT = 0,               /* no refusal */
     DUKNAVET_TRUNCATED = 1,            /* bytes end inside a count or section: the length of the input */
@@ -85,7 +89,7 @@ enum duknavet_refusal {
     DUKNAVET_NOT_LINKED = 7,           /* a marked pair is not linked: its first byte */
     DUKNAVET_DUPLICATE = 8,            /* a pair or transition stands twice: the first byte of the later */
     DUKNAVET_UNKNOWN_LETTER = 10,      /* a word or event has a letter of k or more: its position; 0 for an event */
-    DUKNAVET_WORD_LENGTH = 11,         /* u or v is too long, v is empty, or a verdict lacks since: 0 */
+    DUKNAVET_WORD_LENGTH = 11,         /* u, v or a word of events is too long, v is empty, or a verdict lacks since: 0 */
     DUKNAVET_NOT_STRONG = 12,          /* the rule is not strong: 0 */
     DUKNAVET_BUFFER_TOO_SHORT = 13,    /* a lent buffer is too short: 0 */
     DUKNAVET_TOO_MANY_MATRICES = 14,   /* an automaton has more than 64 matrices: 0 */
@@ -234,7 +238,7 @@ uint64_t duknavet_automaton_rule(const uint8_t *automaton, size_t automaton_leng
                                  uint8_t *scratch, size_t scratch_length);
 
 /* Monitors: before is the value of the letters before the last mark, since of those after it, each an element or
- * DUKNAVET_NONE. A refused event, mark, keep or return leaves the monitor as the caller has it. */
+ * DUKNAVET_NONE. A refused event, mark, keep, return or advance leaves the monitor as the caller has it. */
 
 /* Field 0 and 1: before and since of a monitor that has seen nothing. Never refuses. */
 uint64_t duknavet_fresh(void);
@@ -270,6 +274,35 @@ uint64_t duknavet_return(const uint8_t *rule, size_t rule_length,
 uint64_t duknavet_verdict(const uint8_t *rule, size_t rule_length,
                           size_t before, size_t since,
                           uint8_t *scratch, size_t scratch_length);
+
+/* An event, a mark or nothing, and then the verdict, from one check of a strong rule. Field 0 and 1: before and since after it. Field 2: the grade of the
+ * lassos with these values, as duknavet_verdict has it, with 256 times the turns; 4 and no turns where since is DUKNAVET_NONE. */
+uint64_t duknavet_advance_event(const uint8_t *rule, size_t rule_length,
+                                size_t before, size_t since, uint8_t letter,
+                                uint8_t *scratch, size_t scratch_length);
+uint64_t duknavet_advance_mark(const uint8_t *rule, size_t rule_length,
+                               size_t before, size_t since,
+                               uint8_t *scratch, size_t scratch_length);
+uint64_t duknavet_advance_stay(const uint8_t *rule, size_t rule_length,
+                               size_t before, size_t since,
+                               uint8_t *scratch, size_t scratch_length);
+
+/* The same for a word of 0 to DUKNAVET_LOG events, a byte a letter: what duknavet_advance_event for each letter in turn comes to. Its 10 has the position
+ * of the first letter that the rule does not have, and the word then moves nothing. */
+uint64_t duknavet_advance_word(const uint8_t *rule, size_t rule_length,
+                               size_t before, size_t since,
+                               const uint8_t *word, size_t word_length,
+                               uint8_t *scratch, size_t scratch_length);
+
+/* The grade and the turns in field 2 of an answer of duknavet_advance_event, _mark, _stay and _word. */
+static inline unsigned duknavet_advanced_grade(uint64_t answer)
+{
+    return (unsigned)(duknavet_field(answer, 2) & 255);
+}
+static inline unsigned duknavet_advanced_turns(uint64_t answer)
+{
+    return (unsigned)(duknavet_field(answer, 2) >> 8);
+}
 
 /* The harbour board: up to eight strong rules that enter and leave while events go on, each under a name from 0 to 7 with a monitor of
  * its own. The state of a board (DUKNAVET_BOARD) has three bytes for each name, from byte 3 * name on: 0 where no rule is present and

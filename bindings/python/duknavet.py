@@ -30,6 +30,8 @@ SUCCESSORS_OUT = 65
 BOARD_NAMES = 8
 BOARD_STATE = 25
 BOARD_FILES = 131232
+#: The most letters that a word of events may have.
+LOG = 16777216
 #: The value of a monitor, and of a state's s, that stands for no letters.
 NONE = 64
 #: The kinds of states, as automaton files code them.
@@ -171,6 +173,10 @@ def _load() -> ctypes.CDLL:
         "keep": lent + [size, size, size] + written + written,
         "return": lent + [size, size, size] + lent + written,
         "verdict": lent + [size, size] + written,
+        "advance_event": lent + [size, size, ctypes.c_uint8] + written,
+        "advance_mark": lent + [size, size] + written,
+        "advance_stay": lent + [size, size] + written,
+        "advance_word": lent + [size, size] + lent + written,
         "board_empty": written,
         "board_enter": written + [size] + lent + written + written,
         "board_leave": written + [size] + lent + written,
@@ -342,6 +348,26 @@ class Monitor:
         """The grade if the events since the last mark come for ever, and the turns of that cycle."""
         grade, turns, _ = _call("verdict", self.rule, self.before, self.since)
         return Graded(grade, turns)
+
+    def _advance(self, name: str, *arguments) -> Optional[Graded]:
+        self.before, self.since, third = _call(name, self.rule, self.before, self.since, *arguments)
+        return None if self.since == NONE else Graded(third & 255, third >> 8)
+
+    def advance_event(self, letter: int) -> Optional[Graded]:
+        """A letter, 0 to 255, and the verdict then, from one check of the rule, which must be strong."""
+        return self._advance("advance_event", _byte(letter, "a letter"))
+
+    def advance_mark(self) -> Optional[Graded]:
+        """A mark, by a strong rule. Nothing came since, so that there is no verdict."""
+        return self._advance("advance_mark")
+
+    def advance_stay(self) -> Optional[Graded]:
+        """The verdict, None where nothing came since the last mark."""
+        return self._advance("advance_stay")
+
+    def advance_word(self, word: bytes) -> Optional[Graded]:
+        """An event for each letter of a word of at most LOG, and the verdict then. Where the rule lacks one of them nothing moves."""
+        return self._advance("advance_word", bytes(word))
 
 
 class Board:

@@ -239,6 +239,29 @@ class Calls(unittest.TestCase):
         self.refused(15, 1, 0, monitor.keep, (1 << 64) - 1)
         self.refused(16, 1, 0, monitor.return_to, 5)
 
+    def test_advance(self):
+        monitor = Monitor(W)
+        self.assertIsNone(monitor.advance_stay())
+        self.assertEqual(monitor.advance_event(1), Graded(0, 1))
+        self.assertIsNone(monitor.advance_mark())
+        self.assertEqual((monitor.before, monitor.since), (1, duknavet.NONE))
+        self.assertEqual(monitor.advance_word(word(1, 0, 1)), Graded(3, 1))
+        self.assertEqual(monitor.advance_word(b""), Graded(3, 1))
+        self.assertEqual(monitor.advance_stay(), Graded(3, 1))
+        self.refused(10, 1, 0, monitor.advance_event, 2)
+        self.refused(10, 1, 2, monitor.advance_word, word(0, 1, 2, 7))
+        self.assertEqual((monitor.before, monitor.since), (1, 0))
+        self.assertRaises(ValueError, monitor.advance_event, 256)
+        # A weak rule is refused before a foreign letter.
+        self.refused(12, 1, 0, Monitor(Z).advance_event, 255)
+        self.refused(12, 1, 0, Monitor(Z).advance_word, word(255))
+        # A letter of order two settles after two turns, and the longest word is taken.
+        flips = Monitor(remainders(2, 1, marks=[Mark(0, 0, 2)]))
+        self.assertEqual(flips.advance_word(bytes(3)), flips.verdict())
+        self.assertEqual(flips.verdict().turns, 2)
+        self.assertEqual(flips.advance_word(bytes(duknavet.LOG)).turns, 2)
+        self.refused(11, 1, 0, flips.advance_word, bytes(duknavet.LOG + 1))
+
     def test_rules(self):
         rule = Rule.from_bytes(THREE_GRADES)
         self.assertEqual(rule.products, [[0, 0], [0, 1]])

@@ -26,10 +26,10 @@ pub enum Refusal {
     NotLinked = 7,
     /// A marked pair, with whatever grade, or a transition stands twice. Place: the first byte of the later.
     Duplicate = 8,
-    /// A word or an event has a letter that the rule does not have. Place: its position, 0 for an event.
+    /// A word or an event has a letter that the rule does not have. Place: its position, the first in a word, 0 for an event.
     UnknownLetter = 10,
-    /// u (input 1) has more than [`WORD`](crate::WORD) letters, v (input 2) does not have 1 to [`WORD`](crate::WORD), or a
-    /// verdict is wanted of a monitor that saw no letter since its last mark.
+    /// u (input 1) has more than [`WORD`](crate::WORD) letters, v (input 2) does not have 1 to [`WORD`](crate::WORD), a word of
+    /// events has more than [`LOG`](crate::LOG), or a verdict is wanted of a monitor that saw no letter since its last mark.
     WordLength = 11,
     /// The rule is not strong.
     NotStrong = 12,

@@ -64,8 +64,9 @@ pub use combinations::{combine, Combined, Operation};
 pub use lassos::{member, Membership};
 pub use markings::{classes, complement, included, strong};
 pub use markings::{Classes, Complemented, Inclusion, Strength};
+pub use monitors::{advance_event, advance_mark, advance_stay, advance_word};
 pub use monitors::{event, fresh, keep, mark, return_to, verdict};
-pub use monitors::{Monitor, NotMoved, Verdict};
+pub use monitors::{Advanced, Monitor, NotMoved, Verdict};
 pub use reductions::{confirm, reduce, reduce_rounds};
 pub use reductions::{Confirmation, Partition, Reduced};
 pub use rule_automaton::{ListedState, RuleAutomaton, RuleState};
@@ -105,6 +106,9 @@ pub const SUCCESSORS_OUT: usize = 65;
 
 /// The most letters that u or v of a lasso may have; only u may have none.
 pub const WORD: usize = 4_224;
+
+/// The most letters that a word of events may have.
+pub const LOG: usize = 16_777_216;
 
 /// How many names a board has: 0 to 7.
 pub const BOARD_NAMES: usize = 8;

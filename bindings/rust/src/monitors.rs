@@ -2,7 +2,7 @@
 //! a name and returned to.
 
 use crate::answer::{foreign, unpack, unpack_graded};
-use crate::{raw, Refused};
+use crate::{raw, Refused, NONE};
 
 /// What a monitor keeps of the events: two values, each an element or [`NONE`](crate::NONE).
 #[derive(Clone, Copy, Debug, PartialEq, Eq, Hash)]
@@ -13,7 +13,7 @@ pub struct Monitor {
     pub since: usize,
 }
 
-/// A refused event, mark, keep or return, with the monitor as it was.
+/// A refused event, mark, keep, return or advance, with the monitor as it was.
 #[derive(Clone, Copy, Debug, PartialEq, Eq, Hash)]
 pub struct NotMoved {
     /// The monitor that the call was given.
@@ -38,6 +38,15 @@ pub struct Verdict {
     /// How many turns of the cycle together have a value that repeating no longer changes, whatever the grade: the least c, 1 to the
     /// number of elements, with x^c·x^c = x^c, where x is the value of since.
     pub turns: usize,
+}
+
+/// A monitor that was advanced, and the verdict on it.
+#[derive(Clone, Copy, Debug, PartialEq, Eq, Hash)]
+pub struct Advanced {
+    /// The monitor after the step or the word.
+    pub monitor: Monitor,
+    /// Its verdict, as [`verdict`] has it; none where its `since` is [`NONE`](crate::NONE).
+    pub verdict: Option<Verdict>,
 }
 
 /// A monitor that has seen nothing: [`NONE`](crate::NONE) twice.
@@ -101,6 +110,64 @@ pub fn verdict(rule: &[u8], monitor: Monitor, scratch: &mut [u8]) -> Result<Verd
     let packed = raw::verdict(rule, monitor.before, monitor.since, scratch);
     let (grade, turns) = unpack_graded(packed)?;
     Ok(Verdict { grade, turns })
+}
+
+/// An event and then the verdict, from one check of the rule. A weak rule is refused, before a letter that it does not have.
+pub fn advance_event(
+    rule: &[u8],
+    monitor: Monitor,
+    letter: u8,
+    scratch: &mut [u8],
+) -> Result<Advanced, NotMoved> {
+    let packed = raw::advance_event(rule, monitor.before, monitor.since, letter, scratch);
+    advanced(monitor, packed)
+}
+
+/// A mark and then what [`advance_event`] says of the monitor. After it nothing came since, so that there is no verdict.
+pub fn advance_mark(
+    rule: &[u8],
+    monitor: Monitor,
+    scratch: &mut [u8],
+) -> Result<Advanced, NotMoved> {
+    let packed = raw::advance_mark(rule, monitor.before, monitor.since, scratch);
+    advanced(monitor, packed)
+}
+
+/// What [`advance_event`] says of the monitor as it is.
+pub fn advance_stay(
+    rule: &[u8],
+    monitor: Monitor,
+    scratch: &mut [u8],
+) -> Result<Advanced, NotMoved> {
+    let packed = raw::advance_stay(rule, monitor.before, monitor.since, scratch);
+    advanced(monitor, packed)
+}
+
+/// An event for each letter of a word, and then the verdict, from one check of the rule: what [`advance_event`] for each letter in turn
+/// comes to.
+///
+/// The word has 0 to [`LOG`](crate::LOG) letters. Where the rule lacks one of them, the word is refused at the first such letter's
+/// position, and moves nothing.
+pub fn advance_word(
+    rule: &[u8],
+    monitor: Monitor,
+    word: &[u8],
+    scratch: &mut [u8],
+) -> Result<Advanced, NotMoved> {
+    let packed = raw::advance_word(rule, monitor.before, monitor.since, word, scratch);
+    advanced(monitor, packed)
+}
+
+fn advanced(monitor: Monitor, packed: u64) -> Result<Advanced, NotMoved> {
+    let [before, since, third] =
+        unpack(packed).map_err(|refused| NotMoved { monitor, refused })?;
+    let verdict = match (since, (third & 255) as u8, third >> 8) {
+        (NONE, 4, 0) => None,
+        (0..=63, grade @ 0..=3, turns @ 1..=64) => Some(Verdict { grade, turns }),
+        _ => foreign(packed, "the third field is no grade with its turns"),
+    };
+    let monitor = Monitor { before, since };
+    Ok(Advanced { monitor, verdict })
 }
 
 fn moved(monitor: Monitor, packed: u64) -> Result<Monitor, NotMoved> {

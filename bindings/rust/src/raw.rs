@@ -45,6 +45,10 @@ exported! {
     keep = duknavet_keep(rule: &[u8], before: usize, since: usize, name: usize, points: &mut [u8], scratch: &mut [u8]);
     return_to = duknavet_return(rule: &[u8], before: usize, since: usize, name: usize, points: &[u8], scratch: &mut [u8]);
     verdict = duknavet_verdict(rule: &[u8], before: usize, since: usize, scratch: &mut [u8]);
+    advance_event = duknavet_advance_event(rule: &[u8], before: usize, since: usize, letter: u8, scratch: &mut [u8]);
+    advance_mark = duknavet_advance_mark(rule: &[u8], before: usize, since: usize, scratch: &mut [u8]);
+    advance_stay = duknavet_advance_stay(rule: &[u8], before: usize, since: usize, scratch: &mut [u8]);
+    advance_word = duknavet_advance_word(rule: &[u8], before: usize, since: usize, word: &[u8], scratch: &mut [u8]);
     reduce = duknavet_reduce(rule: &[u8], out: &mut [u8], map: &mut [u8], scratch: &mut [u8]);
     confirm = duknavet_confirm(first: &[u8], second: &[u8], map: &[u8], scratch: &mut [u8]);
     both = duknavet_both(first: &[u8], second: &[u8], out: &mut [u8], scratch: &mut [u8]);

@@ -1,7 +1,7 @@
 //! A monitor with its rule, its named points and its scratch in one value.
 
 use crate::words::{explain, Asked, Explained};
-use crate::{Monitor, NotMoved, Verdict, POINTS, SCRATCH};
+use crate::{Advanced, Monitor, NotMoved, Verdict, POINTS, SCRATCH};
 
 /// A monitor that follows a rule. It counts nothing, and its memory stays the same however many events come.
 ///
@@ -13,6 +13,7 @@ use crate::{Monitor, NotMoved, Verdict, POINTS, SCRATCH};
 /// watched.mark()?;
 /// watched.event(0)?;
 /// assert_eq!(watched.verdict()?.grade, 3);
+/// assert_eq!(watched.advance_word(&[1, 1, 0])?.map(|verdict| verdict.grade), Some(3));
 /// # Ok::<(), duknavet::words::Explained>(())
 /// ```
 #[derive(Clone, Debug)]
@@ -89,6 +90,44 @@ impl RuleMonitor {
     pub fn verdict(&mut self) -> Result<Verdict, Explained> {
         crate::verdict(&self.rule, self.monitor, &mut self.scratch)
             .map_err(|refused| explain(refused, Asked::Rule(&self.rule)))
+    }
+
+    /// An event, and the verdict then.
+    pub fn advance_event(&mut self, letter: u8) -> Result<Option<Verdict>, Explained> {
+        let advanced = crate::advance_event(&self.rule, self.monitor, letter, &mut self.scratch);
+        self.take_advanced(advanced, |rule| Asked::Event { rule, letter })
+    }
+
+    /// A mark. Nothing came since, so that there is no verdict; the rule must be strong.
+    pub fn advance_mark(&mut self) -> Result<Option<Verdict>, Explained> {
+        let advanced = crate::advance_mark(&self.rule, self.monitor, &mut self.scratch);
+        self.take_advanced(advanced, Asked::Rule)
+    }
+
+    /// The verdict, none where nothing came since the last mark.
+    pub fn advance_stay(&mut self) -> Result<Option<Verdict>, Explained> {
+        let advanced = crate::advance_stay(&self.rule, self.monitor, &mut self.scratch);
+        self.take_advanced(advanced, Asked::Rule)
+    }
+
+    /// An event for each letter of a word, and the verdict then; where the rule lacks one of them nothing moves.
+    pub fn advance_word<'a>(&'a mut self, word: &'a [u8]) -> Result<Option<Verdict>, Explained> {
+        let advanced = crate::advance_word(&self.rule, self.monitor, word, &mut self.scratch);
+        self.take_advanced(advanced, |rule| Asked::Events { rule, word })
+    }
+
+    fn take_advanced<'a>(
+        &'a mut self,
+        advanced: Result<Advanced, NotMoved>,
+        asked: impl FnOnce(&'a [u8]) -> Asked<'a>,
+    ) -> Result<Option<Verdict>, Explained> {
+        match advanced {
+            Ok(Advanced { monitor, verdict }) => {
+                self.monitor = monitor;
+                Ok(verdict)
+            }
+            Err(not_moved) => Err(explain(not_moved.refused, asked(&self.rule))),
+        }
     }
 
     fn take<'a>(

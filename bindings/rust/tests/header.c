@@ -273,6 +273,19 @@ int main(void)
     expect("verdict, grade 1", is_result(answer, 1, 1, 0));
     expect("verdict, two turns", is_result(duknavet_verdict(one_letter, sizeof one_letter, 0, 1, scratch, sizeof scratch), 0, 2, 0));
     expect("no mark", is_result(duknavet_verdict(rule, sizeof rule, DUKNAVET_NONE, 1, scratch, sizeof scratch), 0, 1, 0));
+    answer = duknavet_advance_event(one_letter, sizeof one_letter, 0, 0, 0, scratch, sizeof scratch);
+    expect("advance event", is_result(answer, 0, 1, 0 + 256 * 2));
+    expect("grade and turns", duknavet_advanced_grade(answer) == 0 && duknavet_advanced_turns(answer) == 2);
+    answer = duknavet_advance_event(rule, sizeof rule, 0, 1, 2, scratch, sizeof scratch);
+    expect("advance foreign", duknavet_refusal_of(answer) == DUKNAVET_UNKNOWN_LETTER && duknavet_input_of(answer) == 1 &&
+                                  duknavet_place_of(answer) == 0);
+    answer = duknavet_advance_mark(rule, sizeof rule, 0, 1, scratch, sizeof scratch);
+    expect("advance mark", is_result(answer, 0, DUKNAVET_NONE, 4) && duknavet_advanced_grade(answer) == 4);
+    expect("advance stay", is_result(duknavet_advance_stay(rule, sizeof rule, 1, 0, scratch, sizeof scratch), 1, 0, 3 + 256));
+    answer = duknavet_advance_word(rule, sizeof rule, 1, DUKNAVET_NONE, letter, 2, scratch, sizeof scratch);
+    expect("advance word", is_result(answer, 1, 0, 3 + 256));
+    answer = duknavet_advance_word(rule, sizeof rule, 1, 0, letter, 3, scratch, sizeof scratch);
+    expect("advance word, foreign", duknavet_refusal_of(answer) == DUKNAVET_UNKNOWN_LETTER && duknavet_place_of(answer) == 2);
     expect("initial", is_result(duknavet_state_kind(rule, sizeof rule, 0, 0, 3, scratch, sizeof scratch), 1, 0, 0));
     expect("plain", is_result(duknavet_state_kind(rule, sizeof rule, 0, 1, 1, scratch, sizeof scratch), 0, 0, 0));
     expect("final", is_result(duknavet_state_kind(rule, sizeof rule, DUKNAVET_NONE, 1, 1, scratch, sizeof scratch), 2, 0, 0));

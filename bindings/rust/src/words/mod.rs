@@ -11,7 +11,7 @@ mod state;
 mod two_rules;
 
 use crate::text::Names;
-use crate::{Refusal, Refused, RuleState, MOST_ROUNDS, WORD};
+use crate::{Refusal, Refused, RuleState, LOG, MOST_ROUNDS, WORD};
 use std::fmt;
 
 pub use board::Deed;
@@ -69,6 +69,13 @@ pub enum Asked<'a> {
         rule: &'a [u8],
         /// The letter.
         letter: u8,
+    },
+    /// A rule and the letters of a word of events.
+    Events {
+        /// The rule.
+        rule: &'a [u8],
+        /// The word.
+        word: &'a [u8],
     },
     /// A rule and the name of a point.
     Point {
@@ -169,6 +176,7 @@ fn in_words(refused: Refused, asked: Asked<'_>) -> Option<String> {
         | Asked::Second { rule, .. }
         | Asked::Lasso { rule, .. }
         | Asked::Event { rule, .. }
+        | Asked::Events { rule, .. }
         | Asked::Point { rule, .. }
         | Asked::Rounds { rule, .. }
         | Asked::Kind { rule, .. }
@@ -180,7 +188,10 @@ fn in_words(refused: Refused, asked: Asked<'_>) -> Option<String> {
 /// Two lassos that show that a rule is weak.
 fn weak(refused: Refused, asked: Asked<'_>) -> Option<String> {
     let (name, rule) = match asked {
-        Asked::Rule(rule) | Asked::Rounds { rule, .. } => ("the rule", rule),
+        Asked::Rule(rule)
+        | Asked::Event { rule, .. }
+        | Asked::Events { rule, .. }
+        | Asked::Rounds { rule, .. } => ("the rule", rule),
         Asked::TwoRules { first, second } => two_rules::refused_one(refused, first, second),
         _ => return None,
     };
@@ -214,6 +225,13 @@ fn unknown_letter(refused: Refused, asked: Asked<'_>) -> Option<String> {
                 "letter {letter} at position {place} of {name}: the rule has {letters}"
             ))
         }
+        Asked::Events { rule, word } => {
+            let letter = word.get(place)?;
+            let letters = letters(rule)?;
+            Some(format!(
+                "letter {letter} at position {place} of the word: the rule has {letters}"
+            ))
+        }
         Asked::Event { rule, letter } | Asked::Successors { rule, letter, .. } => {
             Some(format!("letter {letter}: the rule has {}", letters(rule)?))
         }
@@ -222,6 +240,9 @@ fn unknown_letter(refused: Refused, asked: Asked<'_>) -> Option<String> {
 }
 
 fn word_length(refused: Refused, asked: Asked<'_>) -> String {
+    if let Asked::Events { word, .. } = asked {
+        return format!("the word has {} letters, more than {LOG}", word.len());
+    }
     let (name, word) = match asked {
         Asked::Lasso { v, .. } if refused.input == 2 => ("v", v),
         Asked::Lasso { u, .. } => ("u", u),

@@ -45,7 +45,7 @@ type Refusals = (&'static str, &'static [(u8, &'static [u8])]);
 
 /// Which refusals each call can answer, with their inputs: every number that applies to it.
 /// A rule's checks are 1 to 8; a second marks section has no table and no letters, so not 5 and 6.
-const REFUSALS: [Refusals; 21] = [
+const REFUSALS: [Refusals; 25] = [
     ("classes", &[(1, &[1, 2, 3, 4, 5, 6, 7, 8, 13])]),
     ("strong", &[(1, &[1, 2, 3, 4, 5, 6, 7, 8, 13])]),
     (
@@ -60,6 +60,16 @@ const REFUSALS: [Refusals; 21] = [
     ("event", &[(1, &[1, 2, 3, 4, 5, 6, 7, 8, 10, 13])]),
     ("mark", &[(1, &[1, 2, 3, 4, 5, 6, 7, 8, 13])]),
     ("verdict", &[(1, &[1, 2, 3, 4, 5, 6, 7, 8, 11, 12, 13])]),
+    (
+        "advance_event",
+        &[(1, &[1, 2, 3, 4, 5, 6, 7, 8, 10, 12, 13])],
+    ),
+    ("advance_mark", &[(1, &[1, 2, 3, 4, 5, 6, 7, 8, 12, 13])]),
+    ("advance_stay", &[(1, &[1, 2, 3, 4, 5, 6, 7, 8, 12, 13])]),
+    (
+        "advance_word",
+        &[(1, &[1, 2, 3, 4, 5, 6, 7, 8, 10, 11, 12, 13])],
+    ),
     ("keep", &[(1, &[1, 2, 3, 4, 5, 6, 7, 8, 13, 15])]),
     ("return_to", &[(1, &[1, 2, 3, 4, 5, 6, 7, 8, 13, 15, 16])]),
     ("reduce", &[(1, &[1, 2, 3, 4, 5, 6, 7, 8, 12, 13])]),
@@ -121,7 +131,7 @@ const fn board(name: &'static [u8], first: &'static [u8]) -> [(u8, &'static [u8]
 }
 
 /// Outcomes that must occur at least so often.
-const LEAST: [(&str, &str, u64); 213] = [
+const LEAST: [(&str, &str, u64); 233] = [
     ("classes", "counts", 1000),
     ("strong", "weak", 100),
     ("strong", "strong, marks closed", 1000),
@@ -188,6 +198,26 @@ const LEAST: [(&str, &str, u64); 213] = [
     ("verdict", "64 turns", 1),
     ("verdict", "of a cycle alone", 50),
     ("verdict", "a monitor's value refused", 10),
+    ("advance_event", "grade 0", 50),
+    ("advance_event", "grade 1", 50),
+    ("advance_event", "grade 2", 50),
+    ("advance_event", "grade 3", 50),
+    ("advance_event", "a monitor's value refused", 10),
+    ("advance_stay", "grade 0", 50),
+    ("advance_stay", "grade 1", 50),
+    ("advance_stay", "grade 2", 50),
+    ("advance_stay", "grade 3", 50),
+    ("advance_stay", "a monitor's value refused", 10),
+    ("advance_word", "grade 0", 50),
+    ("advance_word", "grade 1", 50),
+    ("advance_word", "grade 2", 50),
+    ("advance_word", "grade 3", 50),
+    ("advance_word", "a monitor's value refused", 10),
+    ("advance_mark", "nothing since", 50),
+    ("advance_stay", "nothing since", 50),
+    ("advance_word", "nothing since", 50),
+    ("advance_mark", "a monitor's value refused", 10),
+    ("advance_word", "as letter by letter", 100),
     ("monitor", "histories", 1000),
     ("monitor", "verdicts on histories", 100),
     ("monitor", "verdicts without a mark", 50),

@@ -1,5 +1,6 @@
 //! Each call made on lent buffers, and held against the definitions: the answer and every byte.
 
+mod advances;
 mod automata;
 mod boards;
 mod combinations;
@@ -22,6 +23,7 @@ use crate::tally::{refusal, Tally};
 use duknavet::Refused;
 use std::fmt::Debug;
 
+pub use advances::Step;
 pub use automata::AUTOMATON_SIZES;
 pub use boards::{Deed, Held, Subjects, BOARD_SIZES};
 pub use combinations::COMBINE_SIZES;

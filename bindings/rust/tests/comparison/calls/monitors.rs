@@ -6,16 +6,24 @@ use crate::definitions::acceptance::grade;
 use crate::definitions::checks::{self, Refusal};
 use crate::definitions::settling::turns;
 use crate::lending::Lent;
-use crate::subject::Subject;
+use crate::subject::{Known, Subject};
 use duknavet::{Monitor, NotMoved, Refused, NONE, SCRATCH};
 
 pub const MONITOR_SIZES: [usize; 1] = [SCRATCH];
 
+/// The grade of a strong rule's lassos with two values, and the turns of their cycles.
+pub(super) fn judged(known: &Known, before: usize, since: usize) -> (u8, usize) {
+    let m = known.morphism();
+    let grade = match before {
+        // The cycle alone: a word with its value, for ever.
+        NONE => grade(m, &known.marking, &[], &known.words[since]),
+        before => outcomes(known)[before * m.n + since],
+    };
+    (grade, turns(m, &known.words[since]))
+}
+
 /// What a refused call hands back is what it was given.
-pub(super) fn unmoved(
-    answer: Result<Monitor, NotMoved>,
-    given: Monitor,
-) -> Result<Monitor, Refused> {
+pub(super) fn unmoved<T>(answer: Result<T, NotMoved>, given: Monitor) -> Result<T, Refused> {
     answer.map_err(|NotMoved { monitor, refused }| {
         assert_eq!(monitor, given, "a refused call changed the monitor");
         refused
@@ -107,13 +115,7 @@ impl Comparison {
                 return Err((11, 1, 0));
             }
             let known = self.asked_strong(subject)?;
-            let m = known.morphism();
-            let grade = match before {
-                // The cycle alone: a word with its value, for ever.
-                NONE => grade(m, &known.marking, &[], &known.words[since]),
-                before => outcomes(known)[before * m.n + since],
-            };
-            Ok((grade, turns(m, &known.words[since])))
+            Ok(judged(known, before, since))
         };
         let expected = read();
         self.count_values("verdict", subject, &expected);

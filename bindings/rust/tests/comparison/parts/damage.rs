@@ -187,7 +187,7 @@ fn any_call(c: &mut Comparison, subject: &Subject, second: &[u8]) {
 }
 
 /// How many calls get a rule.
-const CALLS: usize = 16;
+const CALLS: usize = 17;
 
 /// A call by number, with further inputs that may be faulty too, and buffers that may be short.
 fn call(c: &mut Comparison, which: usize, subject: &Subject, second: &[u8]) {
@@ -254,6 +254,12 @@ fn call(c: &mut Comparison, which: usize, subject: &Subject, second: &[u8]) {
         7 => {
             let sizes = sizes(c, short, MONITOR_SIZES);
             c.verdict(subject, monitor, sizes)
+        }
+        15 => {
+            for step in [Step::Event(letter), Step::Mark, Step::Stay, Step::Word(&u)] {
+                let sizes = sizes(c, short, MONITOR_SIZES);
+                c.advance(subject, monitor, step, sizes);
+            }
         }
         8 => {
             let sizes = sizes(c, short, POINTS_SIZES);

@@ -96,6 +96,12 @@ pub fn every_call(c: &mut Comparison, subject: &Subject) {
     c.event(subject, monitor, letter, sizes);
     c.mark(subject, monitor, sizes);
     c.verdict(subject, monitor, sizes);
+    for step in [Step::Event(letter), Step::Mark, Step::Stay] {
+        c.advance(subject, monitor, step, sizes);
+    }
+    let length = c.random.below(6);
+    let word = c.random.word(length, letters + usize::from(c.random.once_in(8)));
+    c.advance_both_ways(subject, monitor, &word);
     if c.random.once_in(4) {
         history(c, subject);
         logs::run(c, subject);

@@ -3,9 +3,10 @@
 use crate::calls::*;
 use crate::inputs::{marks, morphisms};
 use crate::subject::Subject;
-use duknavet::{Monitor, NONE, POINTS, WORD};
+use duknavet::{Monitor, LOG, NONE, POINTS, WORD};
 
 pub fn run(c: &mut Comparison, count: usize) {
+    logs(c);
     for i in 0..count {
         let m = match i % 4 {
             0 => morphisms::largest(&mut c.random, i / 4),
@@ -22,6 +23,25 @@ pub fn run(c: &mut Comparison, count: usize) {
     }
 }
 
+/// The longest word of events, whole and with a foreign letter at its end, and one letter more, which is looked at before the letters.
+fn logs(c: &mut Comparison) {
+    let (letter, foreign) = (0, 2);
+    let subject = Subject::new(vec![2, 0, 0, 0, 1, 2, 0, 1, 1, 0, 0, 0, 3]);
+    let mut word = vec![letter; LOG];
+    for since in [1, NONE] {
+        let monitor = Monitor { before: 1, since };
+        c.advance(&subject, monitor, Step::Word(&word), MONITOR_SIZES);
+    }
+    word[LOG - 1] = foreign;
+    let monitor = Monitor {
+        before: 0,
+        since: 1,
+    };
+    c.advance(&subject, monitor, Step::Word(&word), MONITOR_SIZES);
+    word.push(foreign);
+    c.advance(&subject, monitor, Step::Word(&word), MONITOR_SIZES);
+}
+
 fn long_words(c: &mut Comparison, subject: &Subject) {
     let letters = subject.known().morphism().letters();
     let long = c.random.word(WORD, letters);
@@ -35,6 +55,9 @@ fn long_words(c: &mut Comparison, subject: &Subject) {
         .take(WORD)
         .collect();
     let other = c.random.within(4_000, WORD - 1);
+    let fresh = duknavet::fresh();
+    c.advance(subject, fresh, Step::Word(&long), MONITOR_SIZES);
+    c.advance(subject, fresh, Step::Word(&repeated), MONITOR_SIZES);
     c.member(subject, &long, &short, MEMBER_SIZES);
     c.member(subject, &short, &long, MEMBER_SIZES);
     c.member(subject, &[], &long, MEMBER_SIZES);
@@ -112,6 +135,9 @@ fn monitors(c: &mut Comparison, subject: &Subject) {
         c.event(subject, monitor, letter, MONITOR_SIZES);
         c.mark(subject, monitor, MONITOR_SIZES);
         c.verdict(subject, monitor, MONITOR_SIZES);
+        for step in [Step::Event(letter), Step::Mark, Step::Stay] {
+            c.advance(subject, monitor, step, MONITOR_SIZES);
+        }
         let name = *c.random.pick(&[0, 7, 8, 255, 256, usize::MAX]);
         let mut points = [0; POINTS];
         let at = 3 * c.random.below(8);
