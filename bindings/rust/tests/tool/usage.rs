@@ -49,6 +49,89 @@ fn help() {
     let hint = "docs/duknavet-tool.1 is what `duknavet-tool --man` prints";
     assert!(run(&["--man"]).printed(0) == manual, "{hint}");
     assert!(run(&["--version"]).printed(0).starts_with("duknavet-tool "));
+    assert_eq!(run(&["-V"]).out, run(&["--version"]).out);
+}
+
+/// The parts of a topic's text that are indented, without the blanks.
+fn examples(text: &str) -> Vec<String> {
+    let parts = text.split("\n\n").filter(|part| part.starts_with("    "));
+    let bare = |part: &str| {
+        let lines = part.lines().map(|line| line.strip_prefix("    "));
+        lines
+            .map(|line| format!("{}\n", line.unwrap_or("")))
+            .collect()
+    };
+    parts.map(bare).collect()
+}
+
+#[test]
+fn topics_of_help_have_examples_that_hold() {
+    let overview = run(&["--help"]);
+    for topic in ["formats", "grades", "marks"] {
+        assert!(overview.printed(0).contains(&format!("help {topic} ")));
+    }
+    let formats = run(&["help", "formats"]);
+    let texts = examples(formats.printed(0));
+    let [rule, automaton, lasso] = &texts[..] else {
+        panic!("{texts:?}")
+    };
+    let rule = Scrap::holding(rule.as_bytes());
+    let automaton = Scrap::holding(automaton.as_bytes());
+    run(&["check", rule.name()]).printed(0);
+    run(&["check", automaton.name()]).printed(0);
+    run(&["member", rule.name(), lasso.trim_end()]).printed(0);
+    for topic in ["grades", "marks"] {
+        let help = run(&["help", topic]);
+        for command in examples(help.printed(0)) {
+            let shown = command.strip_prefix("$ duknavet-tool ").expect("a command");
+            let words: Vec<&str> = match shown.split_once('\'') {
+                Some((words, quoted)) => words
+                    .split_whitespace()
+                    .chain([quoted.trim_end().trim_end_matches('\'')])
+                    .collect(),
+                None => shown.split_whitespace().collect(),
+            };
+            let root = std::path::Path::new(env!("CARGO_MANIFEST_DIR")).join("../..");
+            let ended = tool().args(&words).current_dir(root).output();
+            let ended = ended.expect("the tool runs");
+            assert!(ended.status.success(), "{command}");
+        }
+    }
+    run(&["--man", "grades"]).said(3, "there is no man page `grades`");
+    let manual = include_str!("../../../../docs/duknavet-formats.5");
+    let hint = "docs/duknavet-formats.5 is what `duknavet-tool --man formats` prints";
+    assert!(run(&["--man", "formats"]).printed(0) == manual, "{hint}");
+}
+
+#[test]
+fn completion_knows_every_subcommand() {
+    let completion = run(&["--completion"]);
+    let script = completion.printed(0);
+    for name in COMMANDS {
+        assert!(
+            script.contains(&format!("\n    {name}) options='")),
+            "{name}"
+        );
+    }
+    let file = Scrap::holding(script.as_bytes());
+    let shell = std::process::Command::new("bash")
+        .args(["-n", file.name()])
+        .status();
+    assert!(shell.expect("bash runs").success());
+    // asked as bash asks: the second word behind `help`, and options of a subcommand
+    let asked = |words: &str, at: usize| {
+        let ask = format!(
+            ". {}; COMP_WORDS=({words}); COMP_CWORD={at}; _duknavet_tool; echo \"${{COMPREPLY[*]}}\"",
+            file.name()
+        );
+        let told = std::process::Command::new("bash")
+            .args(["-c", &ask])
+            .output();
+        String::from_utf8(told.expect("bash runs").stdout).expect("text")
+    };
+    assert_eq!(asked("duknavet-tool comp", 1), "complement compare\n");
+    assert_eq!(asked("duknavet-tool help gr", 2), "grades\n");
+    assert_eq!(asked("duknavet-tool reduce --t", 2), "--to\n");
 }
 
 #[test]

@@ -2,6 +2,7 @@
 
 use crate::command::{Answer, Command, Failure};
 use crate::nearest::nearest;
+use crate::topics::{self, Topic};
 use crate::{commands, output};
 use std::ffi::OsString;
 use std::fmt::Write;
@@ -26,21 +27,33 @@ const STATUS: [(&str, &str); 5] = [
     ),
 ];
 
-/// `--help` with or without the name of a subcommand.
+/// `--help` with or without the name of a subcommand or of a topic.
 pub fn print(words: &[OsString]) -> Result<Answer, Failure> {
     let Some(first) = words.first() else {
         return output::print(&overview());
     };
     let name = first.to_string_lossy();
-    match commands::named(&name) {
-        Some(command) => output::print(&of(command)),
-        None => Err(no_subcommand(&name)),
+    match (commands::named(&name), topics::named(&name)) {
+        (Some(command), _) => output::print(&of(command)),
+        (None, Some(topic)) => output::print(&explained(topic)),
+        _ => Err(no_subcommand(&name)),
+    }
+}
+
+/// `--man` with or without the name of a topic that has a page of its own.
+pub fn print_manual(words: &[OsString]) -> Result<Answer, Failure> {
+    match words.first().map(|word| word.to_string_lossy()) {
+        None => output::print(&manual()),
+        Some(word) if word == "formats" => output::print(&formats_manual()),
+        Some(word) => Err(Failure::Usage(format!(
+            "there is no man page `{word}`; there are those of the tool and of `formats`"
+        ))),
     }
 }
 
 /// That there is no such subcommand, and which is nearest.
 pub fn no_subcommand(name: &str) -> Failure {
-    let others = ["--help", "--version", "--man"];
+    let others = ["--help", "--version", "--man", "--completion"];
     let known = commands::ALL.iter().map(|command| command.name);
     let nearest = match nearest(name, known.chain(others)) {
         Some(nearest) => format!("; the nearest is `{nearest}`"),
@@ -55,7 +68,11 @@ pub fn overview() -> String {
     for command in commands::ALL {
         let _ = writeln!(text, "  {:<11} {}", command.name, command.purpose);
     }
-    let _ = write!(text, "\n`duknavet-tool SUBCOMMAND --help` says more.\n\n");
+    text.push_str("\n`duknavet-tool SUBCOMMAND --help` says more. Help also explains:\n\n");
+    for topic in &topics::ALL {
+        let _ = writeln!(text, "  help {:<10} {}", topic.name, topic.purpose);
+    }
+    text.push('\n');
     text.push_str(&wrapped(FILES, 100));
     text.push_str("\nexit status:\n");
     for (status, meaning) in STATUS {
@@ -100,6 +117,94 @@ fn capitalized(line: &str) -> String {
     }
 }
 
+/// The parts of a topic, and whether each is an example, which stands as it is.
+fn parts(text: &str) -> impl Iterator<Item = (bool, &str)> {
+    text.split("\n\n")
+        .map(|part| (part.starts_with("    "), part))
+}
+
+/// What help says of a topic.
+pub fn explained(topic: &Topic) -> String {
+    let mut text = format!("{}\n", capitalized(topic.purpose));
+    for (example, part) in parts(topic.text) {
+        let _ = match example {
+            true => write!(text, "\n{part}\n"),
+            false => write!(text, "\n{}", wrapped(part, 100)),
+        };
+    }
+    text
+}
+
+/// A topic in a man page.
+fn topic_manual(topic: &Topic) -> String {
+    let mut page = String::new();
+    for (example, part) in parts(topic.text) {
+        let _ = match example {
+            true => writeln!(page, ".PP\n.nf\n{}\n.fi", roff(part)),
+            false => writeln!(page, ".PP\n{}", roff(wrapped(part, 78).trim_end())),
+        };
+    }
+    page
+}
+
+/// The man page of the files.
+fn formats_manual() -> String {
+    let topic = &topics::ALL[0];
+    let mut page = String::from(".TH DUKNAVET-FORMATS 5\n.SH NAME\n");
+    let _ = writeln!(page, "duknavet\\-formats \\- {}", roff(topic.purpose));
+    page.push_str(".SH DESCRIPTION\n");
+    page.push_str(&topic_manual(topic));
+    page.push_str(".SH SEE ALSO\n.BR duknavet-tool (1)\n");
+    page
+}
+
+/// What bash asks to complete a command line: subcommands first, then options and files.
+pub fn completion() -> String {
+    let names = || commands::ALL.iter().map(|command| command.name);
+    let helped = names().chain(topics::ALL.iter().map(|topic| topic.name));
+    let first: Vec<&str> = names()
+        .chain(["help", "--help", "--version", "--man", "--completion"])
+        .collect();
+    let helped: Vec<&str> = helped.collect();
+    let mut cases = String::new();
+    for command in commands::ALL {
+        let options = command.options.iter().map(|choice| choice.name);
+        let options: Vec<String> = options
+            .chain(["help"])
+            .map(|name| format!("--{name}"))
+            .collect();
+        let _ = writeln!(
+            cases,
+            "    {}) options='{}' ;;",
+            command.name,
+            options.join(" ")
+        );
+    }
+    COMPLETION
+        .replace("FIRST", &first.join(" "))
+        .replace("HELPED", &helped.join(" "))
+        .replace("    CASES\n", &cases)
+}
+
+const COMPLETION: &str = r#"# bash completion for duknavet-tool, as `duknavet-tool --completion` prints it
+_duknavet_tool() {
+    local word=${COMP_WORDS[COMP_CWORD]} options=''
+    if [ "$COMP_CWORD" -eq 1 ]; then
+        COMPREPLY=($(compgen -W 'FIRST' -- "$word"))
+        return
+    fi
+    case ${COMP_WORDS[1]} in
+    help) COMPREPLY=($(compgen -W 'HELPED' -- "$word")); return ;;
+    CASES
+    esac
+    case $word in
+    -*) COMPREPLY=($(compgen -W "$options" -- "$word")) ;;
+    *) COMPREPLY=($(compgen -f -- "$word")) ;;
+    esac
+}
+complete -o filenames -F _duknavet_tool duknavet-tool
+"#;
+
 /// The words in lines of at most so many characters.
 fn wrapped(words: &str, width: usize) -> String {
     let mut text = String::new();
@@ -120,8 +225,8 @@ fn wrapped(words: &str, width: usize) -> String {
     text
 }
 
-/// The man page.
-pub fn manual() -> String {
+/// The man page of the tool.
+fn manual() -> String {
     let mut page = String::from(".TH DUKNAVET-TOOL 1\n.SH NAME\n");
     let _ = writeln!(page, "duknavet-tool \\- {}", roff(PURPOSE));
     page.push_str(
@@ -149,11 +254,17 @@ pub fn manual() -> String {
             );
         }
     }
+    for topic in topics::ALL.iter().skip(1) {
+        let _ = writeln!(page, ".SH {}", topic.name.to_uppercase());
+        page.push_str(&topic_manual(topic));
+    }
     page.push_str(".SH EXIT STATUS\n");
     for (status, meaning) in STATUS {
         let _ = writeln!(page, ".TP\n{status}\n{}", roff(meaning));
     }
-    page.push_str(".SH SEE ALSO\ndocs/TOOL.md and docs/FORMATS.md of the repository.\n");
+    page.push_str(
+        ".SH SEE ALSO\n.BR duknavet-formats (5),\ndocs/TOOL.md and docs/FORMATS.md of the repository.\n",
+    );
     page
 }
 

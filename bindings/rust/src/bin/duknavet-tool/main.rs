@@ -20,6 +20,7 @@ mod monitor_state;
 mod nearest;
 mod output;
 mod station;
+mod topics;
 
 use arguments::Arguments;
 use command::{Answer, Failure};
@@ -51,10 +52,11 @@ fn run(words: &[OsString]) -> Result<Answer, Failure> {
     let name = first.to_string_lossy();
     match name.as_ref() {
         "--help" | "-h" | "help" => return help::print(rest),
-        "--version" => {
+        "--version" | "-V" => {
             return output::print(&format!("duknavet-tool {}\n", env!("CARGO_PKG_VERSION")))
         }
-        "--man" => return output::print(&help::manual()),
+        "--man" => return help::print_manual(rest),
+        "--completion" => return output::print(&help::completion()),
         _ => {}
     }
     let Some(command) = commands::named(&name) else {

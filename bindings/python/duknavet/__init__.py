@@ -147,7 +147,7 @@ class Rule(NamedTuple):
 def _load() -> ctypes.CDLL:
     here = os.path.dirname(os.path.abspath(__file__))
     beside = os.path.join(here, "libduknavet.so")
-    built = os.path.join(here, "..", "..", "target", "staticlib", "libduknavet.so")
+    built = os.path.join(here, "..", "..", "..", "target", "staticlib", "libduknavet.so")
     found = beside if os.path.exists(beside) else built
     library = ctypes.CDLL(os.environ.get("DUKNAVET_LIBRARY", found))
     lent, size = [ctypes.c_char_p, ctypes.c_size_t], ctypes.c_size_t
