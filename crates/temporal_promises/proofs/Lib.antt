@@ -1,0 +1,5 @@
+pub mod OneFormed
+pub mod OneFirstLetter
+pub mod OneNext
+pub mod OneUntil
+pub mod OneAnswers
