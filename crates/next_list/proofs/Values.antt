@@ -104,3 +104,11 @@ pair-same c d e f = record { same-tail = c .its-tail ∙ ap valueOf e ∙ sym (d
 pub same-pair : {m : Morphism} {w x : List ℕ} {tail tail′ whole whole′ : ℕ} → NextClassOf m w (valueOf tail) whole → NextClassOf m x (valueOf tail′) whole′ → SameNextClass m w x
     → (tail ≡ tail′) × (whole ≡ whole′)
 same-pair c d s = (value-same _ _ (sym (c .its-tail) ∙ s .same-tail ∙ d .its-tail), element-same (sym (c .its-value) ∙ s .same-value ∙ d .its-value))
+
+-- a number that stands for an element is that element
+pub value-is : (s q : ℕ) → valueOf s ≡ element q → s ≡ q
+value-is s q e = go (ℕ-discrete s 64)
+  where
+    go : Dec (s ≡ 64) → s ≡ q
+    go (yes f) = absurd (element-apart (sym (sym (ap valueOf f ∙ value-none) ∙ e)))
+    go (no f) = element-same (sym (value-other f) ∙ e)
