@@ -3,3 +3,4 @@ pub mod OneFirstLetter
 pub mod OneNext
 pub mod OneUntil
 pub mod OneAnswers
+pub mod NextOrder
