@@ -4,20 +4,20 @@ use mathlib.Core.Path.{_≡_, refl, sym, ap, _∙_}
 use mathlib.Core.List.{List, [], _∷_}
 use native.Mathlib.Omega.{arith}
 use Rattle.answer.specs.declared.Refusal.{Refusal}
-use Rattle.answer.specs.declared.Refusal.the-variants.{Truncated, CountOutOfRange, EntryOutOfRange, TrailingBytes, NotAssociative, Unreachable, NotLinked, Duplicate, UnknownLetter, WordLength, NotStrong, BufferTooShort, TooManyMatrices, NameOutOfRange, NameNeverKept, NoSuchState, LettersDiffer, TooManyPairs, LimitOutOfRange, NameNotFree, NameNotPresent}
+use Rattle.answer.specs.declared.Refusal.the-variants.{Truncated, CountOutOfRange, EntryOutOfRange, TrailingBytes, NotAssociative, Unreachable, NotLinked, Duplicate, UnknownLetter, WordLength, NotStrong, BufferTooShort, TooManyMatrices, NameOutOfRange, NameNeverKept, NoSuchState, LettersDiffer, TooManyPairs, LimitOutOfRange, NameNotFree, NameNotPresent, TooManyClasses}
 use Rattle.answer.specs.Refusals.{numberOf}
 use Rattle.answer.specs.NumbersTheorem.{NumbersTheorem}
 
 -- the place of a number in a list, the last refusal where the list ends
 unfoldable at : List Refusal → ℕ → Refusal
-at [] n = NameNotPresent
+at [] n = TooManyClasses
 at (r ∷ rs) zero = r
 at (r ∷ rs) (suc n) = at rs n
 
 -- the refusal of a number; 0, 9 and others that none has have the last
 unfoldable refusalOf : ℕ → Refusal
 unfolding at
-refusalOf n = at (NameNotPresent ∷ Truncated ∷ CountOutOfRange ∷ EntryOutOfRange ∷ TrailingBytes ∷ NotAssociative ∷ Unreachable ∷ NotLinked ∷ Duplicate ∷ NameNotPresent ∷ UnknownLetter ∷ WordLength ∷ NotStrong ∷ BufferTooShort ∷ TooManyMatrices ∷ NameOutOfRange ∷ NameNeverKept ∷ NoSuchState ∷ LettersDiffer ∷ TooManyPairs ∷ LimitOutOfRange ∷ NameNotFree ∷ []) n
+refusalOf n = at (TooManyClasses ∷ Truncated ∷ CountOutOfRange ∷ EntryOutOfRange ∷ TrailingBytes ∷ NotAssociative ∷ Unreachable ∷ NotLinked ∷ Duplicate ∷ TooManyClasses ∷ UnknownLetter ∷ WordLength ∷ NotStrong ∷ BufferTooShort ∷ TooManyMatrices ∷ NameOutOfRange ∷ NameNeverKept ∷ NoSuchState ∷ LettersDiffer ∷ TooManyPairs ∷ LimitOutOfRange ∷ NameNotFree ∷ NameNotPresent ∷ []) n
 
 back : (r : Refusal) → refusalOf (numberOf r) ≡ r
 unfolding refusalOf at
@@ -42,6 +42,7 @@ back TooManyPairs = refl
 back LimitOutOfRange = refl
 back NameNotFree = refl
 back NameNotPresent = refl
+back TooManyClasses = refl
 
 pub same-number : (r r′ : Refusal) → numberOf r ≡ numberOf r′ → r ≡ r′
 same-number r r′ e = sym (back r) ∙ ap refusalOf e ∙ back r′
@@ -69,6 +70,7 @@ nine-unused TooManyPairs e = omega (arith, e)
 nine-unused LimitOutOfRange e = omega (arith, e)
 nine-unused NameNotFree e = omega (arith, e)
 nine-unused NameNotPresent e = omega (arith, e)
+nine-unused TooManyClasses e = omega (arith, e)
 
 pub numbers-theorem : NumbersTheorem
 numbers-theorem = record { no-nine = nine-unused; one-refusal = same-number }

@@ -1,9 +1,10 @@
--- Document 01's table of refusals, "Order of the checks", with those that document 02 adds: the number of each kind. Assumes nothing.
+-- Document 01's table of refusals, "Order of the checks", with those that document 02 adds, and from 23 on those of calls that no document asks for: the
+-- number of each kind. Assumes nothing.
 use Prim.Native.Nat.{ℕ}
 use Rattle.answer.specs.declared.Refusal.{Refusal}
-use Rattle.answer.specs.declared.Refusal.the-variants.{Truncated, CountOutOfRange, EntryOutOfRange, TrailingBytes, NotAssociative, Unreachable, NotLinked, Duplicate, UnknownLetter, WordLength, NotStrong, BufferTooShort, TooManyMatrices, NameOutOfRange, NameNeverKept, NoSuchState, LettersDiffer, TooManyPairs, LimitOutOfRange, NameNotFree, NameNotPresent}
+use Rattle.answer.specs.declared.Refusal.the-variants.{Truncated, CountOutOfRange, EntryOutOfRange, TrailingBytes, NotAssociative, Unreachable, NotLinked, Duplicate, UnknownLetter, WordLength, NotStrong, BufferTooShort, TooManyMatrices, NameOutOfRange, NameNeverKept, NoSuchState, LettersDiffer, TooManyPairs, LimitOutOfRange, NameNotFree, NameNotPresent, TooManyClasses}
 
--- the column "Number", by the column "Trade word"; 9 is no kind's number (document 02, Job 10), and those from 15 on are of document 02
+-- the column "Number", by the column "Trade word"; 9 is no kind's number (document 02, Job 10), and those from 15 to 22 are of document 02
 abbrev pub numberOf : Refusal → ℕ
 numberOf Truncated = 1  -- cut short
 numberOf CountOutOfRange = 2  -- miscount
@@ -26,3 +27,4 @@ numberOf TooManyPairs = 19  -- "then 19, more than 64 reached pairs" (Job 7)
 numberOf LimitOutOfRange = 20  -- "New: 20, limit above 64" (Job 9)
 numberOf NameNotFree = 21  -- "New: 21, entering under a name above 7 or taken" (Job 14)
 numberOf NameNotPresent = 22  -- "22, leaving a name not there" (Job 14)
+numberOf TooManyClasses = 23  -- more than 64 elements of `next` or `until`

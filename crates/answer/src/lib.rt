@@ -1,5 +1,5 @@
 // Why a call refuses. A call's answer is an enum of its own, whose refused case holds one of these with the input that it
-// lies in and its place there; its number in the table of documents 01 and 02 is `number`.
+// lies in and its place there; its number in the table of documents 01 and 02, which goes on from 23, is `number`.
 ghost use mathlib.Core.Path.{_≡_};
 ghost use Rattle.answer.specs.Refusals.{numberOf};
 
@@ -47,6 +47,8 @@ pub enum Refusal {
     NameNotFree,
     // Document 02, Job 14: leaving a name not there.
     NameNotPresent,
+    // More than 64 classes of words, each an element of the rule of `next` or `until`.
+    TooManyClasses,
 }
 
 // The number of a refusal in the table. 9 is no refusal's number.
@@ -75,5 +77,6 @@ pub fn number(r: Refusal) -> u8
         Refusal::LimitOutOfRange => 20,
         Refusal::NameNotFree => 21,
         Refusal::NameNotPresent => 22,
+        Refusal::TooManyClasses => 23,
     }
 }

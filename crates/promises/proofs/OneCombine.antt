@@ -24,7 +24,7 @@ use Rattle.promises.specs.Weak.{WeakAt}
 use Rattle.promises.specs.Combine.{LettersDifferAt, TooManyPairsAt, pairChecks, combineChecks, CombinedTo, CombinePromise}
 
 -- each check of the call fails at one place at most
-pair-single : (first second : List ℕ) → AllSingle (pairChecks first second)
+pub pair-single : (first second : List ℕ) → AllSingle (pairChecks first second)
 pair-single first second =
     single-cons (single-at (λ place (a : LettersDifferAt first second place). a .is-place))
     (single-cons (single-at (λ place (a : WeakAt first place). a .is-place))

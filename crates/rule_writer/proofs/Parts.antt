@@ -50,7 +50,7 @@ module _ {marks : List ℕ} {n : ℕ} {before : List ℕ} {at : ℕ} (p : MarksN
     }
 
 -- three parts one after the other, from the front on
-three-parts : {d e f g : List ℕ} {x y z : List ℕ} {a b end : ℕ} → Written d 0 x e a → Written e a y f b → Written f b z g end
+pub three-parts : {d e f g : List ℕ} {x y z : List ℕ} {a b end : ℕ} → Written d 0 x e a → Written e a y f b → Written f b z g end
     → length x + (length y + length z) ≤ length d → Written d 0 (x ++ (y ++ z)) g end
 three-parts {x = x} {y = y} {z = z} w v u h =
     let k = written-length w (omega arith) in

@@ -85,7 +85,8 @@ leadersBase = 12480
 abbrev pub leadersEnd : ℕ
 leadersEnd = 12544
 
--- an automaton: the list of its matrices; where each letter leads from each entry; from which entry and by which letter each was found
+-- an automaton: the list of its matrices. Of it and of classes of words: where each letter leads from each entry; from which entry and by which letter each was
+-- found
 abbrev pub matricesBase : ℕ
 matricesBase = 8192
 
@@ -131,6 +132,33 @@ laidMarksBase = 24576
 -- where it ends
 abbrev pub laidEnd : ℕ
 laidEnd = 28672
+
+-- the classes of words for `next`: of each the value behind its first letter, or 64, and its value
+abbrev pub nextTailsBase : ℕ
+nextTailsBase = 28672
+
+abbrev pub nextWholesBase : ℕ
+nextWholesBase = 28736
+
+abbrev pub nextEnd : ℕ
+nextEnd = 28800
+
+-- the classes of words for `until`: the pair of each; the grades of each context's pairs by both rules; the class of a word with one letter more, and what
+-- every letter makes it of
+abbrev pub untilPairsBase : ℕ
+untilPairsBase = 28672
+
+abbrev pub untilGradesBase : ℕ
+untilGradesBase = 32768
+
+abbrev pub untilClassBase : ℕ
+untilClassBase = 36864
+
+abbrev pub untilStepBase : ℕ
+untilStepBase = 40960
+
+abbrev pub untilEnd : ℕ
+untilEnd = 45056
 
 -- the marks of a table of marks, which begins at a byte
 unfoldable pub marksFrom : List ℕ → ℕ → Marking

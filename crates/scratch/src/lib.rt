@@ -53,7 +53,8 @@ pub const LEADERS_BASE: usize = 12480;
 
 pub const LEADERS_END: usize = 12544;
 
-// An automaton: the list of its matrices; where each letter leads from each entry; from which entry and by which letter each was found.
+// An automaton: the list of its matrices. Of it and of classes of words: where each letter leads from each entry; from which entry and by which letter
+// each was found.
 pub const MATRICES_BASE: usize = 8192;
 
 pub const STEPS_BASE: usize = 12288;
@@ -80,3 +81,18 @@ pub const LAID_PRODUCTS_BASE: usize = 16384;
 pub const LAID_IMAGES_BASE: usize = 20480;
 
 pub const LAID_MARKS_BASE: usize = 24576;
+
+// The classes of words for `next`: of each the value behind its first letter, or 64, and its value.
+pub const NEXT_TAILS_BASE: usize = 28672;
+
+pub const NEXT_WHOLES_BASE: usize = 28736;
+
+// The classes of words for `until`: the pair of each; the grades of each context's pairs by both rules; the class of a word with one letter more, and
+// what every letter makes it of.
+pub const UNTIL_PAIRS_BASE: usize = 28672;
+
+pub const UNTIL_GRADES_BASE: usize = 32768;
+
+pub const UNTIL_CLASS_BASE: usize = 36864;
+
+pub const UNTIL_STEP_BASE: usize = 40960;

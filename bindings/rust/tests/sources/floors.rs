@@ -5,7 +5,16 @@ use super::reading::repository::Repository;
 use super::walk::{Sources, Walk};
 
 /// The crates in whose `specs/` a definition may stand that a public promise rests on.
-const FLOORS: [&str; 6] = ["theory", "buchi", "formats", "promises", "finite", "answer"];
+const FLOORS: [&str; 8] = [
+    "theory",
+    "temporal",
+    "buchi",
+    "formats",
+    "promises",
+    "temporal_promises",
+    "finite",
+    "answer",
+];
 
 /// The one more for the board, which stands above the library with promises of its own.
 const FLOORS_OF_BOARD: [&str; 7] = [

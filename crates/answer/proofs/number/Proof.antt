@@ -73,10 +73,14 @@ returns-20 c = told (c .enum-told20 .given .1)
 returns-21 : tie.Need-returns-21
 returns-21 c = told (c .enum-told21 .given .1)
 
+returns-22 : tie.Need-returns-22
+returns-22 c = told (c .enum-told22 .given .1)
+
 pub number-spec : {M : Type 1} → statement M
 number-spec =
     tie.close
     (tie.spec
+    (λ c. search needs)
     (λ c. search needs)
     (λ c. search needs)
     (λ c. search needs)
@@ -118,4 +122,5 @@ number-spec =
     returns-18
     returns-19
     returns-20
-    returns-21)
+    returns-21
+    returns-22)

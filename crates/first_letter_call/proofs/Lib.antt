@@ -1,0 +1,4 @@
+pub mod Elements
+pub mod Files
+pub mod Rules
+pub mod Calling

@@ -1,0 +1,3 @@
+pub mod Recording
+pub mod Words
+pub mod Searching

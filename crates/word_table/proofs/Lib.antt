@@ -1,0 +1,4 @@
+pub mod Numbers
+pub mod Staying
+pub mod Rows
+pub mod Tables
