@@ -15,8 +15,8 @@ use Rattle.answer.specs.Checks.{Check, Verdict, Passes, refused, passed, FirstF
 use Rattle.answer.proofs.Order.{first-passes, first-fails, none-left}
 use Rattle.formats.specs.RuleChecks.{ruleSize}
 use Rattle.formats.proofs.Buffers.{buffer-short, buffer-long}
-use Rattle.temporal_promises.specs.declared.Formed.{Formed}
-use Rattle.temporal_promises.specs.declared.Formed.the-variants.{Rule as Is-rule, Refused}
+use Rattle.promises.specs.declared.Written.{Written}
+use Rattle.promises.specs.declared.Written.the-variants.{Rule as Is-rule, Refused}
 use Rattle.temporal_promises.specs.Formed.{WrittenAs}
 use Rattle.temporal_promises.specs.FirstLetter.{inSet, lettersCheck, gradeCheck, ForeignInSetAt, setCheck, firstLetterChecks, constantChecks, FirstLetterPromise, ConstantPromise}
 use Rattle.first_letter_call.specs.Elements.{FirstForeign}
@@ -57,10 +57,10 @@ module _ {letters set foreign : ℕ} (f : FirstForeign letters set foreign) wher
 -- ---- the calls
 
 -- a refusal keeps out
-module _ {letters set grade : ℕ} {out : List ℕ} {r : Refusal} {place : ℕ} {answer : Formed} (e : answer ≡ Refused r 1 place) where
+module _ {letters set grade : ℕ} {out : List ℕ} {r : Refusal} {place : ℕ} {answer : Written} (e : answer ≡ Refused r 1 place) where
   pub first-refused : FirstFailure (firstLetterChecks letters set grade out) (refused r 1 place) → FirstLetterPromise letters set grade out out answer
   first-refused f = subst (FirstLetterPromise letters set grade out out) (sym e) (record { refusal = f; answered = refl })
 
-pub constant-refused : {letters grade : ℕ} {out : List ℕ} {r : Refusal} {place : ℕ} {answer : Formed} → answer ≡ Refused r 1 place
+pub constant-refused : {letters grade : ℕ} {out : List ℕ} {r : Refusal} {place : ℕ} {answer : Written} → answer ≡ Refused r 1 place
     → FirstFailure (constantChecks letters grade out) (refused r 1 place) → ConstantPromise letters grade out out answer
 constant-refused {letters} {grade} {out} e f = subst (ConstantPromise letters grade out out) (sym e) (record { refusal = f; answered = refl })

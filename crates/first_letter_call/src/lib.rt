@@ -3,22 +3,22 @@
 use answer::Refusal;
 use formats::RULE_SIZE;
 use rule_bytes::write_counted;
-use temporal_promises::Formed;
+use promises::Written;
 ghost use mathlib.Core.Path.{_≡_};
 ghost use Prim.Native.Nat.{_≤_, _<_};
 ghost use lib.ListN.{length};
 ghost use Rattle.formats.specs.RuleChecks.{ruleSize};
-ghost use Rattle.temporal_promises.specs.declared.Formed.the-variants.{Refused};
+ghost use Rattle.promises.specs.declared.Written.the-variants.{Refused};
 ghost use Rattle.temporal_promises.specs.Formed.{WrittenAs};
 ghost use Rattle.temporal_promises.specs.FirstLetter.{inSet, FirstLetterHas, SmallestFor, FirstLetterPromise, ConstantPromise};
 ghost use Rattle.first_letter_call.specs.Elements.{elementIn, gradeIn, FirstForeign, FirstOther, ElementsFilled};
 ghost use Rattle.first_letter_call.specs.Writing.{SectionsNeeds, SectionsWritten, RuleWritten};
 
 // A refusal of the one input.
-fn refused(refusal: Refusal, place: usize) -> Formed
+fn refused(refusal: Refusal, place: usize) -> Written
     ensures { λ r. ⌜ r ≡ Refused refusal 1 place ⌝ }
 {
-    Formed::Refused {
+    Written::Refused {
         refusal,
         input: 1,
         place,
@@ -152,7 +152,7 @@ fn write_first(k: usize, set: usize, grade: usize, out: &mut [u8]) -> usize
 }
 
 // Writes the rule that gives a lasso the grade where its first letter is in the set, else 0; or refuses its numbers.
-pub fn first_letter(letters: usize, set: usize, grade: usize, out: &mut [u8]) -> Formed
+pub fn first_letter(letters: usize, set: usize, grade: usize, out: &mut [u8]) -> Written
     ensures { λ r. ⌜ FirstLetterPromise letters set grade (now (out .entry)) (now (out .exit)) r ⌝ }
 {
     if out.len() < RULE_SIZE {
@@ -171,11 +171,11 @@ pub fn first_letter(letters: usize, set: usize, grade: usize, out: &mut [u8]) ->
     if foreign < 64 {
         return refused(Refusal::UnknownLetter, foreign);
     }
-    Formed::Rule(write_first(letters, set, grade, out))
+    Written::Rule(write_first(letters, set, grade, out))
 }
 
 // Writes the rule that gives every lasso the grade, or refuses its numbers.
-pub fn constant(letters: usize, grade: usize, out: &mut [u8]) -> Formed
+pub fn constant(letters: usize, grade: usize, out: &mut [u8]) -> Written
     ensures { λ r. ⌜ ConstantPromise letters grade (now (out .entry)) (now (out .exit)) r ⌝ }
 {
     if out.len() < RULE_SIZE {
@@ -190,5 +190,5 @@ pub fn constant(letters: usize, grade: usize, out: &mut [u8]) -> Formed
     if 3 < grade {
         return refused(Refusal::EntryOutOfRange, 0);
     }
-    Formed::Rule(write_one(letters, grade, out))
+    Written::Rule(write_one(letters, grade, out))
 }

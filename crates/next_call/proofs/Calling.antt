@@ -33,8 +33,8 @@ use Rattle.reduce_first_round.proofs.OutcomeBytes.{outcome-grading}
 use Rattle.next_rule.specs.declared.NextFile.{NextFile}
 use Rattle.next_rule.specs.declared.NextFile.the-variants.{Rule as Written, TooMany}
 use Rattle.next_rule.specs.Writing.{NextNeeds, NextRuleWritten, NextWritten}
-use Rattle.temporal_promises.specs.declared.Formed.{Formed}
-use Rattle.temporal_promises.specs.declared.Formed.the-variants.{Rule as Is-rule, Refused}
+use Rattle.promises.specs.declared.Written.{Written}
+use Rattle.promises.specs.declared.Written.the-variants.{Rule as Is-rule, Refused}
 use Rattle.temporal_promises.specs.Formed.{WrittenAs}
 use Rattle.temporal_promises.specs.Next.{NextMade, NextPromise}
 use Rattle.temporal_promises.proofs.NextOrder.{file-first, weak-next, classes-last, none-fails}
@@ -141,5 +141,5 @@ module _ (bytes out entry : List ℕ) (out-long : ruleSize ≤ length out) where
 
       -- as the answer says it
       pub next-said : {exit after : List ℕ} (file : NextFile) → NextWritten (morphismAt bytes (shape .elements) (shape .letters)) decided exit out after file
-          → (end : List ℕ) → end ≡ replicate (length exit) 0 → {said : Formed} → said ≡ formedOf file → NextPromise bytes out after entry end said
+          → (end : List ℕ) → end ≡ replicate (length exit) 0 → {said : Written} → said ≡ formedOf file → NextPromise bytes out after entry end said
       next-said {exit} {after} file w end z s = subst (NextPromise bytes out after entry end) (sym s) (next-strong file w end z)

@@ -8,18 +8,18 @@ use next_rule::write_next;
 use rule_check::Checked;
 use rule_check::check;
 use sections::zero;
-use temporal_promises::Formed;
+use promises::Written;
 ghost use mathlib.Core.Path.{_≡_};
 ghost use Rattle.next_call.specs.Answers.{formedOf};
 ghost use Rattle.temporal_promises.specs.Next.{NextPromise};
 
 // What was written as an answer of the call.
-fn formed(file: NextFile) -> Formed
+fn formed(file: NextFile) -> Written
     ensures { λ r. ⌜ r ≡ formedOf file ⌝ }
 {
     match file {
-        NextFile::Rule(length) => Formed::Rule(length),
-        NextFile::TooMany => Formed::Refused {
+        NextFile::Rule(length) => Written::Rule(length),
+        NextFile::TooMany => Written::Refused {
             refusal: Refusal::TooManyClasses,
             input: 1,
             place: 0,
@@ -28,11 +28,11 @@ fn formed(file: NextFile) -> Formed
 }
 
 // Checks a rule and writes the rule of `next`, or refuses it. Scratch ends as zeros, but where a buffer is too short.
-pub fn next(rule: &[u8], out: &mut [u8], scratch: &mut [u8]) -> Formed
+pub fn next(rule: &[u8], out: &mut [u8], scratch: &mut [u8]) -> Written
     ensures { λ r. ⌜ NextPromise (now (rule .entry)) (now (out .entry)) (now (out .exit)) (now (scratch .entry)) (now (scratch .exit)) r ⌝ }
 {
     if out.len() < RULE_SIZE {
-        return Formed::Refused {
+        return Written::Refused {
             refusal: Refusal::BufferTooShort,
             input: 1,
             place: 0,
@@ -45,7 +45,7 @@ pub fn next(rule: &[u8], out: &mut [u8], scratch: &mut [u8]) -> Formed
             input,
             place,
         } => {
-            return Formed::Refused {
+            return Written::Refused {
                 refusal,
                 input,
                 place,
@@ -55,7 +55,7 @@ pub fn next(rule: &[u8], out: &mut [u8], scratch: &mut [u8]) -> Formed
     let strong = decide(rule, shape.elements, shape.letters, scratch);
     if !strong {
         zero(scratch);
-        return Formed::Refused {
+        return Written::Refused {
             refusal: Refusal::NotStrong,
             input: 1,
             place: 0,

@@ -58,4 +58,4 @@ pub use rule_automaton_call::successors;
 pub use rule_file_part::file_part;
 pub use rule_inspect::inspect;
 pub use summary::summarize;
-pub use temporal_promises::Formed;
+pub use promises::Written;

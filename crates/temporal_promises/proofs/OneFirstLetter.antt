@@ -12,7 +12,7 @@ use Rattle.theory.specs.Smallest.{SameGrades, Reduction}
 use Rattle.theory.proofs.SameGrades.{same-self}
 use Rattle.formats.proofs.Buffers.{buffer-single}
 use Rattle.promises.proofs.SameReductions.{reductions-file}
-use Rattle.temporal_promises.specs.declared.Formed.{Formed}
+use Rattle.promises.specs.declared.Written.{Written}
 use Rattle.temporal_promises.specs.FirstLetter.{LettersOutOfRangeAt, GradeOutOfRangeAt, ForeignInSetAt, setCheck, firstLetterChecks, constantChecks, SmallestFor, FirstLetterPromise, ConstantPromise}
 use Rattle.temporal_promises.proofs.OneFormed.{OneFile, one-formed}
 
@@ -53,12 +53,12 @@ module _ {letters : ℕ} {Has : ℕ → List ℕ → List ℕ → Type 0} where
   pub smallest-file : OneFile (SmallestFor letters Has)
   smallest-file = record { same = λ x y p q. reductions-file (smallest-grades p q) (own-reduction p) (own-reduction q) (p .numbered) (q .numbered) }
 
-pub one-first-letter : {letters set grade : ℕ} {before after after′ : List ℕ} (a b : Formed) → FirstLetterPromise letters set grade before after a
+pub one-first-letter : {letters set grade : ℕ} {before after after′ : List ℕ} (a b : Written) → FirstLetterPromise letters set grade before after a
     → FirstLetterPromise letters set grade before after′ b → (a ≡ b) × (after ≡ after′)
 one-first-letter {letters} {set} {grade} {before} {after} {after′} a b p q =
     one-formed smallest-file before after after′ (first-letter-single letters set grade before) a b (p .refusal) (q .refusal) (p .answered) (q .answered)
 
-pub one-constant : {letters grade : ℕ} {before after after′ : List ℕ} (a b : Formed) → ConstantPromise letters grade before after a
+pub one-constant : {letters grade : ℕ} {before after after′ : List ℕ} (a b : Written) → ConstantPromise letters grade before after a
     → ConstantPromise letters grade before after′ b → (a ≡ b) × (after ≡ after′)
 one-constant {letters} {grade} {before} {after} {after′} a b p q =
     one-formed smallest-file before after after′ (constant-single letters grade before) a b (p .refusal) (q .refusal) (p .answered) (q .answered)

@@ -8,16 +8,17 @@ use Rattle.answer.proofs.Verdicts.{same-refusal, not-passed}
 use Rattle.theory.specs.Rules.{Rule}
 use Rattle.formats.specs.WrittenFile.{fileOf}
 use Rattle.formats.proofs.Front.{one-length, one-buffer}
-use Rattle.temporal_promises.specs.declared.Formed.{Formed}
-use Rattle.temporal_promises.specs.declared.Formed.the-variants.{Rule as Is-rule, Refused}
-use Rattle.temporal_promises.specs.Formed.{formedVerdict, FormedAnswer}
+use Rattle.promises.specs.declared.Written.{Written}
+use Rattle.promises.specs.declared.Written.the-variants.{Rule as Is-rule, Refused}
+use Rattle.promises.specs.Answers.{writtenVerdict}
+use Rattle.temporal_promises.specs.Formed.{FormedAnswer}
 
 -- what a call makes is written as one file
 pub record OneFile (Makes : Rule → Type 0) : Type 0 where
   pub same : (x y : Rule) → Makes x → Makes y → fileOf (y .morphism) (y .marks) ≡ fileOf (x .morphism) (x .marks)
 
 module _ {Makes : Rule → Type 0} (o : OneFile Makes) (before after after′ : List ℕ) where
-  same-answer : (a b : Formed) → FormedAnswer Makes before after a → FormedAnswer Makes before after′ b → formedVerdict a ≡ formedVerdict b → (a ≡ b) × (after ≡ after′)
+  same-answer : (a b : Written) → FormedAnswer Makes before after a → FormedAnswer Makes before after′ b → writtenVerdict a ≡ writtenVerdict b → (a ≡ b) × (after ≡ after′)
   same-answer (Is-rule r) (Is-rule r′) p q e =
       let file = o .same (p .rule) (q .rule) (p .makes) (q .makes) in
       (ap Is-rule (one-length (p .written .front) (q .written .front) file), one-buffer (p .written .front) (q .written .front) file)
@@ -25,6 +26,6 @@ module _ {Makes : Rule → Type 0} (o : OneFile Makes) (before after after′ : 
   same-answer (Refused k i place) (Is-rule r) p q e = absurd (not-passed e)
   same-answer (Refused k i place) (Refused k′ i′ place′) p q e = (same-refusal Refused k k′ i i′ place place′ e, p ∙ sym q)
 
-  pub one-formed : {checks : List Check} → AllSingle checks → (a b : Formed) → FirstFailure checks (formedVerdict a) → FirstFailure checks (formedVerdict b)
+  pub one-formed : {checks : List Check} → AllSingle checks → (a b : Written) → FirstFailure checks (writtenVerdict a) → FirstFailure checks (writtenVerdict b)
       → FormedAnswer Makes before after a → FormedAnswer Makes before after′ b → (a ≡ b) × (after ≡ after′)
   one-formed single a b f g p q = same-answer a b p q (one-verdict single f g)

@@ -12,7 +12,7 @@ use Rattle.formats.proofs.Buffers.{buffer-single}
 use Rattle.formats.proofs.OneVerdict.{checked-single}
 use Rattle.formats.proofs.OneFile.{one-file}
 use Rattle.promises.specs.Weak.{WeakAt}
-use Rattle.temporal_promises.specs.declared.Formed.{Formed}
+use Rattle.promises.specs.declared.Written.{Written}
 use Rattle.temporal_promises.specs.Next.{TooManyNextAt, nextOwnChecks, nextChecks, NextMade, NextPromise}
 use Rattle.temporal_promises.proofs.OneFormed.{OneFile, one-formed}
 
@@ -31,8 +31,8 @@ next-file = record {
 }
 
 module _ {bytes before after after′ entry exit exit′ : List ℕ} where
-  pub one-answer : (a b : Formed) → NextPromise bytes before after entry exit a → NextPromise bytes before after′ entry exit′ b → (a ≡ b) × (after ≡ after′)
+  pub one-answer : (a b : Written) → NextPromise bytes before after entry exit a → NextPromise bytes before after′ entry exit′ b → (a ≡ b) × (after ≡ after′)
   one-answer a b p q = one-formed next-file before after after′ (next-single bytes before entry) a b (p .refusal) (q .refusal) (p .answered) (q .answered)
 
-  pub one-scratch : {a b : Formed} → NextPromise bytes before after entry exit a → NextPromise bytes before after′ entry exit′ b → exit ≡ exit′
+  pub one-scratch : {a b : Written} → NextPromise bytes before after entry exit a → NextPromise bytes before after′ entry exit′ b → exit ≡ exit′
   one-scratch p q = p .scratch ∙ sym (q .scratch)

@@ -11,7 +11,7 @@ use Rattle.formats.proofs.Buffers.{buffer-single}
 use Rattle.formats.proofs.OneVerdict.{rule-single, checked-single}
 use Rattle.formats.proofs.OneFile.{one-file}
 use Rattle.promises.proofs.OneCombine.{pair-single}
-use Rattle.temporal_promises.specs.declared.Formed.{Formed}
+use Rattle.promises.specs.declared.Written.{Written}
 use Rattle.temporal_promises.specs.Until.{TooManyUntilAt, untilOwnChecks, untilChecks, UntilMade, UntilPromise}
 use Rattle.temporal_promises.proofs.OneFormed.{OneFile, one-formed}
 
@@ -35,14 +35,14 @@ until-file = record {
 }
 
 module _ {first second before after after′ classes classes-exit classes-exit′ entry exit exit′ : List ℕ} where
-  pub one-answer : (a b : Formed) → UntilPromise first second before after classes classes-exit entry exit a
+  pub one-answer : (a b : Written) → UntilPromise first second before after classes classes-exit entry exit a
       → UntilPromise first second before after′ classes classes-exit′ entry exit′ b → (a ≡ b) × (after ≡ after′)
   one-answer a b p q = one-formed until-file before after after′ (until-single first second before classes entry) a b (p .refusal) (q .refusal) (p .answered) (q .answered)
 
-  pub one-classes : {a b : Formed} → UntilPromise first second before after classes classes-exit entry exit a
+  pub one-classes : {a b : Written} → UntilPromise first second before after classes classes-exit entry exit a
       → UntilPromise first second before after′ classes classes-exit′ entry exit′ b → classes-exit ≡ classes-exit′
   one-classes p q = p .classes ∙ sym (q .classes)
 
-  pub one-scratch : {a b : Formed} → UntilPromise first second before after classes classes-exit entry exit a
+  pub one-scratch : {a b : Written} → UntilPromise first second before after classes classes-exit entry exit a
       → UntilPromise first second before after′ classes classes-exit′ entry exit′ b → exit ≡ exit′
   one-scratch p q = p .scratch ∙ sym (q .scratch)

@@ -13,8 +13,9 @@ use Rattle.theory.specs.Grades.{AtLeast}
 use Rattle.theory.specs.Smallest.{Smallest, MarksGrades}
 use Rattle.formats.specs.FirstWords.{ByFirstWords}
 use Rattle.formats.specs.RuleChecks.{ruleSize, bufferCheck}
-use Rattle.temporal_promises.specs.declared.Formed.{Formed}
-use Rattle.temporal_promises.specs.Formed.{formedVerdict, FormedAnswer}
+use Rattle.promises.specs.declared.Written.{Written}
+use Rattle.promises.specs.Answers.{writtenVerdict}
+use Rattle.temporal_promises.specs.Formed.{FormedAnswer}
 
 -- "bit a is set / 2^a % 2"
 unfoldable pub inSet : ℕ → ℕ → Bool
@@ -73,10 +74,10 @@ FirstLetterHas set grade h u v = T (inSet set (endless u v 0)) × (h ≤ grade)
 abbrev pub ConstantHas : ℕ → ℕ → List ℕ → List ℕ → Type 0
 ConstantHas grade h u v = h ≤ grade
 
-pub record FirstLetterPromise (letters set grade : ℕ) (before after : List ℕ) (answer : Formed) : Type 0 where
-  pub refusal : FirstFailure (firstLetterChecks letters set grade before) (formedVerdict answer)
+pub record FirstLetterPromise (letters set grade : ℕ) (before after : List ℕ) (answer : Written) : Type 0 where
+  pub refusal : FirstFailure (firstLetterChecks letters set grade before) (writtenVerdict answer)
   pub answered : FormedAnswer (SmallestFor letters (FirstLetterHas set grade)) before after answer
 
-pub record ConstantPromise (letters grade : ℕ) (before after : List ℕ) (answer : Formed) : Type 0 where
-  pub refusal : FirstFailure (constantChecks letters grade before) (formedVerdict answer)
+pub record ConstantPromise (letters grade : ℕ) (before after : List ℕ) (answer : Written) : Type 0 where
+  pub refusal : FirstFailure (constantChecks letters grade before) (writtenVerdict answer)
   pub answered : FormedAnswer (SmallestFor letters (ConstantHas grade)) before after answer

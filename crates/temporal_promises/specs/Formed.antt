@@ -2,16 +2,10 @@
 use Prim.Native.Nat.{ℕ}
 use mathlib.Core.Path.{_≡_}
 use mathlib.Core.List.{List}
-use Rattle.answer.specs.Checks.{Verdict, passed, refused}
 use Rattle.theory.specs.Rules.{Rule}
 use Rattle.formats.specs.ReadBack.{WrittenRule}
-use Rattle.temporal_promises.specs.declared.Formed.{Formed}
-use Rattle.temporal_promises.specs.declared.Formed.the-variants.{Rule as Is-rule, Refused}
-
--- the number, input and place of an answer
-abbrev pub formedVerdict : Formed → Verdict
-formedVerdict (Is-rule end) = passed
-formedVerdict (Refused refusal input place) = refused refusal input place
+use Rattle.promises.specs.declared.Written.{Written}
+use Rattle.promises.specs.Answers.{WrittenAnswer}
 
 -- a rule that is what the call makes was written, whole: its file passes our own check and means the rule
 pub record WrittenAs (Makes : Rule → Type 0) (before after : List ℕ) (end : ℕ) : Type 0 where
@@ -20,6 +14,5 @@ pub record WrittenAs (Makes : Rule → Type 0) (before after : List ℕ) (end : 
   pub written : WrittenRule (rule .morphism) (rule .marks) before after end
 
 -- a refusal keeps every byte of out
-abbrev pub FormedAnswer : (Rule → Type 0) → List ℕ → List ℕ → Formed → Type 0
-FormedAnswer Makes before after (Is-rule end) = WrittenAs Makes before after end
-FormedAnswer Makes before after (Refused refusal input place) = after ≡ before
+abbrev pub FormedAnswer : (Rule → Type 0) → List ℕ → List ℕ → Written → Type 0
+FormedAnswer Makes before after = WrittenAnswer (WrittenAs Makes before after) before after

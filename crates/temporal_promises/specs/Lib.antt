@@ -1,4 +1,4 @@
-pub mod Formed
+pub mod Written
 pub mod FirstLetter
 pub mod Next
 pub mod Until

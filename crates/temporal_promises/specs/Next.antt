@@ -14,8 +14,9 @@ use Rattle.formats.specs.RuleFile.{morphismOf, markingOf}
 use Rattle.formats.specs.RuleChecks.{ruleSize, bufferCheck}
 use Rattle.formats.specs.Calls.{checkedChecks, scratchLeft}
 use Rattle.promises.specs.Weak.{weakCheck}
-use Rattle.temporal_promises.specs.declared.Formed.{Formed}
-use Rattle.temporal_promises.specs.Formed.{formedVerdict, FormedAnswer}
+use Rattle.promises.specs.declared.Written.{Written}
+use Rattle.promises.specs.Answers.{writtenVerdict}
+use Rattle.temporal_promises.specs.Formed.{FormedAnswer}
 
 -- "23 (more than 64 such pairs; input 1, place 0)", of the values in the file's own table
 pub record TooManyNextAt (bytes : List ℕ) (place : ℕ) : Type 0 where
@@ -46,7 +47,7 @@ pub record NextMade (bytes : List ℕ) (rule : Rule) : Type 0 where
   pub marks : MarksGrades (rule .morphism) (rule .marks)
 
 -- scratch as every call leaves it
-pub record NextPromise (bytes before after entry exit : List ℕ) (answer : Formed) : Type 0 where
-  pub refusal : FirstFailure (nextChecks bytes before entry) (formedVerdict answer)
+pub record NextPromise (bytes before after entry exit : List ℕ) (answer : Written) : Type 0 where
+  pub refusal : FirstFailure (nextChecks bytes before entry) (writtenVerdict answer)
   pub answered : FormedAnswer (NextMade bytes) before after answer
   pub scratch : exit ≡ scratchLeft ruleSize before entry

@@ -2,7 +2,7 @@
 use Prim.Native.Nat.{ℕ}
 use mathlib.Core.List.{List}
 use Rattle.promises.specs.OneAnswers.{OneAnswer}
-use Rattle.temporal_promises.specs.declared.Formed.{Formed}
+use Rattle.promises.specs.declared.Written.{Written}
 use Rattle.temporal_promises.specs.FirstLetter.{FirstLetterPromise, ConstantPromise}
 use Rattle.temporal_promises.specs.Next.{NextPromise}
 use Rattle.temporal_promises.specs.Until.{UntilPromise}
@@ -10,9 +10,9 @@ use Rattle.temporal_promises.specs.Until.{UntilPromise}
 -- for each call
 pub record TemporalOneAnswers : Type 0 where
   pub first-letter : (letters set grade : ℕ) (out : List ℕ)
-      → OneAnswer (λ (after : List ℕ) (answer : Formed). FirstLetterPromise letters set grade out after answer)
-  pub constant : (letters grade : ℕ) (out : List ℕ) → OneAnswer (λ (after : List ℕ) (answer : Formed). ConstantPromise letters grade out after answer)
+      → OneAnswer (λ (after : List ℕ) (answer : Written). FirstLetterPromise letters set grade out after answer)
+  pub constant : (letters grade : ℕ) (out : List ℕ) → OneAnswer (λ (after : List ℕ) (answer : Written). ConstantPromise letters grade out after answer)
   pub next : (bytes out entry : List ℕ)
-      → OneAnswer (λ (left : List ℕ × List ℕ) (answer : Formed). NextPromise bytes out (left .0) entry (left .1) answer)
+      → OneAnswer (λ (left : List ℕ × List ℕ) (answer : Written). NextPromise bytes out (left .0) entry (left .1) answer)
   pub until : (first second out classes entry : List ℕ)
-      → OneAnswer (λ (left : List ℕ × (List ℕ × List ℕ)) (answer : Formed). UntilPromise first second out (left .0) classes (left .1 .0) entry (left .1 .1) answer)
+      → OneAnswer (λ (left : List ℕ × (List ℕ × List ℕ)) (answer : Written). UntilPromise first second out (left .0) classes (left .1 .0) entry (left .1 .1) answer)

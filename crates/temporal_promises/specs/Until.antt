@@ -18,8 +18,9 @@ use Rattle.formats.specs.RuleFile.{morphismOf, markingOf}
 use Rattle.formats.specs.RuleChecks.{ruleSize, scratchSize, bufferCheck, ruleChecks}
 use Rattle.formats.specs.Calls.{checkedChecks, scratchLeft}
 use Rattle.promises.specs.Combine.{pairChecks}
-use Rattle.temporal_promises.specs.declared.Formed.{Formed}
-use Rattle.temporal_promises.specs.Formed.{formedVerdict, FormedAnswer}
+use Rattle.promises.specs.declared.Written.{Written}
+use Rattle.promises.specs.Answers.{writtenVerdict}
+use Rattle.temporal_promises.specs.Formed.{FormedAnswer}
 
 -- "`classes` 262,144"
 abbrev pub untilClassesSize : ℕ
@@ -78,8 +79,8 @@ untilClassesLeft out classes scratch =
     cond (ltb (length out) ruleSize) classes
     (cond (ltb (length classes) untilClassesSize) classes (cond (ltb (length scratch) scratchSize) classes (replicate (length classes) 0)))
 
-pub record UntilPromise (first second before after classes-entry classes-exit entry exit : List ℕ) (answer : Formed) : Type 0 where
-  pub refusal : FirstFailure (untilChecks first second before classes-entry entry) (formedVerdict answer)
+pub record UntilPromise (first second before after classes-entry classes-exit entry exit : List ℕ) (answer : Written) : Type 0 where
+  pub refusal : FirstFailure (untilChecks first second before classes-entry entry) (writtenVerdict answer)
   pub answered : FormedAnswer (UntilMade first second) before after answer
   pub classes : classes-exit ≡ untilClassesLeft before classes-entry entry
   pub scratch : exit ≡ untilLeft before classes-entry entry
