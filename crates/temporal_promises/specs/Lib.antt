@@ -1,4 +1,4 @@
-pub mod Written
+pub mod Formed
 pub mod FirstLetter
 pub mod Next
 pub mod Until
