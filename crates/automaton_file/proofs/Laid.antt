@@ -15,11 +15,12 @@ use Rattle.finite.specs.Search.{anyBelow}
 use Rattle.finite.proofs.Search.{any-zero, any-add-one, any-intro, any-elim}
 use Rattle.formats.specs.AutomatonFile.{statesOf, lettersOf, transitionsOf, fromOf, letterOf, toOf, isTransition, hasTransition}
 use Rattle.formats.proofs.GoodAutomaton.{GoodSections}
+use Rattle.scratch.specs.Map.{transitionTableSize}
 use Rattle.automaton_file.specs.Answers.{tripleIndex, indexOf, BlankRoom, TransitionsLaid, oneIf}
 use Rattle.automaton_file.proofs.RepeatedOrder.{Stood, Fresh}
 
 -- a triple's index is below 576
-pub index-below : {m k p a q : ℕ} → m ≤ 6 → k ≤ 16 → p < m → a < k → q < m → tripleIndex p a q < 576
+pub index-below : {m k p a q : ℕ} → m ≤ 6 → k ≤ 16 → p < m → a < k → q < m → tripleIndex p a q < transitionTableSize
 index-below hm hk hp ha hq = omega arith
 
 -- and tells the triple
@@ -108,7 +109,7 @@ module _ (bytes : List ℕ) where
     index-tells : getD now (indexOf bytes i) 0 ≡ oneIf (amongFirst bytes i pᵢ aᵢ qᵢ)
     index-tells = l .transition pᵢ aᵢ qᵢ (good .from-below i h) (good .letter-below i h) (good .to-below i h)
 
-    pub index-in : 576 ≤ size → indexOf bytes i < length now
+    pub index-in : transitionTableSize ≤ size → indexOf bytes i < length now
     index-in r =
         omega (
           arith,

@@ -9,6 +9,7 @@ use Rattle.answer.specs.declared.Refusal.the-variants.{Duplicate}
 use Rattle.answer.specs.Checks.{passed, refused, FirstFailure}
 use Rattle.formats.specs.AutomatonFile.{statesOf, lettersOf, transitionsOf, transitionAt, fromOf, letterOf, toOf, hasTransition, automatonEnd}
 use Rattle.formats.specs.AutomatonChecks.{repeatedChecks}
+use Rattle.scratch.specs.Map.{transitionTableSize}
 use Rattle.automaton_file.specs.Answers.{indexOf, TransitionsNeeds, TransitionsLaid}
 use Rattle.automaton_file.proofs.RepeatedOrder.{Stood, Fresh, AllFresh, repeated-first, fresh-all}
 use Rattle.automaton_file.proofs.Laid.{amongFirst, index-below, index-in, index-seen, index-new, laid-next, laid-all}
@@ -32,10 +33,10 @@ module _ {bytes : List ℕ} {at count : ℕ} (t : TransitionsNeeds bytes at coun
     unfolding fromOf letterOf toOf
     index-is = ap (λ (x : ℕ). getD bytes x 0 * 96 + (getD bytes (x + 1) 0 * 6 + getD bytes (x + 2) 0)) place-is
 
-    pub index-small : getD bytes (at + (2 + 3 * i)) 0 * 96 + (getD bytes (at + (2 + 3 * i) + 1) 0 * 6 + getD bytes (at + (2 + 3 * i) + 2) 0) < 576
+    pub index-small : getD bytes (at + (2 + 3 * i)) 0 * 96 + (getD bytes (at + (2 + 3 * i) + 1) 0 * 6 + getD bytes (at + (2 + 3 * i) + 2) 0) < transitionTableSize
     index-small =
         let g = t .sections in
-        subst (λ (x : ℕ). x < 576) (sym index-is)
+        subst (λ (x : ℕ). x < transitionTableSize) (sym index-is)
         (index-below (g .states-small) (g .letters-small) (g .from-below i in-count) (g .letter-below i in-count) (g .to-below i in-count))
 
     -- the i-th transition is the first that stood before
@@ -46,7 +47,7 @@ module _ {bytes : List ℕ} {at count : ℕ} (t : TransitionsNeeds bytes at coun
         (repeated-first input (transitionsOf bytes) i in-count all s)
 
     module _ {s : ℕ} (e : s ≡ indexOf bytes i) {size : ℕ} {now : List ℕ} (l : TransitionsLaid (amongFirst bytes i) (statesOf bytes) (lettersOf bytes) size now) where
-      pub in-table : 576 ≤ size → s < length now
+      pub in-table : transitionTableSize ≤ size → s < length now
       in-table r = subst (λ (x : ℕ). x < length now) (sym e) (index-in bytes (t .sections) i in-count l r)
 
       pub seen-here : (getD now s 0 ≡ 0 → ⊥) → Stood bytes i

@@ -11,24 +11,25 @@ use Rattle.automaton_table.specs.Laying.{StepList, ProductNumber, MarkNeeds, Ma
 use Rattle.automaton_table.proofs.Staying.{product-number-stays}
 use Rattle.automaton_table.proofs.Marks.{mark-stays}
 use Rattle.automaton_table.proofs.Rows.{marks-place}
+use Rattle.scratch.specs.Map.{laidProductsBase, laidMarksBase}
 
 module _ {kinds : List ℕ} {n count : ℕ} {entry mid : List ℕ} (l : StepList kinds n entry count)
-    (a : (kinds : List ℕ) (n : ℕ) → StepList kinds n entry count → RowsFilled (ProductNumber n count entry) 16384 count count count entry mid) where
+    (a : (kinds : List ℕ) (n : ℕ) → StepList kinds n entry count → RowsFilled (ProductNumber n count entry) laidProductsBase count count count entry mid) where
   pub marks-next : MarkNeeds kinds n entry count → MarkNeeds kinds n mid count
   marks-next p = marks-place p (a kinds n l .kept)
 
-  module _ {exit : List ℕ} (c : RowsFilled (MarkByte kinds n count mid) 24576 64 count count mid exit) where
-    marks-only : KeptBelow 24576 mid exit
+  module _ {exit : List ℕ} (c : RowsFilled (MarkByte kinds n count mid) laidMarksBase 64 count count mid exit) where
+    marks-only : KeptBelow laidMarksBase mid exit
     marks-only = unchanged-wider (omega arith) (omega (arith, l .list .few)) (c .kept)
 
-    all : KeptBelow 16384 entry exit
+    all : KeptBelow laidProductsBase entry exit
     all =
         unchanged-both (unchanged-wider (omega arith) (omega (arith, square-small (l .list .few))) (a kinds n l .kept))
         (unchanged-wider (omega arith) (omega arith) marks-only)
 
     product-laid : (i j : ℕ) → i < count → j < count → ProductNumber n count exit i j (laidRule exit count 0 .product i j)
     product-laid i j hi hj =
-        subst (ProductNumber n count exit i j) (sym (c .kept .before (16384 + (i * count + j)) (omega (arith, pair-small count i j (l .list .few) hi hj))))
+        subst (ProductNumber n count exit i j) (sym (c .kept .before (laidProductsBase + (i * count + j)) (omega (arith, pair-small count i j (l .list .few) hi hj))))
         (product-number-stays all (l .list .few-states) (l .list .few) hi hj (a kinds n l .filled i j hi hj))
 
     pub rule-laid : RuleLaid kinds n count entry exit

@@ -15,7 +15,7 @@ use Rattle.theory.proofs.Words.{over-take, over-drop}
 use Rattle.theory.proofs.Values.{value-append, join-elements, inside-of}
 use Rattle.theory.proofs.Membership.{cut-look, cut-test-is, accepts-test}
 use Rattle.formats.proofs.Sections.{AllInRange}
-use Rattle.scratch.specs.Map.{marksFrom}
+use Rattle.scratch.specs.Map.{markTableSize, beginningsBase, endsBase, wordsEnd, marksFrom}
 use Rattle.lasso_powers.specs.Raising.{Raised}
 use Rattle.lasso_powers.proofs.Raises.{raised-same}
 use Rattle.lasso_turns.specs.Cuts.{Beginnings, Ends, KeptAround, CutValues, turnValue, cutAt, someCut, MarksUpTo}
@@ -24,16 +24,16 @@ use Rattle.lasso_turns.proofs.Agreement.{accepts-test-agrees}
 
 -- the turn's value at a cut that has letters behind it, and at the last cut
 pub turn-value-inner : (m : Morphism) (bytes : List ℕ) (len j : ℕ) → j + 1 < len
-    → turnValue m bytes len j ≡ m .product (getD bytes (8320 + j + 1) 0) (getD bytes (4096 + j) 0)
+    → turnValue m bytes len j ≡ m .product (getD bytes (endsBase + j + 1) 0) (getD bytes (beginningsBase + j) 0)
 unfolding turnValue
 turn-value-inner m bytes len j h = simp (lt-ltb (j + 1) len h)
 
-pub turn-value-last : (m : Morphism) (bytes : List ℕ) (len j : ℕ) → len ≤ j + 1 → turnValue m bytes len j ≡ getD bytes (4096 + j) 0
+pub turn-value-last : (m : Morphism) (bytes : List ℕ) (len j : ℕ) → len ≤ j + 1 → turnValue m bytes len j ≡ getD bytes (beginningsBase + j) 0
 unfolding turnValue
 turn-value-last m bytes len j h = simp (le-ltb (j + 1) len h)
 
-module _ {m : Morphism} (law : Lawful m) (v bytes : List ℕ) (ov : Over (m .letters) v) (begins : Beginnings m v bytes 4096)
-    (ends : Ends m v bytes 8320) where
+module _ {m : Morphism} (law : Lawful m) (v bytes : List ℕ) (ov : Over (m .letters) v) (begins : Beginnings m v bytes beginningsBase)
+    (ends : Ends m v bytes endsBase) where
   module _ {j : ℕ} (h : j < length v) where
     -- the value of a turn after the cut
     turn-is : value m (drop (suc j) v ++ take (suc j) v) ≡ element (turnValue m bytes (length v) j)
@@ -43,16 +43,16 @@ module _ {m : Morphism} (law : Lawful m) (v bytes : List ℕ) (ov : Over (m .let
         ∙ ap (join m (value m (drop (suc j) v))) (begins .beginning j h)
         ∙ ⊎-elim last inner (le-or-lt (length v) (j + 1))
       where
-        last : length v ≤ j + 1 → join m (value m (drop (suc j) v)) (element (getD bytes (4096 + j) 0)) ≡ element (turnValue m bytes (length v) j)
+        last : length v ≤ j + 1 → join m (value m (drop (suc j) v)) (element (getD bytes (beginningsBase + j) 0)) ≡ element (turnValue m bytes (length v) j)
         last l =
-            ap (λ (w : List ℕ). join m (value m w) (element (getD bytes (4096 + j) 0))) (drop-of-length-le v (let z : length v ≤ suc j = omega arith in z))
+            ap (λ (w : List ℕ). join m (value m w) (element (getD bytes (beginningsBase + j) 0))) (drop-of-length-le v (let z : length v ≤ suc j = omega arith in z))
             ∙ ap element (sym (turn-value-last m bytes (length v) j l))
 
-        inner : j + 1 < length v → join m (value m (drop (suc j) v)) (element (getD bytes (4096 + j) 0)) ≡ element (turnValue m bytes (length v) j)
+        inner : j + 1 < length v → join m (value m (drop (suc j) v)) (element (getD bytes (beginningsBase + j) 0)) ≡ element (turnValue m bytes (length v) j)
         inner l =
-            ap (λ (x : Value). join m x (element (getD bytes (4096 + j) 0)))
-            (ends .end (suc j) (omega arith) ∙ ap (λ (i : ℕ). element (getD bytes i 0)) (let z : 8320 + suc j ≡ 8320 + j + 1 = omega arith in z))
-            ∙ join-elements m (getD bytes (8320 + j + 1) 0) (getD bytes (4096 + j) 0) ∙ ap element (sym (turn-value-inner m bytes (length v) j l))
+            ap (λ (x : Value). join m x (element (getD bytes (beginningsBase + j) 0)))
+            (ends .end (suc j) (omega arith) ∙ ap (λ (i : ℕ). element (getD bytes i 0)) (let z : endsBase + suc j ≡ endsBase + j + 1 = omega arith in z))
+            ∙ join-elements m (getD bytes (endsBase + j + 1) 0) (getD bytes (beginningsBase + j) 0) ∙ ap element (sym (turn-value-inner m bytes (length v) j l))
 
   -- the search of the cuts answers the test of membership
   pub some-cut-is : (P : Pairs) {u : List ℕ} {s : ℕ} → Over (m .letters) u → value m u ≡ element s
@@ -62,15 +62,15 @@ module _ {m : Morphism} (law : Lawful m) (v bytes : List ℕ) (ov : Over (m .let
       any-same (length v) (cutAt m P s bytes (length v)) (cut-look m P u v)
       (λ j h. sym (cut-test-is m P (start j h) (turn-is h)))
     where
-      start : (j : ℕ) → j < length v → value m (u ++ take (suc j) v) ≡ element (m .product s (getD bytes (4096 + j) 0))
+      start : (j : ℕ) → j < length v → value m (u ++ take (suc j) v) ≡ element (m .product s (getD bytes (beginningsBase + j) 0))
       start j h =
           value-append law ou (over-take (suc j) ov)
           ∙ ap (join m (value m u)) (begins .beginning j h)
-          ∙ ap (λ (x : Value). join m x (element (getD bytes (4096 + j) 0))) eu
-          ∙ join-elements m s (getD bytes (4096 + j) 0)
+          ∙ ap (λ (x : Value). join m x (element (getD bytes (beginningsBase + j) 0))) eu
+          ∙ join-elements m s (getD bytes (beginningsBase + j) 0)
 
   -- the values in the two tables are elements
-  pub cut-values : length v ≤ 4224 → 12544 ≤ length bytes → CutValues bytes (m .size) (length v)
+  pub cut-values : length v ≤ 4224 → wordsEnd ≤ length bytes → CutValues bytes (m .size) (length v)
   cut-values short long = record {
     short = short;
     long = long;
@@ -79,7 +79,7 @@ module _ {m : Morphism} (law : Lawful m) (v bytes : List ℕ) (ov : Over (m .let
   }
 
 -- stores behind the marks leave the marks of up to 64 elements
-pub marks-kept : (entry now : List ℕ) {n : ℕ} → n ≤ 64 → ((i : ℕ) → i < 4096 → getD now i 0 ≡ getD entry i 0) → (s e : ℕ) → s < n → e < n
+pub marks-kept : (entry now : List ℕ) {n : ℕ} → n ≤ 64 → ((i : ℕ) → i < markTableSize → getD now i 0 ≡ getD entry i 0) → (s e : ℕ) → s < n → e < n
     → marksFrom now 0 s e ≡ marksFrom entry 0 s e
 unfolding marksFrom
 marks-kept entry now {n} small kept s e hs he = kept (0 + (s * 64 + e)) (omega arith)
@@ -87,16 +87,16 @@ marks-kept entry now {n} small kept s e hs he = kept (0 + (s * 64 + e)) (omega a
 -- both tables of values of v stand behind the marks, which are as they were at entry
 pub record BothTables (m : Morphism) (v entry now : List ℕ) : Type 0 where
   pub same-length : length now ≡ length entry
-  pub begins : Beginnings m v now 4096
-  pub ends : Ends m v now 8320
-  pub marks : (i : ℕ) → i < 4096 → getD now i 0 ≡ getD entry i 0
+  pub begins : Beginnings m v now beginningsBase
+  pub ends : Ends m v now endsBase
+  pub marks : (i : ℕ) → i < markTableSize → getD now i 0 ≡ getD entry i 0
 
 -- the second pass leaves what the first one stored
-pub both-tables : {m : Morphism} {v entry between now : List ℕ} → length v ≤ 4224 → Beginnings m v between 4096
-    → KeptAround entry between 4096 (length v) → Ends m v now 8320 → KeptAround between now 8320 (length v) → BothTables m v entry now
+pub both-tables : {m : Morphism} {v entry between now : List ℕ} → length v ≤ 4224 → Beginnings m v between beginningsBase
+    → KeptAround entry between beginningsBase (length v) → Ends m v now endsBase → KeptAround between now endsBase (length v) → BothTables m v entry now
 both-tables {m} {v} {entry} {between} {now} short b first e second = record {
   same-length = second .same-length ∙ first .same-length;
-  begins = record { beginning = λ j h. b .beginning j h ∙ ap element (sym (second .before (4096 + j) (omega arith))) };
+  begins = record { beginning = λ j h. b .beginning j h ∙ ap element (sym (second .before (beginningsBase + j) (omega arith))) };
   ends = e;
   marks = λ i h. second .before i (omega arith) ∙ first .before i h;
 }
@@ -117,7 +117,7 @@ membership {m} {u} {v} {entry} {now} {s} law small ou ov eu tables raised = rais
     same e = (λ x. subst T e x, λ x. subst T (sym e) x)
 
 -- what bounds the marks at entry bounds them after such stores
-pub marks-up-to : (entry now : List ℕ) {n top : ℕ} → n ≤ 64 → ((i : ℕ) → i < 4096 → getD now i 0 ≡ getD entry i 0) → MarksUpTo n (marksFrom entry 0) top
+pub marks-up-to : (entry now : List ℕ) {n top : ℕ} → n ≤ 64 → ((i : ℕ) → i < markTableSize → getD now i 0 ≡ getD entry i 0) → MarksUpTo n (marksFrom entry 0) top
     → MarksUpTo n (marksFrom now 0) top
 marks-up-to entry now small kept up = record { small = λ s e hs he. rw (marks-kept entry now small kept s e hs he) (up .small s e hs he) }
 

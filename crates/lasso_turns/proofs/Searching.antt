@@ -15,7 +15,7 @@ use Rattle.theory.proofs.Gradings.{level-down}
 use Rattle.theory.proofs.Powers.{times-inside, idempotent-of, idempotent-inside}
 use Rattle.theory.proofs.Conjugacy.{semigroup}
 use Rattle.theory.proofs.Membership.{turn-look, turn-test}
-use Rattle.scratch.specs.Map.{marksFrom}
+use Rattle.scratch.specs.Map.{beginningsBase, endsBase, marksFrom}
 use Rattle.formats.proofs.Tables.{Table}
 use Rattle.formats.specs.Table.{productAt, morphismAt}
 use Rattle.rule_table.proofs.Facts.{product-below}
@@ -39,9 +39,9 @@ pub record CutLooked (bytes : List ℕ) (n k : ℕ) (scratch : List ℕ) (s len 
   pub within : j ≤ len
 
 -- the value of the end behind a cut is an element
-pub end-behind : {scratch : List ℕ} {n len : ℕ} → CutValues scratch n len → (j : ℕ) → j + 1 < len → getD scratch (8320 + j + 1) 0 < n
+pub end-behind : {scratch : List ℕ} {n len : ℕ} → CutValues scratch n len → (j : ℕ) → j + 1 < len → getD scratch (endsBase + j + 1) 0 < n
 end-behind {scratch} {n} v j h =
-    subst (λ (i : ℕ). getD scratch i 0 < n) (let z : 8320 + (j + 1) ≡ 8320 + j + 1 = omega arith in z) (v .end-inside (j + 1) h)
+    subst (λ (i : ℕ). getD scratch i 0 < n) (let z : endsBase + (j + 1) ≡ endsBase + j + 1 = omega arith in z) (v .end-inside (j + 1) h)
 
 -- the turn's value at a cut is an element
 turn-inside : {bytes : List ℕ} {n k : ℕ} {scratch : List ℕ} {len : ℕ} → Table bytes n k → CutValues scratch n len → (i : ℕ) → i < len → turnValue (morphismAt bytes n k) scratch len i < n
@@ -57,7 +57,7 @@ unmarked-start m marks s bytes len = record { within = omega arith; unmarked = �
 
 module _ {bytes : List ℕ} {n k : ℕ} {scratch : List ℕ} {s len : ℕ} where
   -- p is the value before the cut after j + 1 letters
-  module _ {j p r : ℕ} (t : Table bytes n k) (v : CutValues scratch n len) (hs : s < n) (h : j < len) (ep : p ≡ productAt bytes n s (getD scratch (4096 + j) 0)) where
+  module _ {j p r : ℕ} (t : Table bytes n k) (v : CutValues scratch n len) (hs : s < n) (h : j < len) (ep : p ≡ productAt bytes n s (getD scratch (beginningsBase + j) 0)) where
     cut-here : r ≡ turnValue (morphismAt bytes n k) scratch len j → CutHere (morphismAt bytes n k) s scratch len j p r
     cut-here er = record {
       before-inside = product-below t hs (v .beginning-inside j h) ep;
@@ -67,12 +67,12 @@ module _ {bytes : List ℕ} {n k : ℕ} {scratch : List ℕ} {s len : ℕ} where
     }
 
     -- the values at a cut that letters follow
-    pub cut-inner : j + 1 < len → r ≡ productAt bytes n (getD scratch (8320 + j + 1) 0) (getD scratch (4096 + j) 0)
+    pub cut-inner : j + 1 < len → r ≡ productAt bytes n (getD scratch (endsBase + j + 1) 0) (getD scratch (beginningsBase + j) 0)
         → CutHere (morphismAt bytes n k) s scratch len j p r
     cut-inner inner e = cut-here (e ∙ sym (turn-value-inner (morphismAt bytes n k) scratch len j inner))
 
     -- the values at the last cut
-    pub cut-last : len ≤ j + 1 → r ≡ getD scratch (4096 + j) 0 → CutHere (morphismAt bytes n k) s scratch len j p r
+    pub cut-last : len ≤ j + 1 → r ≡ getD scratch (beginningsBase + j) 0 → CutHere (morphismAt bytes n k) s scratch len j p r
     cut-last last e = cut-here (e ∙ sym (turn-value-last (morphismAt bytes n k) scratch len j last))
 
   -- no cut before the first shows a mark
@@ -124,7 +124,7 @@ module _ {bytes : List ℕ} {n k : ℕ} {scratch : List ℕ} {s len : ℕ} where
         let m = morphismAt bytes n k in
         let hp = product-below (l .table) (l .inside) (l .values .beginning-inside i h) refl in
         let hr = turn-inside (l .table) (l .values) i h in
-        let f = any-elim n (turn-look m (level g (marksFrom scratch 0)) (m .product s (getD scratch (4096 + i) 0)) (turnValue m scratch len i) (idempotent-of n (m .product) (turnValue m scratch len i))) t in
+        let f = any-elim n (turn-look m (level g (marksFrom scratch 0)) (m .product s (getD scratch (beginningsBase + i) 0)) (turnValue m scratch len i) (idempotent-of n (m .product) (turnValue m scratch len i))) t in
         let he = idempotent-inside (semigroup (l .law)) hr in
         omega (arith, level-down (marksFrom scratch 0) g _ _ (f .holds), up-to .small _ _ (times-inside (semigroup (l .law)) (l .law .closed _ _ hp he) hr (f .at)) he)
 

@@ -11,7 +11,7 @@ use Rattle.formats.proofs.Tables.{Table}
 use Rattle.formats.specs.Table.{morphismAt}
 use Rattle.rule_reach.specs.Reach.{placeAt, Empty, WordOrder}
 use Rattle.rule_reach.proofs.Words.{wordAt, found-word, reached-found}
-use Rattle.scratch.specs.Map.{marksFrom, MarkingAt}
+use Rattle.scratch.specs.Map.{secondBase, marksFrom, MarkingAt}
 use Rattle.scratch.proofs.Markings.{marking-itself}
 use Rattle.mark_spelling.specs.Spelling.{SpellNeeds}
 use Rattle.formats.specs.Front.{AtFront}
@@ -41,7 +41,7 @@ module _ {bytes : List ℕ} {n k : ℕ} {before queue : List ℕ} {count s : ℕ
 
 module _ {m : Morphism} {entry : List ℕ} (place : CompareNeeds m entry) where
   -- the search compares the first marking with the second
-  pub compare-search : EscapeNeeds m 0 4096 entry
+  pub compare-search : EscapeNeeds m 0 secondBase entry
   compare-search = record {
     lawful = place .lawful;
     first-base = omega arith;
@@ -49,8 +49,8 @@ module _ {m : Morphism} {entry : List ℕ} (place : CompareNeeds m entry) where
     room = place .room;
   }
 
-  module _ {mid : List ℕ} {answer : GradeEscape} (r : GradeEscaped m 0 4096 entry mid answer) where
-    said : {answered : GradeEscape} → answer ≡ answered → (F S : Marking) → MarkingAt (m .size) F entry 0 → MarkingAt (m .size) S entry 4096
+  module _ {mid : List ℕ} {answer : GradeEscape} (r : GradeEscaped m 0 secondBase entry mid answer) where
+    said : {answered : GradeEscape} → answer ≡ answered → (F S : Marking) → MarkingAt (m .size) F entry 0 → MarkingAt (m .size) S entry secondBase
         → GradeEscapeAnswer m F S mid answered
     said e F S t t′ = subst (GradeEscapeAnswer m F S mid) e (r .says F S t t′)
 
@@ -70,12 +70,12 @@ module _ {m : Morphism} {entry : List ℕ} (place : CompareNeeds m entry) where
     }
 
     module _ {g s i : ℕ} (e : answer ≡ At g s i) where
-      escaped : (F S : Marking) → MarkingAt (m .size) F entry 0 → MarkingAt (m .size) S entry 4096 → GradeEscapedAt m F S mid g s i
+      escaped : (F S : Marking) → MarkingAt (m .size) F entry 0 → MarkingAt (m .size) S entry secondBase → GradeEscapedAt m F S mid g s i
       escaped F S t t′ = said e F S t t′
 
       -- the markings stand as the table itself says
-      itself : EscapedAt m (level g (marksFrom entry 0)) (level g (marksFrom entry 4096)) s mid i
-      itself = escaped (marksFrom entry 0) (marksFrom entry 4096) (marking-itself (m .size) entry 0) (marking-itself (m .size) entry 4096) .escaped
+      itself : EscapedAt m (level g (marksFrom entry 0)) (level g (marksFrom entry secondBase)) s mid i
+      itself = escaped (marksFrom entry 0) (marksFrom entry secondBase) (marking-itself (m .size) entry 0) (marking-itself (m .size) entry secondBase) .escaped
 
       pub start-room : {u : List ℕ} → 64 ≤ length u → StartNeeds m s u
       start-room h = record { lawful = place .lawful; reached = place .reached; inside = itself .start-inside; room = h }

@@ -24,7 +24,7 @@ use Rattle.formats.proofs.GoodRule.{called-good}
 use Rattle.formats.specs.ReadBack.{WrittenRule}
 use Rattle.formats.proofs.ReadBack.{written-rule}
 use Rattle.formats.specs.Front.{AtFront}
-use Rattle.scratch.specs.Map.{marksFrom}
+use Rattle.scratch.specs.Map.{secondBase, marksFrom}
 use Rattle.mark_strong.specs.Deciding.{StrongIf, Decided}
 use Rattle.promises.specs.Weak.{weakCheck}
 use Rattle.mark_strong.proofs.Calling.{checked-table, checked-lawful, checked-reached, checked-graded, marks-stand, checked-room, decided-file}
@@ -92,18 +92,18 @@ module _ (bytes out entry : List ℕ) where
           strong = subst (StrongIf m (markingOf bytes)) e (d .decision (markingOf bytes) (checked-graded 1 bytes entry p) (marks-stand 1 bytes entry p))
 
           -- the second table has the marks of the complement
-          second-marks : ComplementMarks m (markingOf bytes) (marksFrom laid 4096)
+          second-marks : ComplementMarks m (markingOf bytes) (marksFrom laid secondBase)
           second-marks =
               laid-complement (checked-lawful 1 bytes entry p) (checked-reached 1 bytes entry p) (checked-graded 1 bytes entry p) strong
               (d .closure (markingOf bytes) (checked-graded 1 bytes entry p) (marks-stand 1 bytes entry p)) l
 
-          grades-fit : FitsGrades m (marksFrom laid 4096)
-          grades-fit = record { grades = λ s c hs hc. rw (l .marks s c hs hc) (turned-small m (marksFrom decided 4096) s c) }
+          grades-fit : FitsGrades m (marksFrom laid secondBase)
+          grades-fit = record { grades = λ s c hs hc. rw (l .marks s c hs hc) (turned-small m (marksFrom decided secondBase) s c) }
 
-          written : {exit : List ℕ} {r : ℕ} → AtFront (secondFile m laid) out exit r → WrittenRule m (marksFrom laid 4096) out exit r
+          written : {exit : List ℕ} {r : ℕ} → AtFront (secondFile m laid) out exit r → WrittenRule m (marksFrom laid secondBase) out exit r
           written w =
               let t = checked-table 1 bytes entry p in
-              written-rule m (marksFrom laid 4096)
+              written-rule m (marksFrom laid secondBase)
               (record { some = t .some; small = t .small; letters-some = write-place .letters-some; letters-small = t .letters-small }) grades-fit
               (checked-lawful 1 bytes entry p) (second-marks .linked) (checked-reached 1 bytes entry p) w
 
@@ -114,9 +114,9 @@ module _ (bytes out entry : List ℕ) where
             refusal = buffer-long long (passed-before _ _ (p .refusal)
                 (first-passes (record { nowhere = λ place f. f .weak (subst (λ (x : Morphism). StrongMarking x (markingOf bytes)) same strong) }) none-left));
             answered = record {
-              marks = marksFrom laid 4096;
-              is-complement = subst (λ (x : Morphism). ComplementMarks x (markingOf bytes) (marksFrom laid 4096)) same second-marks;
-              written = subst (λ (x : Morphism). WrittenRule x (marksFrom laid 4096) out exit r) same (written w);
+              marks = marksFrom laid secondBase;
+              is-complement = subst (λ (x : Morphism). ComplementMarks x (markingOf bytes) (marksFrom laid secondBase)) same second-marks;
+              written = subst (λ (x : Morphism). WrittenRule x (marksFrom laid secondBase) out exit r) same (written w);
             };
             scratch = zeros laid end (l .same-length) z;
           }

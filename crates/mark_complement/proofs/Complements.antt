@@ -17,7 +17,7 @@ use Rattle.theory.proofs.ClosureGrades.{closure-grade}
 use Rattle.minimality.proofs.GradeOutcomes.{grading-linked}
 use Rattle.minimality.proofs.Saturation.{saturated-at, saturated-other}
 use Rattle.minimality.proofs.Complements.{lack, complement-marks, complement-saturates, complement-rest, complement-right}
-use Rattle.scratch.specs.Map.{marksFrom, MarkingAt}
+use Rattle.scratch.specs.Map.{secondBase, marksFrom, MarkingAt}
 use Rattle.scratch.proofs.Markings.{level-same}
 use Rattle.mark_closure.proofs.Agreement.{linked-agrees, accepts-agrees, marking-strong-agrees}
 use Rattle.mark_complement_marks.specs.Complement.{turnedMark, ComplementLaid}
@@ -86,11 +86,11 @@ module _ {m : Morphism} {marks : Marking} (law : Lawful m) (reached : AllReached
 
 -- the marks that the code leaves, where the second table was the closure
 pub laid-complement : {m : Morphism} {marks : Marking} {entry exit : List ℕ} → Lawful m → AllReached m → GradedMarks m marks → StrongMarking m marks
-    → MarkingAt (m .size) (closure-grade m marks) entry 4096 → ComplementLaid m entry exit → ComplementMarks m marks (marksFrom exit 4096)
-laid-complement {m} {marks} {entry} {exit} law reached good strong closed l = turned-complement law reached good strong (marksFrom exit 4096) is
+    → MarkingAt (m .size) (closure-grade m marks) entry secondBase → ComplementLaid m entry exit → ComplementMarks m marks (marksFrom exit secondBase)
+laid-complement {m} {marks} {entry} {exit} law reached good strong closed l = turned-complement law reached good strong (marksFrom exit secondBase) is
   where
-    is : (s e : ℕ) → s < m .size → e < m .size → complement-marks m marks s e ≡ marksFrom exit 4096 s e
+    is : (s e : ℕ) → s < m .size → e < m .size → complement-marks m marks s e ≡ marksFrom exit secondBase s e
     is s e hs he =
         sym (turned-closure m marks s e law)
-        ∙ turned-equal m (closure-grade m marks) s e (marksFrom entry 4096) (closed .same s e hs he)
+        ∙ turned-equal m (closure-grade m marks) s e (marksFrom entry secondBase) (closed .same s e hs he)
         ∙ sym (l .marks s e hs he)

@@ -15,7 +15,7 @@ use Rattle.formats.proofs.Agree.{Agree}
 use Rattle.formats.proofs.Same.{SameMarks, file-same}
 use Rattle.formats.specs.Front.{AtFront}
 use Rattle.formats.proofs.Front.{front-same}
-use Rattle.scratch.specs.Map.{marksFrom}
+use Rattle.scratch.specs.Map.{secondBase, marksFrom}
 use Rattle.scratch.proofs.Parts.{part-length, part-byte}
 use Rattle.mark_complement.specs.Promise.{WriteNeeds, secondFile}
 
@@ -27,7 +27,7 @@ module _ {rule : List ℕ} {n k : ℕ} (table : Table rule n k) {scratch out : L
   images = take (length rule - (2 + n * n)) (drop (2 + n * n) rule)
 
   abbrev marks : List ℕ
-  marks = take (length scratch - 4096) (drop 4096 scratch)
+  marks = take (length scratch - secondBase) (drop secondBase scratch)
 
   products-from : 1 ≤ length rule
   products-from = omega (arith, table .long)
@@ -35,10 +35,10 @@ module _ {rule : List ℕ} {n k : ℕ} (table : Table rule n k) {scratch out : L
   images-from : 2 + n * n ≤ length rule
   images-from = omega (arith, table .long)
 
-  marks-from : 4096 ≤ length scratch
+  marks-from : secondBase ≤ length scratch
   marks-from = omega (arith, place .marks-long)
 
-  pub rule-place : RuleNeeds (take (length rule - 1) (drop 1 rule)) (take (length rule - (2 + n * n)) (drop (2 + n * n) rule)) (take (length scratch - 4096) (drop 4096 scratch)) n k out
+  pub rule-place : RuleNeeds (take (length rule - 1) (drop 1 rule)) (take (length rule - (2 + n * n)) (drop (2 + n * n) rule)) (take (length scratch - secondBase) (drop secondBase scratch)) n k out
   rule-place = record {
     some = table .some;
     small = table .small;
@@ -46,7 +46,7 @@ module _ {rule : List ℕ} {n k : ℕ} (table : Table rule n k) {scratch out : L
     letters-small = table .letters-small;
     table-long = omega (arith, table .long, part-length rule 1 products-from);
     images-long = omega (arith, table .long, part-length rule (2 + n * n) images-from);
-    marks-long = omega (arith, place .marks-long, part-length scratch 4096 marks-from);
+    marks-long = omega (arith, place .marks-long, part-length scratch secondBase marks-from);
     room = place .room;
   }
 
@@ -60,16 +60,16 @@ module _ {rule : List ℕ} {n k : ℕ} (table : Table rule n k) {scratch out : L
     same-image = λ a h. part-byte rule (2 + n * n) images-from a (omega (arith, table .long));
   }
 
-  same-marks : SameMarks n (marksFrom scratch 4096) (tableMarks marks)
+  same-marks : SameMarks n (marksFrom scratch secondBase) (tableMarks marks)
   unfolding tableMarks marksFrom
   same-marks = record {
-    same = λ s e hs he. part-byte scratch 4096 marks-from (s * 64 + e) (omega (arith, table .small, place .marks-long));
+    same = λ s e hs he. part-byte scratch secondBase marks-from (s * 64 + e) (omega (arith, table .small, place .marks-long));
   }
 
-  same-file : fileOf (tableMorphism products images n k) (tableMarks marks) ≡ fileOf (morphismAt rule n k) (marksFrom scratch 4096)
+  same-file : fileOf (tableMorphism products images n k) (tableMarks marks) ≡ fileOf (morphismAt rule n k) (marksFrom scratch secondBase)
   same-file = file-same agree same-marks
 
   pub tables-written : {exit : List ℕ} {r : ℕ}
-      → AtFront (tableFile (take (length rule - 1) (drop 1 rule)) (take (length rule - (2 + n * n)) (drop (2 + n * n) rule)) (take (length scratch - 4096) (drop 4096 scratch)) n k) out exit r
+      → AtFront (tableFile (take (length rule - 1) (drop 1 rule)) (take (length rule - (2 + n * n)) (drop (2 + n * n) rule)) (take (length scratch - secondBase) (drop secondBase scratch)) n k) out exit r
       → AtFront (secondFile (morphismAt rule n k) scratch) out exit r
   tables-written = front-same same-file

@@ -12,7 +12,7 @@ use Rattle.finite.proofs.Tests.{T-true, T-false}
 use Rattle.theory.specs.Rules.{Morphism}
 use Rattle.theory.specs.Pairs.{Linked}
 use Rattle.theory.proofs.Closure.{linked-test, linked-intro, linked-elim}
-use Rattle.scratch.specs.Map.{marksFrom}
+use Rattle.scratch.specs.Map.{secondBase, marksFrom}
 use Rattle.mark_closure.specs.Closing.{place, Kept}
 use Rattle.mark_closure.proofs.Tables.{place-same, kept-before, kept-after}
 use Rattle.mark_complement_marks.specs.Complement.{turnedMark, ComplementLaid, ComplementByte, ComplementRow, ComplementRows}
@@ -22,13 +22,13 @@ module _ (m : Morphism) (bytes : List ℕ) (s e : ℕ) where
   pub turned-unlinked : (Linked m s e → ⊥) → ComplementByte m bytes s e 0
   unfolding turnedMark
   turned-unlinked g =
-      let number : ℕ = 3 - marksFrom bytes 4096 s e in
+      let number : ℕ = 3 - marksFrom bytes secondBase s e in
       sym (ap (λ (b : Bool). cond b number 0) (T-false (linked-test m s e) (λ t. g (linked-elim m s e t))))
 
-  pub turned-linked : {byte : ℕ} → Linked m s e → byte ≡ 3 - getD bytes (4096 + (s * 64 + e)) 0 → ComplementByte m bytes s e byte
+  pub turned-linked : {byte : ℕ} → Linked m s e → byte ≡ 3 - getD bytes (secondBase + (s * 64 + e)) 0 → ComplementByte m bytes s e byte
   unfolding turnedMark marksFrom
   turned-linked l q =
-      let number : ℕ = 3 - marksFrom bytes 4096 s e in
+      let number : ℕ = 3 - marksFrom bytes secondBase s e in
       q ∙ sym (ap (λ (b : Bool). cond b number 0) (T-true (linked-test m s e) (linked-intro l)))
 
 -- the byte to be depends on the byte that is there only

@@ -6,6 +6,7 @@ use native.Mathlib.Omega.{arith}
 use lib.ListN.{length, getD, drop, set, length-set, length-append}
 use lib.Seq.{drop-cons, set-at}
 use Rattle.mark_search_list.specs.Queue.{backAt, letterAt, parentAt}
+use Rattle.scratch.specs.Map.{backsBase, lettersBase}
 use Rattle.mark_cycles.specs.Cycles.{Spells, spells-none, spells-more, CycleNeeds, CycleWritten}
 
 -- the letters from the entry `start` to the entry i were written
@@ -27,7 +28,7 @@ module _ {n : ℕ} {scratch : List ℕ} {start : ℕ} {entry : List ℕ} (place 
     pub still-few : i < 4225
     still-few = omega (arith, k .short, place .few)
 
-    module _ (some : getD scratch (16384 + i) 0 ≡ n → ⊥) where
+    module _ (some : getD scratch (backsBase + i) 0 ≡ n → ⊥) where
       has-back : backAt scratch i ≡ n → ⊥
       unfolding backAt
       has-back = some
@@ -47,7 +48,7 @@ module _ {n : ℕ} {scratch : List ℕ} {start : ℕ} {entry : List ℕ} (place 
           ∙ ap (λ (j : ℕ). (k .front ++ (letterAt scratch i ∷ [])) ++ drop j entry) (let e : suc letters ≡ letters + 1 = omega arith in e)
 
       -- one letter more
-      pub cycle-more : {r : ℕ} → r ≡ parentAt scratch i → CycleSoFar n scratch start entry (set now letters (getD scratch (24576 + i) 0)) (letters + 1) r
+      pub cycle-more : {r : ℕ} → r ≡ parentAt scratch i → CycleSoFar n scratch start entry (set now letters (getD scratch (lettersBase + i) 0)) (letters + 1) r
       unfolding letterAt
       cycle-more {r} e = record {
         front = k .front ++ (letterAt scratch i ∷ []);
@@ -60,7 +61,7 @@ module _ {n : ℕ} {scratch : List ℕ} {start : ℕ} {entry : List ℕ} (place 
       }
 
     -- a start: the cycle is whole
-    pub cycle-done : getD scratch (16384 + i) 0 ≡ n → CycleWritten n scratch start entry now letters
+    pub cycle-done : getD scratch (backsBase + i) 0 ≡ n → CycleWritten n scratch start entry now letters
     unfolding backAt
     cycle-done e = record {
       word = k .front;

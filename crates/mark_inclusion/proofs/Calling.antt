@@ -27,7 +27,7 @@ use Rattle.rule_check.specs.Answers.{CheckPromise}
 use Rattle.formats.specs.Calls.{checkedChecks, afterCall}
 use Rattle.rule_check.proofs.Calls.{zeros-left, checked-length, shape-morphism}
 use Rattle.formats.proofs.MarksPassed.{passed-marks, marking-linked, marking-at-most}
-use Rattle.scratch.specs.Map.{marksFrom, MarkingAt}
+use Rattle.scratch.specs.Map.{secondBase, marksFrom, MarkingAt}
 use Rattle.mark_strong.proofs.Calling.{checked-table, checked-lawful, checked-reached, checked-graded, marks-stand, checked-room}
 use Rattle.mark_inclusion.specs.Laying.{SecondLaid, LaidAnswer}
 use Rattle.mark_comparison.specs.Comparison.{CompareNeeds, Answered, answered-included, answered-apart, Compared}
@@ -117,7 +117,7 @@ module _ (bytes second u v entry : List ℕ) where
                   linked = marking-linked second 0 (passed-marks 2 (twoBytes second 0) (passes-tail rest));
                 })
 
-            second-stands : MarkingAt (shape .elements) (secondMarking second) laid 4096
+            second-stands : MarkingAt (shape .elements) (secondMarking second) laid secondBase
             unfolding marksFrom
             second-stands = record { same = λ s c hs hc. sym (second-laid .mark s c hs hc) }
 

@@ -13,7 +13,7 @@ use Rattle.rule_marks.specs.Faults.{MarksLaid}
 use Rattle.rule_second_marks.specs.SecondMarks.{MarksSpace, SecondAnswer}
 use Rattle.sections.specs.Answers.{PartZeroed}
 use Rattle.scratch.specs.Bytes.{UnchangedOutside}
-use Rattle.scratch.specs.Map.{secondBase, tablesEnd}
+use Rattle.scratch.specs.Map.{markTableSize, secondBase, tablesEnd}
 use Rattle.mark_inclusion.specs.Laying.{SecondLaid, LaidAnswer}
 use Rattle.scratch.proofs.Parts.{part-length, part-byte, in-part, part-unchanged}
 
@@ -21,36 +21,36 @@ module _ {entry scratch : List ℕ} (room : scratchSize ≤ length entry) (z : P
   long-still : scratchSize ≤ length scratch
   long-still = omega (arith, z .outside .same-length)
 
-  inside : 4096 ≤ length scratch
+  inside : secondBase ≤ length scratch
   inside = omega (arith, long-still)
 
   -- the part behind the first marks begins with a blank table
-  pub second-space : MarksSpace (take (length scratch - 4096) (drop 4096 scratch))
+  pub second-space : MarksSpace (take (length scratch - secondBase) (drop secondBase scratch))
   second-space = record {
-    room = omega (arith, part-length scratch 4096 inside, long-still);
-    blank = λ i h. part-byte scratch 4096 inside i (omega (arith, long-still)) ∙ z .zeros (4096 + i) (omega arith) (omega arith);
+    room = omega (arith, part-length scratch secondBase inside, long-still);
+    blank = λ i h. part-byte scratch secondBase inside i (omega (arith, long-still)) ∙ z .zeros (secondBase + i) (omega arith) (omega arith);
   }
 
   module _ (second : List ℕ) {n : ℕ} (small : n ≤ 64) (new : List ℕ) where
     -- the marks in the part are those of the second table
-    second-laid : MarksLaid (marksIn second 0) n (take (length scratch - 4096) (drop 4096 scratch)) new → SecondLaid second n scratch (putMid 4096 (length scratch - 4096) scratch new)
+    second-laid : MarksLaid (marksIn second 0) n (take (length scratch - secondBase) (drop secondBase scratch)) new → SecondLaid second n scratch (putMid secondBase (length scratch - secondBase) scratch new)
     second-laid l = record {
       same-length = kept .same-length;
       before = kept .before;
       after = kept .after;
-      mark = λ s e hs he. in-part scratch 4096 inside new (drop (length scratch - 4096) (drop 4096 scratch)) (s * 64 + e)
-          (omega (arith, l .same-length, part-length scratch 4096 inside, long-still)) ∙ l .mark s e hs he;
+      mark = λ s e hs he. in-part scratch secondBase inside new (drop (length scratch - secondBase) (drop secondBase scratch)) (s * 64 + e)
+          (omega (arith, l .same-length, part-length scratch secondBase inside, long-still)) ∙ l .mark s e hs he;
     }
       where
-        kept : UnchangedOutside secondBase tablesEnd scratch (putMid 4096 (length scratch - 4096) scratch new)
-        kept = part-unchanged scratch 4096 inside 4096 new (record {
+        kept : UnchangedOutside secondBase tablesEnd scratch (putMid secondBase (length scratch - secondBase) scratch new)
+        kept = part-unchanged scratch secondBase inside markTableSize new (record {
           same-length = l .same-length;
           before = λ i h. absurd (let n : ⊥ = omega arith in n);
           after = λ i h. l .other i (λ s e hs he q. omega arith);
         })
 
-    pub laid-answer : (answer : Fault) → SecondAnswer second n (take (length scratch - 4096) (drop 4096 scratch)) new answer
-        → LaidAnswer second n entry (putMid 4096 (length scratch - 4096) scratch new) answer
+    pub laid-answer : (answer : Fault) → SecondAnswer second n (take (length scratch - secondBase) (drop secondBase scratch)) new answer
+        → LaidAnswer second n entry (putMid secondBase (length scratch - secondBase) scratch new) answer
     laid-answer Nothing l =
         let d = second-laid l in
         record {
@@ -59,4 +59,4 @@ module _ {entry scratch : List ℕ} (room : scratchSize ≤ length entry) (z : P
           after = λ i h. d .after i h ∙ z .outside .after i h;
           mark = d .mark;
         }
-    laid-answer (Fault-refused refusal place) l = same-len-mid 4096 (length scratch - 4096) scratch new l ∙ z .outside .same-length
+    laid-answer (Fault-refused refusal place) l = same-len-mid secondBase (length scratch - secondBase) scratch new l ∙ z .outside .same-length

@@ -12,23 +12,23 @@ use Rattle.theory.specs.Rules.{Morphism}
 use Rattle.scratch.specs.Preimages.{afterLetter, LastBelow, firstAt, nextAt, Listed, PreimagesRoom, PreimagesListed}
 use Rattle.mark_preimages.specs.Listing.{ValueNeeds, ValueListed, LetterRoom, OthersKept, LetterListed, LettersListed}
 use Rattle.mark_preimages.proofs.LastBelow.{last-none, last-found, last-kept}
-use Rattle.scratch.specs.Map.{firstPreimagesBase, searchEnd}
+use Rattle.scratch.specs.Map.{firstPreimagesBase, nextPreimagesBase, searchEnd}
 use Rattle.scratch.proofs.Unchanged.{unchanged-none, unchanged-both}
 
 -- the two stores of a value
 pub value-listed : {l : List ℕ} {a c x : ℕ} → ValueNeeds l a c x
-    → ValueListed l (set (set l (59392 + (a * 65 + c)) (getD l (57344 + (a * 65 + x)) 0)) (57344 + (a * 65 + x)) (c + 1)) a c x
+    → ValueListed l (set (set l (nextPreimagesBase + (a * 65 + c)) (getD l (firstPreimagesBase + (a * 65 + x)) 0)) (firstPreimagesBase + (a * 65 + x)) (c + 1)) a c x
 unfolding firstAt nextAt
 value-listed {l} {a} {c} {x} p =
-    let between = set l (59392 + (a * 65 + c)) (getD l (57344 + (a * 65 + x)) 0) in
+    let between = set l (nextPreimagesBase + (a * 65 + c)) (getD l (firstPreimagesBase + (a * 65 + x)) 0) in
     record {
       same-length = simp length-set;
-      first = getD-set-same between (57344 + (a * 65 + x)) (c + 1) 0 (simp length-set (omega (arith, p)));
+      first = getD-set-same between (firstPreimagesBase + (a * 65 + x)) (c + 1) 0 (simp length-set (omega (arith, p)));
       next =
-          getD-set-other between (57344 + (a * 65 + x)) (59392 + (a * 65 + c)) (c + 1) 0 (λ e. omega (arith, p))
-          ∙ getD-set-same l (59392 + (a * 65 + c)) (getD l (57344 + (a * 65 + x)) 0) 0 (omega (arith, p));
+          getD-set-other between (firstPreimagesBase + (a * 65 + x)) (nextPreimagesBase + (a * 65 + c)) (c + 1) 0 (λ e. omega (arith, p))
+          ∙ getD-set-same l (nextPreimagesBase + (a * 65 + c)) (getD l (firstPreimagesBase + (a * 65 + x)) 0) 0 (omega (arith, p));
       others = λ i f g.
-          getD-set-other between (57344 + (a * 65 + x)) i (c + 1) 0 f ∙ getD-set-other l (59392 + (a * 65 + c)) i (getD l (57344 + (a * 65 + x)) 0) 0 g;
+          getD-set-other between (firstPreimagesBase + (a * 65 + x)) i (c + 1) 0 f ∙ getD-set-other l (nextPreimagesBase + (a * 65 + c)) i (getD l (firstPreimagesBase + (a * 65 + x)) 0) 0 g;
     }
 
 -- one value more
@@ -36,19 +36,19 @@ module _ {a c x : ℕ} {entry exit : List ℕ} (s : ValueListed entry exit a c x
   -- another list of the letter begins as it did
   first-other : (y : ℕ) → y < 65 → (y ≡ x → ⊥) → firstAt exit a y ≡ firstAt entry a y
   unfolding firstAt
-  first-other y hy f = let g : y ≢ x = f in s .others (57344 + (a * 65 + y)) (λ e. omega arith) (λ e. omega arith)
+  first-other y hy f = let g : y ≢ x = f in s .others (firstPreimagesBase + (a * 65 + y)) (λ e. omega arith) (λ e. omega arith)
 
   -- and goes on after another value as it did
   next-other : (d : ℕ) → d < 65 → (d ≡ c → ⊥) → nextAt exit a d ≡ nextAt entry a d
   unfolding nextAt
-  next-other d hd f = let g : d ≢ c = f in s .others (59392 + (a * 65 + d)) (λ e. omega arith) (λ e. omega arith)
+  next-other d hd f = let g : d ≢ c = f in s .others (nextPreimagesBase + (a * 65 + d)) (λ e. omega arith) (λ e. omega arith)
 
   -- the lists of other letters and what stands outside the lists are as they were
   value-others : OthersKept a entry exit
   unfolding firstAt nextAt
   value-others = record {
-    firsts = λ b y f hb hy. let g : b ≢ a = f in s .others (57344 + (b * 65 + y)) (λ e. omega arith) (λ e. omega arith);
-    nexts = λ b d f hb hd. let g : b ≢ a = f in s .others (59392 + (b * 65 + d)) (λ e. omega arith) (λ e. omega arith);
+    firsts = λ b y f hb hy. let g : b ≢ a = f in s .others (firstPreimagesBase + (b * 65 + y)) (λ e. omega arith) (λ e. omega arith);
+    nexts = λ b d f hb hd. let g : b ≢ a = f in s .others (nextPreimagesBase + (b * 65 + d)) (λ e. omega arith) (λ e. omega arith);
     kept = record {
       same-length = s .same-length;
       before = λ i h. s .others i (λ e. omega arith) (λ e. omega arith);
@@ -97,13 +97,13 @@ pub letters-none : {m : Morphism} {l : List ℕ} → m .letters ≤ 16 → Preim
 unfolding firstAt
 letters-none {m} {l} few room = record {
   listed = λ b h. absurd (omega arith);
-  blank = λ b x h hb hx. room .blank (57344 + (b * 65 + x)) (omega arith) (omega arith);
+  blank = λ b x h hb hx. room .blank (firstPreimagesBase + (b * 65 + x)) (omega arith) (omega arith);
   kept = unchanged-none firstPreimagesBase searchEnd l;
 }
 
 module _ {m : Morphism} {a : ℕ} {entry now : List ℕ} (l : LettersListed m a entry now) where
   -- the next letter's values are not listed yet
-  pub letters-room : 61440 ≤ length entry → a < m .letters → LetterRoom now a
+  pub letters-room : searchEnd ≤ length entry → a < m .letters → LetterRoom now a
   letters-room h la = record { room = omega (arith, l .kept .same-length); blank = λ x hx. l .blank a x (omega arith) la hx }
 
   -- one letter more

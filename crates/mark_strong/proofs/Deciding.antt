@@ -41,7 +41,7 @@ module _ {m : Morphism} {entry blank : List ℕ} (small : m .size ≤ 64) (place
   closure-room = record { room = omega (arith, place .room, z .outside .same-length); blank = z .zeros; graded = graded-blank }
 
   module _ {mid : List ℕ} {closed : Bool} (a : ClosureAnswer m blank mid closed) where
-    second-stands : (marks : Marking) → GradedMarks m marks → MarkingAt (m .size) marks entry 0 → MarkingAt (m .size) (closure-grade m marks) mid 4096
+    second-stands : (marks : Marking) → GradedMarks m marks → MarkingAt (m .size) marks entry 0 → MarkingAt (m .size) (closure-grade m marks) mid secondBase
     second-stands marks k t = laid-closure (place .lawful) marks k (stands-blank marks t) (a .laid)
 
     -- the marks have all of their closure
@@ -56,7 +56,7 @@ module _ {m : Morphism} {entry blank : List ℕ} (small : m .size ≤ 64) (place
     }
 
     -- the search compares the closure with the marks
-    pub search-place : EscapeNeeds m 4096 0 mid
+    pub search-place : EscapeNeeds m secondBase 0 mid
     search-place = record {
       lawful = place .lawful;
       first-base = omega arith;
@@ -64,12 +64,12 @@ module _ {m : Morphism} {entry blank : List ℕ} (small : m .size ≤ 64) (place
       room = omega (arith, place .room, a .laid .same-length, z .outside .same-length);
     }
 
-    module _ {exit : List ℕ} {answer : GradeEscape} (r : GradeEscaped m 4096 0 mid exit answer) where
+    module _ {exit : List ℕ} {answer : GradeEscape} (r : GradeEscaped m secondBase 0 mid exit answer) where
       after-search : {b : Bool} → ((marks : Marking) → GradedMarks m marks → MarkingAt (m .size) marks entry 0 → StrongIf m marks b) → Decided m entry exit b
       after-search v = record {
         same-length = r .same-length ∙ a .laid .same-length ∙ z .outside .same-length;
         decision = v;
-        closure = λ marks k t. marking-kept 4096 small (λ i g h. r .marks i h) (second-stands marks k t);
+        closure = λ marks k t. marking-kept secondBase small (λ i g h. r .marks i h) (second-stands marks k t);
         marks = λ i h. r .marks i (omega arith) ∙ a .laid .before i h ∙ z .outside .before i h;
         behind = λ i h. r .behind i h ∙ a .laid .after i (omega arith) ∙ z .outside .after i (omega arith);
       }

@@ -12,7 +12,7 @@ use Rattle.theory.specs.Grades.{StrongMarking, LassosGraded}
 use Rattle.theory.proofs.Gradings.{GradedMarks}
 use Rattle.theory.proofs.Strength.{settled-start, settled-cycle, settled-linked}
 use Rattle.minimality.proofs.GradeOutcomes.{grading, grading-lassos}
-use Rattle.scratch.specs.Map.{marksFrom, MarkingAt}
+use Rattle.scratch.specs.Map.{secondBase, marksFrom, MarkingAt}
 use Rattle.mark_strong.specs.Deciding.{DecideNeeds, StrongIf, Decided}
 use Rattle.promises.specs.declared.LassoVerdict.the-variants.{Decided as Is-decided, Refused}
 use Rattle.monitor_judging.specs.Judges.{Judges}
@@ -36,7 +36,7 @@ module _ {m : Morphism} {entry : List ℕ} (place : DecideNeeds m 0 entry) {befo
   }
 
   -- the marks are strong, and one byte was looked at
-  module _ {grade : ℕ} (look : grade ≡ marksFrom mid 4096 (settled-start m before since) (settled-cycle m since)) (e : strong ≡ true) where
+  module _ {grade : ℕ} (look : grade ≡ marksFrom mid secondBase (settled-start m before since) (settled-cycle m since)) (e : strong ≡ true) where
     module _ (marks : Marking) (k : GradedMarks m marks) (t : MarkingAt (m .size) marks entry 0) where
       strong-marks : StrongMarking m marks
       strong-marks = subst (StrongIf m marks) e (d .decision marks k t)

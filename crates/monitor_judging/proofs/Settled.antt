@@ -12,19 +12,19 @@ use Rattle.theory.proofs.Strength.{settled-start, settled-cycle}
 use Rattle.formats.proofs.Tables.{Table}
 use Rattle.formats.specs.Table.{productAt, morphismAt}
 use Rattle.rule_table.proofs.Facts.{product-below}
-use Rattle.scratch.specs.Map.{marksFrom}
+use Rattle.scratch.specs.Map.{markTableSize, secondBase, marksFrom}
 
 -- with the idempotent power that was found
 module _ (bytes : List ℕ) (n k z : ℕ) {e exponent : ℕ} (law : Lawful (morphismAt bytes n k)) (hz : z < n) (found : LeastPower (morphismAt bytes n k) z e exponent) where
   -- the pair is within the table of marks
-  pub pair-below : {before s : ℕ} → Table bytes n k → before < n → s ≡ productAt bytes n before e → s * 64 + e < 4096
+  pub pair-below : {before s : ℕ} → Table bytes n k → before < n → s ≡ productAt bytes n before e → s * 64 + e < markTableSize
   pair-below table hb es = omega (arith, table .small, least-power-idempotent found .inside, product-below table hb (least-power-idempotent found .inside) es)
 
   -- the byte that is read is that of the settled pair
   pub settled-byte : {s : ℕ} (before : ℕ) (scratch : List ℕ) → s ≡ productAt bytes n before e
-      → getD scratch (4096 + (s * 64 + e)) 0 ≡ marksFrom scratch 4096 (settled-start (morphismAt bytes n k) before z) (settled-cycle (morphismAt bytes n k) z)
+      → getD scratch (secondBase + (s * 64 + e)) 0 ≡ marksFrom scratch secondBase (settled-start (morphismAt bytes n k) before z) (settled-cycle (morphismAt bytes n k) z)
   unfolding marksFrom
   settled-byte before scratch es =
       let settled = least-power-is law hz found .is-power in
-      ap (λ (x : ℕ). marksFrom scratch 4096 x e) (es ∙ ap (productAt bytes n before) settled)
-      ∙ ap (marksFrom scratch 4096 (settled-start (morphismAt bytes n k) before z)) settled
+      ap (λ (x : ℕ). marksFrom scratch secondBase x e) (es ∙ ap (productAt bytes n before) settled)
+      ∙ ap (marksFrom scratch secondBase (settled-start (morphismAt bytes n k) before z)) settled

@@ -8,13 +8,14 @@ use lib.ListN.{length, getD, set, length-set}
 use lib.Seq.{getD-set-same, getD-set-other}
 use Rattle.formats.specs.RuleFile.{markStart, markCycle, markGrade, gradeAmong}
 use Rattle.formats.proofs.Grades.{is-mark-elim, is-mark-intro, grade-none, grade-this, grade-other, grade-mark, grade-some}
+use Rattle.scratch.specs.Map.{markTableSize}
 use Rattle.rule_marks.specs.Faults.{MarksRoom, MarksLaid}
 
 -- a pair's place tells the pair
 pub pair-apart : (s e s′ e′ : ℕ) → e < 64 → e′ < 64 → s * 64 + e ≡ s′ * 64 + e′ → (s ≡ s′) × (e ≡ e′)
 pair-apart s e s′ e′ he he′ p = (omega arith, omega arith)
 
-pub pair-below : {n s e : ℕ} → n ≤ 64 → s < n → e < n → s * 64 + e < 4096
+pub pair-below : {n s e : ℕ} → n ≤ 64 → s < n → e < n → s * 64 + e < markTableSize
 pair-below h a b = omega arith
 
 -- the i-th mark stood before

@@ -10,13 +10,25 @@ returns : tie.Need-returns
 returns c = out-short _ _ _ (c .if1 .taken)
 
 translate-requires : tie.Need-translate-requires
-translate-requires c κs = read-here _ _ _ (c .before .before .before .before .before .before .before .before .before .if1 .left) (was-read 1 _ _ _ (c .before .before .before .before .before .before .before .read-automaton .result) (c .before .before .before .before .before .before .before .read-automaton .ensures) (c .before .before .before .states .given .1))
+translate-requires c κs =
+    let at-states = c .before .before .before in
+    let at-read-automaton = at-states .before .before .before .before in
+    let at-if1 = at-read-automaton .before .before in
+    read-here _ _ _ (at-if1 .if1 .left) (was-read 1 _ _ _ (at-read-automaton .read-automaton .result) (at-read-automaton .read-automaton .ensures) (at-states .states .given .1))
 
 returns-2 : tie.Need-returns-2
-returns-2 c = rule-promised _ _ _ (c .before .before .before .before .before .before .before .before .before .before .before .before .before .before .if1 .left) (was-read 1 _ _ _ (c .before .before .before .before .before .before .before .before .before .before .before .before .read-automaton .result) (c .before .before .before .before .before .before .before .before .before .before .before .before .read-automaton .ensures) (c .before .before .before .before .before .before .before .before .states .given .1)) (c .before .before .before .before .translate .ensures)
+returns-2 c =
+    let at-translate = c .before .before .before .before in
+    let at-states = at-translate .before .before .before .before in
+    let at-read-automaton = at-states .before .before .before .before in
+    let at-if1 = at-read-automaton .before .before in
+    rule-promised _ _ _ (at-if1 .if1 .left) (was-read 1 _ _ _ (at-read-automaton .read-automaton .result) (at-read-automaton .read-automaton .ensures) (at-states .states .given .1)) (at-translate .translate .ensures)
 
 returns-3 : tie.Need-returns-3
-returns-3 c = read-refused _ _ _ (c .before .before .before .before .before .before .before .if1 .left) (was-refused 1 _ _ _ (c .before .before .before .before .before .read-automaton .result) (c .before .before .before .before .before .read-automaton .ensures) (c .before .refusal .given .1))
+returns-3 c =
+    let at-read-automaton = c .before .before .before .before .before in
+    let at-if1 = at-read-automaton .before .before in
+    read-refused _ _ _ (at-if1 .if1 .left) (was-refused 1 _ _ _ (at-read-automaton .read-automaton .result) (at-read-automaton .read-automaton .ensures) (c .before .refusal .given .1))
 
 pub automaton-rule-spec : {M : Type 1} → statement M
 automaton-rule-spec =

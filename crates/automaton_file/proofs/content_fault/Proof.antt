@@ -31,10 +31,13 @@ repeated-fault-requires : tie.Need-repeated-fault-requires
 repeated-fault-requires c κs = (transitions-place _ _ (c .before .before .before .before .before .pre .0), c .before .before .before .before .before .pre .1)
 
 returns-2 : tie.Need-returns-2
-returns-2 c = (
-  transitions-decide _ _ (c .before .before .before .before .before .before .before .before .pre .0) (c .before .before .before .before .before .rest-after .ensures) (c .before .before .before .before .if1 .left) (c .before .before .repeated-fault .result) (c .before .before .repeated-fault .ensures .0),
-  c .before .before .repeated-fault .ensures .1,
-)
+returns-2 c =
+    let at-if1 = c .before .before .before .before in
+    let at-rest-after = at-if1 .before in
+    let start = at-rest-after .before .before .before in (
+      transitions-decide _ _ (start .pre .0) (at-rest-after .rest-after .ensures) (at-if1 .if1 .left) (c .before .before .repeated-fault .result) (c .before .before .repeated-fault .ensures .0),
+      c .before .before .repeated-fault .ensures .1,
+    )
 
 pub content-fault-spec : {M : Type 1} → statement M
 content-fault-spec =

@@ -13,12 +13,14 @@ returns c = short-scratch _ _ _ (c .if1 .taken)
 
 returns-2 : tie.Need-returns-2
 returns-2 c =
-    let read = c .before .before .before .before .before .before .before in
+    let at-refusal = c .before .before .before .before .before in
+    let read = at-refusal .before .before in
     let blank = read .before .before .before in
-    let start = blank .before .before .before .before .before in
-    layout-promise (start .args .input) (start .args .bytes .now) (start .args .scratch .now) (blank .before .before .if1 .left)
+    let at-if1 = blank .before .before in
+    let start = at-if1 .before .before .before in
+    layout-promise (start .args .input) (start .args .bytes .now) (start .args .scratch .now) (at-if1 .if1 .left)
     (zeros-again (start .args .scratch .now) (blank .zero-part .ensures .outside .same-length) (c .before .before .zero .ensures))
-    (layout-refused (start .args .bytes .now) (read .read-layout .result) (read .read-layout .ensures) (c .before .before .before .before .before .refusal .given .1))
+    (layout-refused (start .args .bytes .now) (read .read-layout .result) (read .read-layout .ensures) (at-refusal .refusal .given .1))
 
 content-fault-requires : tie.Need-content-fault-requires
 content-fault-requires c κs =
@@ -42,16 +44,19 @@ returns-3 c =
 
 returns-4 : tie.Need-returns-4
 returns-4 c =
-    let content = c .before .before .before .before .before .before .before .before .before in
-    let read = content .before .before .before .before .before in
+    let at-refusal2 = c .before .before .before .before .before in
+    let content = at-refusal2 .before .before .before .before in
+    let at-counts = content .before .before .before in
+    let read = at-counts .before .before in
     let blank = read .before .before .before in
-    let start = blank .before .before .before .before .before in
-    content-promise (start .args .input) (start .args .bytes .now) (start .args .scratch .now) (blank .before .before .if1 .left)
-    (layout-said (start .args .bytes .now) (read .read-layout .result) (read .read-layout .ensures) (content .before .before .before .counts .given .1))
+    let at-if1 = blank .before .before in
+    let start = at-if1 .before .before .before in
+    content-promise (start .args .input) (start .args .bytes .now) (start .args .scratch .now) (at-if1 .if1 .left)
+    (layout-said (start .args .bytes .now) (read .read-layout .result) (read .read-layout .ensures) (at-counts .counts .given .1))
     (zeros-again (start .args .scratch .now)
-    (kept-said _ _ _ (content .content-fault .result) (content .content-fault .ensures .1) (c .before .before .before .before .before .refusal2 .given .1) ∙ blank .zero-part .ensures .outside .same-length)
+    (kept-said _ _ _ (content .content-fault .result) (content .content-fault .ensures .1) (at-refusal2 .refusal2 .given .1) ∙ blank .zero-part .ensures .outside .same-length)
     (c .before .before .zero2 .ensures))
-    (fault-refused (λ input. contentChecks input (start .args .bytes .now)) (content .content-fault .result) (content .content-fault .ensures .0) (c .before .before .before .before .before .refusal2 .given .1))
+    (fault-refused (λ input. contentChecks input (start .args .bytes .now)) (content .content-fault .result) (content .content-fault .ensures .0) (at-refusal2 .refusal2 .given .1))
 
 pub read-automaton-spec : {M : Type 1} → statement M
 read-automaton-spec =

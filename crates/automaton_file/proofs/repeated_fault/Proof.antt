@@ -25,36 +25,58 @@ triple-index-requires : tie.Need-triple-index-requires Inv-loop μ-loop
 triple-index-requires c κs = (c .before .before .before .before .pre .0, c .loop-test .taken)
 
 slice-read-if1 : tie.Need-slice-read-if1 Inv-loop μ-loop
-slice-read-if1 c = in-table (c .before .before .before .before .before .before .pre .0) _ (c .before .before .loop-test .taken) (c .before .triple-index .ensures) (c .before .before .before .loop .inv .1) (c .before .before .before .before .before .before .pre .1 .room)
+slice-read-if1 c =
+    let at-loop = c .before .before .before in
+    let start = at-loop .before .before .before in
+    in-table (start .pre .0) _ (c .before .before .loop-test .taken) (c .before .triple-index .ensures) (at-loop .loop .inv .1) (start .pre .1 .room)
 
 mul-t11 : tie.Need-mul-t11 Inv-loop μ-loop
-mul-t11 c = omega (arith, place-inside (c .before .before .before .before .before .before .before .pre .0) _ (c .before .before .before .loop-test .taken))
+mul-t11 c =
+    let at-loop-test = c .before .before .before in
+    let start = at-loop-test .before .before .before .before in
+    omega (arith, place-inside (start .pre .0) _ (at-loop-test .loop-test .taken))
 
 add-t12 : tie.Need-add-t12 Inv-loop μ-loop
-add-t12 c = omega (arith, place-inside (c .before .before .before .before .before .before .before .pre .0) _ (c .before .before .before .loop-test .taken))
+add-t12 c =
+    let at-loop-test = c .before .before .before in
+    let start = at-loop-test .before .before .before .before in
+    omega (arith, place-inside (start .pre .0) _ (at-loop-test .loop-test .taken))
 
 add-t13 : tie.Need-add-t13 Inv-loop μ-loop
-add-t13 c = omega (arith, place-inside (c .before .before .before .before .before .before .before .pre .0) _ (c .before .before .before .loop-test .taken))
+add-t13 c =
+    let at-loop-test = c .before .before .before in
+    let start = at-loop-test .before .before .before .before in
+    omega (arith, place-inside (start .pre .0) _ (at-loop-test .loop-test .taken))
 
 same-length : tie.Need-same-length Inv-loop μ-loop
 same-length c = c .before .before .before .before .loop .inv .1 .same-length
 
 returns : tie.Need-returns Inv-loop μ-loop
-returns c = (
-  repeated-here (c .before .before .before .before .before .before .before .pre .0) _ (c .before .before .before .loop-test .taken) (c .before .before .before .before .loop .inv .0)
-      (seen-here (c .before .before .before .before .before .before .before .pre .0) _ (c .before .before .before .loop-test .taken) (c .before .before .triple-index .ensures) (c .before .before .before .before .loop .inv .1) (c .if1 .taken)),
-  c .before .before .before .before .loop .inv .1 .same-length,
-)
+returns c =
+    let at-loop-test = c .before .before .before in
+    let at-loop = at-loop-test .before in
+    let start = at-loop .before .before .before in (
+      repeated-here (start .pre .0) _ (at-loop-test .loop-test .taken) (at-loop .loop .inv .0)
+          (seen-here (start .pre .0) _ (at-loop-test .loop-test .taken) (c .before .before .triple-index .ensures) (at-loop .loop .inv .1) (c .if1 .taken)),
+      at-loop .loop .inv .1 .same-length,
+    )
 
 slice-write-table : tie.Need-slice-write-table Inv-loop μ-loop
-slice-write-table c = in-table (c .before .before .before .before .before .before .before .pre .0) _ (c .before .before .before .loop-test .taken) (c .before .before .triple-index .ensures) (c .before .before .before .before .loop .inv .1) (c .before .before .before .before .before .before .before .pre .1 .room)
+slice-write-table c =
+    let at-loop-test = c .before .before .before in
+    let at-loop = at-loop-test .before in
+    let start = at-loop .before .before .before in
+    in-table (start .pre .0) _ (at-loop-test .loop-test .taken) (c .before .before .triple-index .ensures) (at-loop .loop .inv .1) (start .pre .1 .room)
 
 loop-again : tie.Need-loop-again Inv-loop μ-loop
-loop-again c = (
-  fresh-more (c .before .before .before .before .loop .inv .0) (new-here (c .before .before .before .before .before .before .before .pre .0) _ (c .before .before .before .loop-test .taken) (c .before .before .triple-index .ensures) (c .before .before .before .before .loop .inv .1) (c .if1 .left)),
-  laid-here (c .before .before .before .before .before .before .before .pre .0) _ (c .before .before .before .loop-test .taken) (c .before .before .triple-index .ensures) (c .before .before .before .before .loop .inv .1) (slice-write-table c),
-  omega arith,
-)
+loop-again c =
+    let at-loop-test = c .before .before .before in
+    let at-loop = at-loop-test .before in
+    let start = at-loop .before .before .before in (
+      fresh-more (at-loop .loop .inv .0) (new-here (start .pre .0) _ (at-loop-test .loop-test .taken) (c .before .before .triple-index .ensures) (at-loop .loop .inv .1) (c .if1 .left)),
+      laid-here (start .pre .0) _ (at-loop-test .loop-test .taken) (c .before .before .triple-index .ensures) (at-loop .loop .inv .1) (slice-write-table c),
+      omega arith,
+    )
 
 same-length-2 : tie.Need-same-length-2 Inv-loop μ-loop
 same-length-2 c = c .before .loop .inv .1 .same-length

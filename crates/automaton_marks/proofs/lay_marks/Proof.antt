@@ -5,11 +5,12 @@ use Rattle.automaton_table.specs.Laying.{MarkByte}
 use Rattle.scratch.specs.Rows.{RowsFilled}
 use Rattle.scratch.proofs.Rows.{rows-none, rows-all}
 use Rattle.automaton_table.proofs.Rows.{marks-place, marks-more}
+use Rattle.scratch.specs.Map.{laidMarksBase}
 use Rattle.automaton_marks.proofs.lay_marks.Statement.{statement}
 use Rattle.automaton_marks.proofs.lay_marks.Tie as tie
 
 abbrev Inv-loop : tie.InvT-loop
-Inv-loop kinds n scratch₀ count s₀ scratch s = RowsFilled (MarkByte kinds n count scratch₀) 24576 64 count s scratch₀ scratch × (s ≤ count)
+Inv-loop kinds n scratch₀ count s₀ scratch s = RowsFilled (MarkByte kinds n count scratch₀) laidMarksBase 64 count s scratch₀ scratch × (s ≤ count)
 
 abbrev μ-loop : tie.MeasureT-loop
 μ-loop kinds n scratch₀ count s₀ scratch s = count - s
@@ -21,7 +22,11 @@ lay-marks-of-requires : tie.Need-lay-marks-of-requires Inv-loop μ-loop
 lay-marks-of-requires c κs = (marks-place (c .before .before .before .before .before .pre) (c .before .before .loop .inv .0 .kept), c .before .loop-test .taken)
 
 loop-again : tie.Need-loop-again Inv-loop μ-loop
-loop-again c = (marks-more (c .before .before .before .before .before .before .before .before .pre) (c .before .before .before .before .loop-test .taken) (c .before .before .before .before .before .loop .inv .0) (c .before .before .lay-marks-of .ensures), omega arith)
+loop-again c =
+    let at-loop-test = c .before .before .before .before in
+    let at-loop = at-loop-test .before in
+    let start = at-loop .before .before .before in
+    (marks-more (start .pre) (at-loop-test .loop-test .taken) (at-loop .loop .inv .0) (c .before .before .lay-marks-of .ensures), omega arith)
 
 same-length : tie.Need-same-length Inv-loop μ-loop
 same-length c = c .before .loop .inv .0 .kept .same-length

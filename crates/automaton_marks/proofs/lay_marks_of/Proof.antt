@@ -5,11 +5,12 @@ use Rattle.automaton_table.specs.Laying.{MarkByte}
 use Rattle.scratch.specs.Rows.{RowFilled}
 use Rattle.scratch.proofs.Rows.{filled-none, filled-all}
 use Rattle.automaton_table.proofs.Rows.{marks-place, mark-room, mark-more}
+use Rattle.scratch.specs.Map.{laidMarksBase}
 use Rattle.automaton_marks.proofs.lay_marks_of.Statement.{statement}
 use Rattle.automaton_marks.proofs.lay_marks_of.Tie as tie
 
 abbrev Inv-loop : tie.InvT-loop
-Inv-loop kinds n scratch₀ count s base e₀ scratch e = RowFilled (MarkByte kinds n count scratch₀ s) (24576 + s * 64) e scratch₀ scratch × (e ≤ count)
+Inv-loop kinds n scratch₀ count s base e₀ scratch e = RowFilled (MarkByte kinds n count scratch₀ s) (laidMarksBase + s * 64) e scratch₀ scratch × (e ≤ count)
 
 abbrev μ-loop : tie.MeasureT-loop
 μ-loop kinds n scratch₀ count s base e₀ scratch e = count - e
@@ -27,13 +28,22 @@ mark-byte-requires : tie.Need-mark-byte-requires Inv-loop μ-loop
 mark-byte-requires c κs = (marks-place (c .before .before .before .before .before .pre .0) (c .before .before .loop .inv .0 .kept), (omega arith, omega arith))
 
 add-scratch : tie.Need-add-scratch Inv-loop μ-loop
-add-scratch c = omega (arith, c .before .before .before .before .before .before .pre .0 .few)
+add-scratch c =
+    let at-loop = c .before .before .before in
+    let start = at-loop .before .before .before in
+    omega (arith, start .pre .0 .few)
 
 slice-write-scratch : tie.Need-slice-write-scratch Inv-loop μ-loop
-slice-write-scratch c = mark-room (c .before .before .before .before .before .before .pre .0) (c .before .before .before .before .before .before .pre .1) (c .before .before .before .loop .inv .0) (c .before .before .loop-test .taken)
+slice-write-scratch c =
+    let at-loop = c .before .before .before in
+    let start = at-loop .before .before .before in
+    mark-room (start .pre .0) (start .pre .1) (at-loop .loop .inv .0) (c .before .before .loop-test .taken)
 
 loop-again : tie.Need-loop-again Inv-loop μ-loop
-loop-again c = (mark-more (c .before .before .before .before .before .before .pre .0) (c .before .before .before .before .before .before .pre .1) (c .before .before .before .loop .inv .0) (c .before .before .loop-test .taken) (c .mark-byte .ensures), omega arith)
+loop-again c =
+    let at-loop = c .before .before .before in
+    let start = at-loop .before .before .before in
+    (mark-more (start .pre .0) (start .pre .1) (at-loop .loop .inv .0) (c .before .before .loop-test .taken) (c .mark-byte .ensures), omega arith)
 
 same-length : tie.Need-same-length Inv-loop μ-loop
 same-length c = c .before .loop .inv .0 .kept .same-length

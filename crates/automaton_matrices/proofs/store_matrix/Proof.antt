@@ -19,7 +19,10 @@ store-row-requires : tie.Need-store-row-requires Inv-loop μ-loop
 store-row-requires c κs = stored-room (c .before .before .before .before .before .pre) (c .before .before .loop-test .taken) (c .before .before .before .loop .inv .1)
 
 loop-again : tie.Need-loop-again Inv-loop μ-loop
-loop-again c = (search needs, stored-more (c .before .before .before .before .before .before .loop .inv .1) (c .before .before .store-row .ensures))
+loop-again c =
+    let at-loop-test = c .before .before .before .before .before in
+    let at-loop = at-loop-test .before in
+    (search needs, stored-more (at-loop .loop .inv .1) (c .before .before .store-row .ensures))
 
 same-length : tie.Need-same-length Inv-loop μ-loop
 same-length c = c .before .loop .inv .1 .same-length

@@ -9,7 +9,9 @@ use Rattle.automaton_ready_table.proofs.make_ready_rule.Tie as tie
 
 make-rule-by-requires : tie.Need-make-rule-by-requires
 unfolding through greatest product matrixNumber numbered productNumber
-make-rule-by-requires c κs = (c .before .before .before .before .before .before .pre, table-ready _ refl tt)
+make-rule-by-requires c κs =
+    let at-arguments = c .before .before .before in
+    (at-arguments .before .before .before .pre, table-ready _ refl tt)
 
 pub make-ready-rule-spec : {M : Type 1} → statement M
 make-ready-rule-spec = tie.close (tie.spec (λ c. search needs) make-rule-by-requires (λ c. search needs) (λ c. search needs) (λ c. search needs))

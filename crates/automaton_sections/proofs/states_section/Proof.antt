@@ -19,7 +19,10 @@ entries-requires : tie.Need-entries-requires
 entries-requires c κs = omega (arith, good c .within)
 
 returns : tie.Need-returns
-returns c = by-entries statesSection 0 (c .before .before .before .before .before .before .args .bytes .now) (good (c .before)) (c .entries .result) (c .entries .ensures)
+returns c =
+    let at-byte-count = c .before .before .before .before in
+    let start = at-byte-count .before .before in
+    by-entries statesSection 0 (start .args .bytes .now) (good (c .before)) (c .entries .result) (c .entries .ensures)
 
 returns-2 : tie.Need-returns-2
 returns-2 c =

@@ -21,7 +21,9 @@ triples-requires c κs = (c .before .before .before .before .before .pre, omega 
 
 returns : tie.Need-returns
 returns c =
-    let a = c .before .before .before .before .before .before .args in
+    let at-wide-count = c .before .before .before .before in
+    let start = at-wide-count .before .before in
+    let a = start .args in
     by-entries (transitionsSection (a .m) (a .k)) (a .at) (a .rest .now) (good (c .before)) (c .triples .result) (c .triples .ensures _ _ (triple-ranges (a .m) (a .k)))
 
 returns-2 : tie.Need-returns-2

@@ -26,7 +26,8 @@ returns-2 c =
 returns-3 : tie.Need-returns-3
 returns-3 c =
     let at-zero = c .before .before in
-    let at-combine = at-zero .before .before .before .before .before .before in
+    let at-scratch2 = at-zero .before .before .before .before .before in
+    let at-combine = at-scratch2 .before in
     let at-rules = at-combine .before .before .before .before in
     let at-check = at-rules .before .before .before .before in
     let at-if1 = at-check .before .before in

@@ -8,14 +8,16 @@ use Rattle.combine_pairs.proofs.combine_strong.Tie as tie
 list-pairs-requires : tie.Need-list-pairs-requires
 list-pairs-requires c κs =
     let at-zero = c .before .before .before in
-    let start = at-zero .before .before .before .before .before .before in
+    let at-zero-part-arg = at-zero .before in
+    let start = at-zero-part-arg .before .before .before .before .before in
     (two-tables (start .pre), (list-empty (start .pre) (at-zero .zero-part .ensures), some-letters (start .pre)))
 
 returns : tie.Need-returns
 returns c =
     let at-list = c .before .before .before .before in
     let at-zero = at-list .before .before .before .before in
-    let start = at-zero .before .before .before .before .before .before in
+    let at-zero-part-arg = at-zero .before in
+    let start = at-zero-part-arg .before .before .before .before .before in
     too-many (start .pre) (at-zero .zero-part .ensures) _ (at-list .list-pairs .ensures) (c .enum-told .given .1)
 
 write-pairs-requires : tie.Need-write-pairs-requires
@@ -23,7 +25,8 @@ write-pairs-requires c κs =
     let at-count = c .before .before .before in
     let at-list = at-count .before .before .before .before in
     let at-zero = at-list .before .before .before .before in
-    let start = at-zero .before .before .before .before .before .before in
+    let at-zero-part-arg = at-zero .before in
+    let start = at-zero-part-arg .before .before .before .before .before in
     (two-tables (start .pre), write-place (start .pre) (at-zero .zero-part .ensures) _ (at-list .list-pairs .ensures) (at-count .count .given .1))
 
 returns-2 : tie.Need-returns-2
@@ -32,7 +35,8 @@ returns-2 c =
     let at-count = at-write .before .before .before .before in
     let at-list = at-count .before .before .before .before in
     let at-zero = at-list .before .before .before .before in
-    let start = at-zero .before .before .before .before .before .before in
+    let at-zero-part-arg = at-zero .before in
+    let start = at-zero-part-arg .before .before .before .before .before in
     pairs-combined (start .pre) (at-zero .zero-part .ensures) _ (at-list .list-pairs .ensures) (at-count .count .given .1) (at-write .write-pairs .ensures)
 
 pub combine-strong-spec : {M : Type 1} → statement M

@@ -10,7 +10,9 @@ returns c = letters-differ (c .before .before .before .before .before .pre) (c .
 
 decide-both-requires : tie.Need-decide-both-requires
 decide-both-requires c κs =
-    let p = c .before .before .before .before .before .before .pre .checked in
+    let at-if1 = c .before in
+    let start = at-if1 .before .before .before .before .before in
+    let p = start .pre .checked in
     (first-table _ _ _ p, (second-table _ _ _ p, (first-needs _ _ _ p, second-needs _ _ _ p)))
 
 returns-2 : tie.Need-returns-2
@@ -38,7 +40,8 @@ combine-strong-requires c κs =
 returns-4 : tie.Need-returns-4
 returns-4 c =
     let at-combine = c .before .before .before .before in
-    let at-decide = at-combine .before .before .before .before .before .before .before in
+    let at-combine-strong-arg = at-combine .before .before in
+    let at-decide = at-combine-strong-arg .before .before .before .before .before in
     let at-if1 = at-decide .before .before in
     let start = at-if1 .before .before .before .before .before in
     strong-combined (start .pre) (at-if1 .if1 .left) _ (at-decide .decide-both .ensures) (at-combine .combine-strong .ensures)

@@ -29,32 +29,44 @@ loop-holds c = each-none
 
 outcome-requires : tie.Need-outcome-requires Inv-loop μ-loop
 outcome-requires c κs =
-    let start = c .before .before .before .before .before .before .before in
-    (start .pre .0 .table, ((omega arith, least-power-idempotent (c .before .before .before .idempotent-power .ensures) .inside), start .pre .0 .room))
+    let at-idempotent-power = c .before .before .before in
+    let start = at-idempotent-power .before .before .before .before in
+    (start .pre .0 .table, ((omega arith, least-power-idempotent (at-idempotent-power .idempotent-power .ensures) .inside), start .pre .0 .room))
 
 mapped-requires-2 : tie.Need-mapped-requires-2 Inv-loop μ-loop
-mapped-requires-2 c κs = omega (arith, c .before .before .before .before .before .before .before .before .pre .0 .bytes)
+mapped-requires-2 c κs =
+    let at-idempotent-power = c .before .before .before .before in
+    let start = at-idempotent-power .before .before .before .before in
+    omega (arith, start .pre .0 .bytes)
 
 outcome-at-requires : tie.Need-outcome-at-requires Inv-loop μ-loop
 outcome-at-requires c κs =
-    let start = c .before .before .before .before .before .before .before .before .before in
+    let at-mapped = c .before .before .before .before in
+    let start = at-mapped .before .before .before .before .before in
     let start-small = mapped-small (start .pre .0) (omega arith) (c .mapped2 .ensures) in
-    let cycle-small = mapped-small (start .pre .0) (start .pre .1) (c .before .before .before .before .mapped .ensures) in
+    let cycle-small = mapped-small (start .pre .0) (start .pre .1) (at-mapped .mapped .ensures) in
     ((omega arith, omega arith), start .pre .0 .room)
 
 returns : tie.Need-returns Inv-loop μ-loop
 returns c =
-    let start = c .before .before .before .before .before .before .before .before .before .before .before in
+    let at-outcome = c .before .before .before in
+    let at-mapped = at-outcome .before .before .before in
+    let at-idempotent-power = at-mapped .before in
+    let start = at-idempotent-power .before .before .before .before in
     each-not (omega arith)
-    (outcome-differs (start .pre .0) (start .pre .1) (c .before .before .before .before .before .before .before .idempotent-power .ensures) _ (c .before .before .before .outcome .ensures)
-    (c .before .before .mapped2 .ensures) (c .before .before .before .before .before .before .mapped .ensures) (c .before .outcome-at .ensures) (c .if1 .taken))
+    (outcome-differs (start .pre .0) (start .pre .1) (at-idempotent-power .idempotent-power .ensures) _ (at-outcome .outcome .ensures)
+    (c .before .before .mapped2 .ensures) (at-mapped .mapped .ensures) (c .before .outcome-at .ensures) (c .if1 .taken))
 
 loop-again : tie.Need-loop-again Inv-loop μ-loop
 loop-again c =
-    let start = c .before .before .before .before .before .before .before .before .before .before .before in
-    each-more (c .before .before .before .before .before .loop .inv)
-    (outcome-kept (start .pre .0) (start .pre .1) (c .before .before .before .before .before .before .before .idempotent-power .ensures) _ (c .before .before .before .outcome .ensures)
-    (c .before .before .mapped2 .ensures) (c .before .before .before .before .before .before .mapped .ensures) (c .before .outcome-at .ensures) (c .if1 .left))
+    let at-outcome = c .before .before .before in
+    let at-loop = at-outcome .before .before in
+    let at-mapped = at-loop .before in
+    let at-idempotent-power = at-mapped .before in
+    let start = at-idempotent-power .before .before .before .before in
+    each-more (at-loop .loop .inv)
+    (outcome-kept (start .pre .0) (start .pre .1) (at-idempotent-power .idempotent-power .ensures) _ (at-outcome .outcome .ensures)
+    (c .before .before .mapped2 .ensures) (at-mapped .mapped .ensures) (c .before .outcome-at .ensures) (c .if1 .left))
 
 returns-2 : tie.Need-returns-2 Inv-loop μ-loop
 returns-2 c = each-all (c .before .loop .inv) (c .loop-test .left)

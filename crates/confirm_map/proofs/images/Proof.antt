@@ -23,7 +23,10 @@ image-requires : tie.Need-image-requires Inv-loop μ-loop
 image-requires c κs = image-place (c .before .before .before .before .before .pre .second-table) (omega arith)
 
 image-requires-2 : tie.Need-image-requires-2 Inv-loop μ-loop
-image-requires-2 c κs = image-place (c .before .before .before .before .before .before .pre .first-table) (omega arith)
+image-requires-2 c κs =
+    let at-loop = c .before .before in
+    let start = at-loop .before .before .before .before in
+    image-place (start .pre .first-table) (omega arith)
 
 mapped-requires : tie.Need-mapped-requires Inv-loop μ-loop
 mapped-requires c κs =

@@ -17,16 +17,19 @@ returns-2 c = not-onto (c .if2 .taken) (c .before .onto .ensures)
 
 products-requires : tie.Need-products-requires
 products-requires c κs =
-    let start = c .before .before .before .before .before .before .before in
-    map-needs (start .pre .0) (start .pre .1 .0) (start .pre .1 .1) (c .before .before .before .inside .ensures) (c .before .before .if1 .left)
+    let at-inside = c .before .before .before in
+    let start = at-inside .before .before .before .before in
+    map-needs (start .pre .0) (start .pre .1 .0) (start .pre .1 .1) (at-inside .inside .ensures) (c .before .before .if1 .left)
 
 returns-3 : tie.Need-returns-3
 returns-3 c = not-products (c .if3 .taken) (c .before .products .ensures)
 
 images-requires : tie.Need-images-requires
 images-requires c κs =
-    let start = c .before .before .before .before .before .before .before .before .before in
-    map-needs (start .pre .0) (start .pre .1 .0) (start .pre .1 .1) (c .before .before .before .before .before .inside .ensures) (c .before .before .before .before .if1 .left)
+    let at-if1 = c .before .before .before .before in
+    let at-inside = at-if1 .before in
+    let start = at-inside .before .before .before .before in
+    map-needs (start .pre .0) (start .pre .1 .0) (start .pre .1 .1) (at-inside .inside .ensures) (at-if1 .if1 .left)
 
 returns-4 : tie.Need-returns-4
 returns-4 c =

@@ -23,30 +23,47 @@ loop-holds : tie.Need-loop-holds Inv-loop μ-loop
 loop-holds c = each-none
 
 mapped-requires-2 : tie.Need-mapped-requires-2 Inv-loop μ-loop
-mapped-requires-2 c κs = omega (arith, c .before .before .before .before .before .before .pre .0 .bytes)
+mapped-requires-2 c κs =
+    let at-mapped = c .before .before in
+    let start = at-mapped .before .before .before .before in
+    omega (arith, start .pre .0 .bytes)
 
 product-requires : tie.Need-product-requires Inv-loop μ-loop
 product-requires c κs =
-    let start = c .before .before .before .before .before .before .before in
-    table-place (start .pre .0 .second-table) (mapped-below (start .pre .0) (start .pre .1) (c .before .before .before .mapped .ensures)) (mapped-below (start .pre .0) (c .before .loop-test .taken) (c .mapped2 .ensures))
+    let at-mapped = c .before .before .before in
+    let start = at-mapped .before .before .before .before in
+    table-place (start .pre .0 .second-table) (mapped-below (start .pre .0) (start .pre .1) (at-mapped .mapped .ensures)) (mapped-below (start .pre .0) (c .before .loop-test .taken) (c .mapped2 .ensures))
 
 product-requires-2 : tie.Need-product-requires-2 Inv-loop μ-loop
-product-requires-2 c κs = table-place (c .before .before .before .before .before .before .before .before .pre .0 .first-table) (c .before .before .before .before .before .before .before .before .pre .1) (c .before .before .loop-test .taken)
+product-requires-2 c κs =
+    let at-mapped = c .before .before .before .before in
+    let start = at-mapped .before .before .before .before in
+    table-place (start .pre .0 .first-table) (start .pre .1) (c .before .before .loop-test .taken)
 
 mapped-requires-3 : tie.Need-mapped-requires-3 Inv-loop μ-loop
 mapped-requires-3 c κs =
-    let start = c .before .before .before .before .before .before .before .before .before in
-    omega (arith, start .pre .0 .bytes, product-below (start .pre .0 .first-table) (start .pre .1) (c .before .before .before .loop-test .taken) (c .product2 .ensures))
+    let at-loop-test = c .before .before .before in
+    let at-mapped = at-loop-test .before .before in
+    let start = at-mapped .before .before .before .before in
+    omega (arith, start .pre .0 .bytes, product-below (start .pre .0 .first-table) (start .pre .1) (at-loop-test .loop-test .taken) (c .product2 .ensures))
 
 returns : tie.Need-returns Inv-loop μ-loop
 returns c =
-    each-not (c .before .before .before .before .before .loop-test .taken)
-    (product-differs (c .before .before .before .before .before .before .before .mapped .ensures) (c .before .before .before .before .mapped2 .ensures) (c .before .before .before .product .ensures) (c .before .before .product2 .ensures) (c .before .mapped3 .ensures) (c .if1 .taken))
+    let at-product = c .before .before .before in
+    let at-mapped2 = at-product .before in
+    let at-loop-test = at-mapped2 .before in
+    let at-mapped = at-loop-test .before .before in
+    each-not (at-loop-test .loop-test .taken)
+    (product-differs (at-mapped .mapped .ensures) (at-mapped2 .mapped2 .ensures) (at-product .product .ensures) (c .before .before .product2 .ensures) (c .before .mapped3 .ensures) (c .if1 .taken))
 
 loop-again : tie.Need-loop-again Inv-loop μ-loop
 loop-again c =
-    each-more (c .before .before .before .before .before .before .loop .inv)
-    (product-carried (c .before .before .before .before .before .before .before .mapped .ensures) (c .before .before .before .before .mapped2 .ensures) (c .before .before .before .product .ensures) (c .before .before .product2 .ensures) (c .before .mapped3 .ensures) (c .if1 .left))
+    let at-product = c .before .before .before in
+    let at-mapped2 = at-product .before in
+    let at-loop = at-mapped2 .before .before in
+    let at-mapped = at-loop .before in
+    each-more (at-loop .loop .inv)
+    (product-carried (at-mapped .mapped .ensures) (at-mapped2 .mapped2 .ensures) (at-product .product .ensures) (c .before .before .product2 .ensures) (c .before .mapped3 .ensures) (c .if1 .left))
 
 returns-2 : tie.Need-returns-2 Inv-loop μ-loop
 returns-2 c = each-all (c .before .loop .inv) (c .loop-test .left)

@@ -11,7 +11,10 @@ returns : tie.Need-returns
 returns c = letters-differ _ (c .before .before .before .before .before .pre) (c .if1 .taken)
 
 returns-2 : tie.Need-returns-2
-returns-2 c = length-differs _ (c .before .before .before .before .before .before .pre) (c .if2 .taken)
+returns-2 c =
+    let at-if1 = c .before in
+    let start = at-if1 .before .before .before .before .before in
+    length-differs _ (start .pre) (c .if2 .taken)
 
 maps-onto-requires : tie.Need-maps-onto-requires
 maps-onto-requires c κs =
@@ -27,30 +30,35 @@ returns-3 c =
 
 refine-requires : tie.Need-refine-requires
 refine-requires c κs =
-    let start = c .before .before .before .before .before .before .before .before .before in
+    let at-if1 = c .before .before .before .before in
+    let start = at-if1 .before .before .before .before .before in
     (second-read (start .pre), (second-law (start .pre), start .pre .room))
 
 each-alone-requires : tie.Need-each-alone-requires
 each-alone-requires c κs =
     let at-refine = c .before .before .before in
-    let start = at-refine .before .before .before .before .before .before .before .before .before .before in
+    let at-if1 = at-refine .before .before .before .before .before in
+    let start = at-if1 .before .before .before .before .before in
     (omega (arith, second-read (start .pre) .small), unchanged-room (at-refine .refine .ensures .kept) (start .pre .room))
 
 returns-4 : tie.Need-returns-4
 returns-4 c =
     let at-alone = c .before in
     let at-refine = at-alone .before .before .before .before in
-    let start = at-refine .before .before .before .before .before .before .before .before .before .before in
+    let at-if1 = at-refine .before .before .before .before .before in
+    let start = at-if1 .before .before .before .before .before in
     not-alone (start .pre) (at-refine .refine .ensures) (at-alone .each-alone .ensures) (c .if4 .taken)
 
 grades-kept-requires : tie.Need-grades-kept-requires
 grades-kept-requires c κs =
-    let at-refine = c .before .before .before .before .before .before in
+    let at-scratch = c .before .before .before .before .before in
+    let at-refine = at-scratch .before in
     let at-if3 = at-refine .before .before in
-    let at-if2 = at-if3 .before .before in
+    let at-maps-onto = at-if3 .before in
+    let at-if2 = at-maps-onto .before in
     let at-if1 = at-if2 .before in
     let start = at-if1 .before .before .before .before .before in
-    grades-place _ (start .pre) (at-if1 .if1 .left) (at-if3 .before .maps-onto .ensures) (at-if3 .if3 .left) (at-if2 .if2 .left) (at-refine .refine .ensures)
+    grades-place _ (start .pre) (at-if1 .if1 .left) (at-maps-onto .maps-onto .ensures) (at-if3 .if3 .left) (at-if2 .if2 .left) (at-refine .refine .ensures)
 
 returns-5 : tie.Need-returns-5
 returns-5 c =

@@ -13,20 +13,23 @@ decide-both-requires c κs =
 returns : tie.Need-returns
 returns c =
     let at-decide = c .before .before .before .before in
-    let start = at-decide .before .before .before .before .before .before in
+    let at-decide-both-arg = at-decide .before in
+    let start = at-decide-both-arg .before .before .before .before .before in
     first-weak (start .pre) _ (at-decide .decide-both .ensures) (c .enum-told .given .1)
 
 returns-2 : tie.Need-returns-2
 returns-2 c =
     let at-decide = c .before .before .before .before in
-    let start = at-decide .before .before .before .before .before .before in
+    let at-decide-both-arg = at-decide .before in
+    let start = at-decide-both-arg .before .before .before .before .before in
     second-weak (start .pre) _ (at-decide .decide-both .ensures) (c .enum-told2 .given .1)
 
 reduces-requires : tie.Need-reduces-requires
 reduces-requires c κs =
     let at-strong = c .before in
     let at-decide = at-strong .before .before .before .before in
-    let start = at-decide .before .before .before .before .before .before in
+    let at-decide-both-arg = at-decide .before in
+    let start = at-decide-both-arg .before .before .before .before .before in
     strong-place (start .pre) _ (at-decide .decide-both .ensures) (at-strong .enum-told3 .given .1)
 
 returns-3 : tie.Need-returns-3
@@ -34,7 +37,8 @@ returns-3 c =
     let at-reduces = c .before .before .before in
     let at-strong = at-reduces .before .before in
     let at-decide = at-strong .before .before .before .before in
-    let start = at-decide .before .before .before .before .before .before in
+    let at-decide-both-arg = at-decide .before in
+    let start = at-decide-both-arg .before .before .before .before .before in
     said-yes (start .pre) _ (at-decide .decide-both .ensures) (at-strong .enum-told3 .given .1) (at-reduces .reduces .ensures) (c .if1 .taken)
 
 returns-4 : tie.Need-returns-4
@@ -42,7 +46,8 @@ returns-4 c =
     let at-reduces = c .before .before .before in
     let at-strong = at-reduces .before .before in
     let at-decide = at-strong .before .before .before .before in
-    let start = at-decide .before .before .before .before .before .before in
+    let at-decide-both-arg = at-decide .before in
+    let start = at-decide-both-arg .before .before .before .before .before in
     said-no (start .pre) _ (at-decide .decide-both .ensures) (at-strong .enum-told3 .given .1) (at-reduces .reduces .ensures) (c .if1 .left)
 
 pub confirm-checked-spec : {M : Type 1} → statement M

@@ -27,16 +27,21 @@ returns-3 c =
 
 returns-4 : tie.Need-returns-4
 returns-4 c =
-    let last = c .before .before .before .before .before .before in
-    let first = last .before .before in
+    let at-repeats = c .before .before .before .before in
+    let at-decimal2 = at-repeats .before in
+    let last = at-decimal2 .before in
+    let at-part = last .before in
+    let first = at-part .before in
+    let at-byte-at = first .before in
+    let at-if1 = at-byte-at .before in
     put-repeated _
-    (first .before .before .if1 .left)
-    (first .before .byte-at .ensures)
+    (at-if1 .if1 .left)
+    (at-byte-at .byte-at .ensures)
     (first .if2 .left)
-    (last .before .part .ensures)
+    (at-part .part .ensures)
     (last .if3 .left)
-    (c .before .before .before .before .before .decimal2 .ensures)
-    (c .before .before .before .before .repeats .ensures)
+    (at-decimal2 .decimal2 .ensures)
+    (at-repeats .repeats .ensures)
     (c .before .before .entries2 .ensures)
 
 pub put-spec : {M : Type 1} → statement M

@@ -12,8 +12,12 @@ returns-2 c = unmarked-odd _ _ (c .if2 .taken) (c .before .before .before .pre)
 
 returns-3 : tie.Need-returns-3
 returns-3 c =
-    let tests = c .before .before .before .before .before .before .before .before .before .before .before .before in
-    marked-all _ _ (tests .before .if1 .left) (tests .if2 .left) (c .before .before .before .before .before .before .before .before .before .before .store .ensures) (c .before .before .before .before .before .before .store2 .ensures)
+    let at-out2 = c .before .before .before .before .before in
+    let at-store2 = at-out2 .before in
+    let at-store = at-store2 .before .before .before .before in
+    let tests = at-store .before .before in
+    let at-if1 = tests .before in
+    marked-all _ _ (at-if1 .if1 .left) (tests .if2 .left) (at-store .store .ensures) (at-store2 .store2 .ensures)
     (c .before .before .store3 .ensures)
 
 pub store-mark-spec : {M : Type 1} → statement M

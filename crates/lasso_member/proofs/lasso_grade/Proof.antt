@@ -6,7 +6,9 @@ use Rattle.lasso_member.proofs.lasso_grade.Tie as tie
 
 grade-of-requires : tie.Need-grade-of-requires
 grade-of-requires c κs =
-    let p = c .before .before .before .before .before .before .pre in
+    let at-if1 = c .before in
+    let start = at-if1 .before .before .before .before .before in
+    let p = start .pre in
     (p .0, (p .1 .0, (p .1 .1 .1 .0, (p .1 .1 .1 .0, p .1 .1 .1 .1))))
 
 returns : tie.Need-returns
@@ -16,8 +18,10 @@ returns c =
 
 grade-of-requires-2 : tie.Need-grade-of-requires-2
 grade-of-requires-2 c κs =
-    let p = c .before .before .before .before .before .before .pre in
-    (p .0, (p .1 .0, (start-itself _ _ (c .before .if1 .left) (p .1 .1 .0), (p .1 .1 .1 .0, p .1 .1 .1 .1))))
+    let at-if1 = c .before in
+    let start = at-if1 .before .before .before .before .before in
+    let p = start .pre in
+    (p .0, (p .1 .0, (start-itself _ _ (at-if1 .if1 .left) (p .1 .1 .0), (p .1 .1 .1 .0, p .1 .1 .1 .1))))
 
 returns-2 : tie.Need-returns-2
 returns-2 c =

@@ -20,13 +20,17 @@ cast-product c = fits-8-64 (c .shared-slice-known4 .given _)
 
 product-requires-2 : tie.Need-product-requires-2
 product-requires-2 c κs =
-    let p = c .before .before .before .before .before .before .pre in
+    let at-product = c .before .before in
+    let start = at-product .before .before .before .before in
+    let p = start .pre in
     table-place (p .0) (end-behind (p .1 .0) _ (c .before .if1 .taken)) (p .1 .0 .beginning-inside _ (p .1 .1 .1))
 
 returns : tie.Need-returns
 returns c =
-    let p = c .before .before .before .before .before .before .before .pre in
-    cut-inner (p .0) (p .1 .0) (p .1 .1 .0) (p .1 .1 .1) (c .before .before .before .product .ensures) (c .before .before .if1 .taken) (c .product2 .ensures)
+    let at-product = c .before .before .before in
+    let start = at-product .before .before .before .before in
+    let p = start .pre in
+    cut-inner (p .0) (p .1 .0) (p .1 .1 .0) (p .1 .1 .1) (at-product .product .ensures) (c .before .before .if1 .taken) (c .product2 .ensures)
 
 returns-2 : tie.Need-returns-2
 returns-2 c =

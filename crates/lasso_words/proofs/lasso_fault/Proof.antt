@@ -17,22 +17,34 @@ returns-3 c = cycle-out _ _ _ (record { some = omega arith; short = omega arith 
 
 returns-4 : tie.Need-returns-4
 returns-4 c =
-    let a = c .before .before .before .before .before .before .before .before .before .args in
+    let at-first-out = c .before .before .before in
+    let at-if1 = at-first-out .before .before .before in
+    let start = at-if1 .before .before .before in
+    let a = start .args in
     start-foreign _ _ _ (record { some = omega arith; short = omega arith }) (record { some = omega arith; short = omega arith })
-    (foreign-at (a .k) (a .u .now) (c .before .before .before .first-out .result) (c .before .before .before .first-out .ensures) (c .before .i .given .1))
+    (foreign-at (a .k) (a .u .now) (at-first-out .first-out .result) (at-first-out .first-out .ensures) (c .before .i .given .1))
 
 returns-5 : tie.Need-returns-5
 returns-5 c =
-    let a = c .before .before .before .before .before .before .before .before .before .before .before .before .args in
+    let at-first-out2 = c .before .before .before in
+    let at-enum-told = at-first-out2 .before in
+    let at-first-out = at-enum-told .before .before in
+    let at-if1 = at-first-out .before .before .before in
+    let start = at-if1 .before .before .before in
+    let a = start .args in
     cycle-foreign _ _ _ (record { some = omega arith; short = omega arith }) (record { some = omega arith; short = omega arith })
-    (letters-below (a .k) (a .u .now) (c .before .before .before .before .before .before .first-out .result) (c .before .before .before .before .before .before .first-out .ensures) (c .before .before .before .before .enum-told .given .1))
-    (foreign-at (a .k) (a .v .now) (c .before .before .before .first-out2 .result) (c .before .before .before .first-out2 .ensures) (c .before .i2 .given .1))
+    (letters-below (a .k) (a .u .now) (at-first-out .first-out .result) (at-first-out .first-out .ensures) (at-enum-told .enum-told .given .1))
+    (foreign-at (a .k) (a .v .now) (at-first-out2 .first-out2 .result) (at-first-out2 .first-out2 .ensures) (c .before .i2 .given .1))
 
 returns-6 : tie.Need-returns-6
 returns-6 c =
-    let a = c .before .before .before .before .before .before .before .before .before .before .before .args in
+    let at-enum-told = c .before .before .before in
+    let at-first-out = at-enum-told .before .before in
+    let at-if1 = at-first-out .before .before .before in
+    let start = at-if1 .before .before .before in
+    let a = start .args in
     good-lasso _ _ _ (record { some = omega arith; short = omega arith }) (record { some = omega arith; short = omega arith })
-    (letters-below (a .k) (a .u .now) (c .before .before .before .before .before .first-out .result) (c .before .before .before .before .before .first-out .ensures) (c .before .before .before .enum-told .given .1))
+    (letters-below (a .k) (a .u .now) (at-first-out .first-out .result) (at-first-out .first-out .ensures) (at-enum-told .enum-told .given .1))
     (letters-below (a .k) (a .v .now) (c .before .before .first-out2 .result) (c .before .before .first-out2 .ensures) (c .enum-told2 .given .1))
 
 pub lasso-fault-spec : {M : Type 1} → statement M

@@ -5,10 +5,16 @@ use Rattle.mark_complement.proofs.write_marked.Statement.{statement}
 use Rattle.mark_complement.proofs.write_marked.Tie as tie
 
 write-rule-requires : tie.Need-write-rule-requires
-write-rule-requires c κs = rule-place (c .before .before .before .before .before .before .before .pre .0) (c .before .before .before .before .before .before .before .pre .1)
+write-rule-requires c κs =
+    let at-table = c .before .before .before in
+    let start = at-table .before .before .before .before in
+    rule-place (start .pre .0) (start .pre .1)
 
 returns : tie.Need-returns
-returns c = tables-written (c .before .before .before .before .before .before .before .before .before .before .pre .0) (c .before .before .before .before .before .before .before .before .before .before .pre .1) (c .before .before .write-rule .ensures)
+returns c =
+    let at-images = c .before .before .before .before .before in
+    let start = at-images .before .before .before .before .before in
+    tables-written (start .pre .0) (start .pre .1) (c .before .before .write-rule .ensures)
 
 pub write-marked-spec : {M : Type 1} → statement M
 write-marked-spec =

@@ -28,22 +28,40 @@ add-out : tie.Need-add-out Inv-loop μ-loop
 add-out c = omega (arith, still-few (c .before .before .before .before .before .pre) (c .before .before .loop .inv))
 
 shared-slice-read-out : tie.Need-shared-slice-read-out Inv-loop μ-loop
-shared-slice-read-out c = omega (arith, still-few (c .before .before .before .before .before .before .pre) (c .before .before .before .loop .inv), c .before .before .before .before .before .before .pre .room)
+shared-slice-read-out c =
+    let at-loop = c .before .before .before in
+    let start = at-loop .before .before .before in
+    omega (arith, still-few (start .pre) (at-loop .loop .inv), start .pre .room)
 
 slice-write-out : tie.Need-slice-write-out Inv-loop μ-loop
-slice-write-out c = letter-room (c .before .before .before .before .before .before .pre) (c .before .before .before .loop .inv) (c .before .if1 .taken)
+slice-write-out c =
+    let at-loop = c .before .before .before in
+    let start = at-loop .before .before .before in
+    letter-room (start .pre) (at-loop .loop .inv) (c .before .if1 .taken)
 
 add-letters : tie.Need-add-letters Inv-loop μ-loop
-add-letters c = omega (arith, c .before .before .before .loop .inv .short, c .before .before .before .before .before .before .pre .few)
+add-letters c =
+    let at-loop = c .before .before .before in
+    let start = at-loop .before .before .before in
+    omega (arith, at-loop .loop .inv .short, start .pre .few)
 
 parent-requires : tie.Need-parent-requires Inv-loop μ-loop
-parent-requires c κs = (c .before .before .before .before .before .before .pre .room, still-few (c .before .before .before .before .before .before .pre) (c .before .before .before .loop .inv))
+parent-requires c κs =
+    let at-loop = c .before .before .before in
+    let start = at-loop .before .before .before in
+    (start .pre .room, still-few (start .pre) (at-loop .loop .inv))
 
 loop-less : tie.Need-loop-less Inv-loop μ-loop
-loop-less c = omega (arith, parent-less (c .before .before .before .before .before .before .before .pre) (c .before .before .before .before .loop .inv) (c .before .before .if1 .taken), c .parent .ensures)
+loop-less c =
+    let at-loop = c .before .before .before .before in
+    let start = at-loop .before .before .before in
+    omega (arith, parent-less (start .pre) (at-loop .loop .inv) (c .before .before .if1 .taken), c .parent .ensures)
 
 loop-again : tie.Need-loop-again Inv-loop μ-loop
-loop-again c = cycle-more (c .before .before .before .before .before .before .before .pre) (c .before .before .before .before .loop .inv) (c .before .before .if1 .taken) (c .parent .ensures)
+loop-again c =
+    let at-loop = c .before .before .before .before in
+    let start = at-loop .before .before .before in
+    cycle-more (start .pre) (at-loop .loop .inv) (c .before .before .if1 .taken) (c .parent .ensures)
 
 same-length : tie.Need-same-length Inv-loop μ-loop
 same-length c = c .before .before .loop .inv .same-length

@@ -54,7 +54,10 @@ same-length-2 : tie.Need-same-length-2 Inv-loop μ-loop
 same-length-2 c = returns-2 c .same-length
 
 loop-less : tie.Need-loop-less Inv-loop μ-loop
-loop-less c = omega (arith, c .before .before .before .before .before .before .before .highest-below .ensures .less)
+loop-less c =
+    let at-first-escape-arg = c .before .before .before .before .before in
+    let at-highest-below = at-first-escape-arg .before .before in
+    omega (arith, at-highest-below .highest-below .ensures .less)
 
 loop-again : tie.Need-loop-again Inv-loop μ-loop
 loop-again c =

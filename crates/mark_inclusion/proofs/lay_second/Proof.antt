@@ -10,14 +10,17 @@ zero-part-requires c κs = (omega arith, omega (arith, c .before .before .before
 
 second-marks-requires : tie.Need-second-marks-requires
 second-marks-requires c κs =
-    let start = c .before .before .before .before .before .before .before .before in
-    (start .pre .0, (start .pre .1 .0, second-space (start .pre .1 .1) (c .before .before .before .zero-part .ensures)))
+    let at-zero-part = c .before .before .before in
+    let start = at-zero-part .before .before .before .before .before in
+    (start .pre .0, (start .pre .1 .0, second-space (start .pre .1 .1) (at-zero-part .zero-part .ensures)))
 
 returns : tie.Need-returns
 returns c =
-    let start = c .before .before .before .before .before .before .before .before .before .before .before in
+    let at-scratch = c .before .before .before .before .before in
+    let at-zero-part = at-scratch .before in
+    let start = at-zero-part .before .before .before .before .before in
     let second = c .before .before .second-marks in
-    (second .ensures .0, laid-answer (start .pre .1 .1) (c .before .before .before .before .before .before .zero-part .ensures) _ (start .pre .0 .small) _ (second .result) (second .ensures .1))
+    (second .ensures .0, laid-answer (start .pre .1 .1) (at-zero-part .zero-part .ensures) _ (start .pre .0 .small) _ (second .result) (second .ensures .1))
 
 pub lay-second-spec : {M : Type 1} → statement M
 lay-second-spec =

@@ -41,7 +41,10 @@ list-value-requires c κs =
     }
 
 add-c : tie.Need-add-c Inv-loop μ-loop
-add-c c = omega (arith, c .before .before .before .before .before .before .before .before .before .pre .0 .small)
+add-c c =
+    let at-loop-test = c .before .before .before .before .before in
+    let start = at-loop-test .before .before .before .before in
+    omega (arith, start .pre .0 .small)
 
 loop-again : tie.Need-loop-again Inv-loop μ-loop
 loop-again c =

@@ -10,34 +10,45 @@ zero-part-requires c κs = (omega arith, omega (arith, c .before .before .before
 
 close-requires : tie.Need-close-requires
 close-requires c κs =
-    let start = c .before .before .before .before .before .before .before in
-    (start .pre .0, (start .pre .1 .lawful, closure-room (start .pre .0 .small) (start .pre .1) (c .before .before .before .zero-part .ensures)))
+    let at-zero-part = c .before .before .before in
+    let start = at-zero-part .before .before .before .before in
+    (start .pre .0, (start .pre .1 .lawful, closure-room (start .pre .0 .small) (start .pre .1) (at-zero-part .zero-part .ensures)))
 
 returns : tie.Need-returns
 returns c =
-    let start = c .before .before .before .before .before .before .before .before .before .before .before in
-    decided-closed (start .pre .0 .small) (start .pre .1) (c .before .before .before .before .before .before .before .zero-part .ensures) (c .before .before .before .close .ensures) (c .if1 .taken)
+    let at-close = c .before .before .before in
+    let at-zero-part = at-close .before .before .before .before in
+    let start = at-zero-part .before .before .before .before in
+    decided-closed (start .pre .0 .small) (start .pre .1) (at-zero-part .zero-part .ensures) (at-close .close .ensures) (c .if1 .taken)
 
 same-length : tie.Need-same-length
 same-length c = returns c .same-length
 
 highest-escape-requires : tie.Need-highest-escape-requires
 highest-escape-requires c κs =
-    let start = c .before .before .before .before .before .before .before .before .before .before .before .before in
-    (start .pre .0, search-place (start .pre .0 .small) (start .pre .1) (c .before .before .before .before .before .before .before .before .zero-part .ensures) (c .before .before .before .before .close .ensures))
+    let at-close = c .before .before .before .before in
+    let at-zero-part = at-close .before .before .before .before in
+    let start = at-zero-part .before .before .before .before in
+    (start .pre .0, search-place (start .pre .0 .small) (start .pre .1) (at-zero-part .zero-part .ensures) (at-close .close .ensures))
 
 returns-2 : tie.Need-returns-2
 returns-2 c =
-    let start = c .before .before .before .before .before .before .before .before .before .before .before .before .before .before .before .before .before in
-    decided-weak (start .pre .0 .small) (start .pre .1) (c .before .before .before .before .before .before .before .before .before .before .before .before .before .zero-part .ensures) (c .before .before .before .before .before .before .before .before .before .close .ensures) (c .before .before .before .before .highest-escape .ensures) (c .enum-told .given .1)
+    let at-highest-escape = c .before .before .before .before in
+    let at-close = at-highest-escape .before .before .before .before .before in
+    let at-zero-part = at-close .before .before .before .before in
+    let start = at-zero-part .before .before .before .before in
+    decided-weak (start .pre .0 .small) (start .pre .1) (at-zero-part .zero-part .ensures) (at-close .close .ensures) (at-highest-escape .highest-escape .ensures) (c .enum-told .given .1)
 
 same-length-2 : tie.Need-same-length-2
 same-length-2 c = returns-2 c .same-length
 
 returns-3 : tie.Need-returns-3
 returns-3 c =
-    let start = c .before .before .before .before .before .before .before .before .before .before .before .before .before .before .before .before .before in
-    decided-strong (start .pre .0 .small) (start .pre .1) (c .before .before .before .before .before .before .before .before .before .before .before .before .before .zero-part .ensures) (c .before .before .before .before .before .before .before .before .before .close .ensures) (c .before .before .before .before .highest-escape .ensures) (c .enum-told2 .given .1)
+    let at-highest-escape = c .before .before .before .before in
+    let at-close = at-highest-escape .before .before .before .before .before in
+    let at-zero-part = at-close .before .before .before .before in
+    let start = at-zero-part .before .before .before .before in
+    decided-strong (start .pre .0 .small) (start .pre .1) (at-zero-part .zero-part .ensures) (at-close .close .ensures) (at-highest-escape .highest-escape .ensures) (c .enum-told2 .given .1)
 
 same-length-3 : tie.Need-same-length-3
 same-length-3 c = returns-3 c .same-length

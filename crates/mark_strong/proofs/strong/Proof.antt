@@ -8,13 +8,27 @@ returns : tie.Need-returns
 returns c = strong-refused _ _ (checked-refused 1 _ _ _ _ (c .before .before .before .before .before .check .ensures) (c .before .refusal .given .1))
 
 decide-requires : tie.Need-decide-requires
-decide-requires c κs = let p = checked-rule 1 _ _ _ _ (c .before .before .before .before .before .before .check .ensures) (c .before .before .shape .given .1) in (checked-table 1 _ _ p, decide-place 1 _ _ p)
+decide-requires c κs =
+    let at-scratch = c .before .before .before .before .before in
+    let at-check = at-scratch .before in
+    let p = checked-rule 1 _ _ _ _ (at-check .check .ensures) (c .before .before .shape .given .1) in
+    (checked-table 1 _ _ p, decide-place 1 _ _ p)
 
 returns-2 : tie.Need-returns-2
-returns-2 c = says-strong _ _ (checked-rule 1 _ _ _ _ (c .before .before .before .before .before .before .before .before .before .before .before .before .before .before .check .ensures) (c .before .before .before .before .before .before .before .before .before .before .shape .given .1)) (c .before .before .before .before .before .before .before .decide .ensures) _ (c .before .before .before .zero .ensures) (c .if1 .taken)
+returns-2 c =
+    let at-zero = c .before .before .before in
+    let at-decide = at-zero .before .before .before .before in
+    let at-shape = at-decide .before .before .before in
+    let at-check = at-shape .before .before .before .before in
+    says-strong _ _ (checked-rule 1 _ _ _ _ (at-check .check .ensures) (at-shape .shape .given .1)) (at-decide .decide .ensures) _ (at-zero .zero .ensures) (c .if1 .taken)
 
 returns-3 : tie.Need-returns-3
-returns-3 c = says-weak _ _ (checked-rule 1 _ _ _ _ (c .before .before .before .before .before .before .before .before .before .before .before .before .before .before .check .ensures) (c .before .before .before .before .before .before .before .before .before .before .shape .given .1)) (c .before .before .before .before .before .before .before .decide .ensures) _ (c .before .before .before .zero .ensures) (c .if1 .left)
+returns-3 c =
+    let at-zero = c .before .before .before in
+    let at-decide = at-zero .before .before .before .before in
+    let at-shape = at-decide .before .before .before in
+    let at-check = at-shape .before .before .before .before in
+    says-weak _ _ (checked-rule 1 _ _ _ _ (at-check .check .ensures) (at-shape .shape .given .1)) (at-decide .decide .ensures) _ (at-zero .zero .ensures) (c .if1 .left)
 
 pub strong-spec : {M : Type 1} → statement M
 strong-spec =

@@ -7,19 +7,29 @@ use Rattle.monitor_judging.proofs.judge.Tie as tie
 
 values-grade-requires : tie.Need-values-grade-requires
 values-grade-requires c κs =
-    let b = c .before .before .before .before .before .before .before .pre in
-    (b .0, (b .1 .0 .lawful, (b .1 .1, look-room (b .1 .0) (b .1 .1 .0) (b .1 .1 .1) (c .before .before .before .decide .ensures))))
+    let at-decide = c .before .before .before in
+    let start = at-decide .before .before .before .before in
+    let b = start .pre in
+    (b .0, (b .1 .0 .lawful, (b .1 .1, look-room (b .1 .0) (b .1 .1 .0) (b .1 .1 .1) (at-decide .decide .ensures))))
 
 returns : tie.Need-returns
 returns c =
-    let b = c .before .before .before .before .before .before .before .before .before .before .before .before .before .pre .1 in
-    judged-weak (b .0) (b .1 .0) (b .1 .1) (c .before .before .before .before .before .before .before .before .before .decide .ensures) (c .before .before .before .zero .ensures) (not-true _ (c .if1 .taken))
+    let at-zero = c .before .before .before in
+    let at-scratch = at-zero .before .before .before .before .before in
+    let at-decide = at-scratch .before in
+    let start = at-decide .before .before .before .before in
+    let b = start .pre .1 in
+    judged-weak (b .0) (b .1 .0) (b .1 .1) (at-decide .decide .ensures) (at-zero .zero .ensures) (not-true _ (c .if1 .taken))
 
 returns-2 : tie.Need-returns-2
 returns-2 c =
-    let b = c .before .before .before .before .before .before .before .before .before .before .before .before .before .pre .1 in
-    let looked = c .before .before .before .before .before .values-grade .ensures in
-    judged-decided (b .0) (b .1 .0) (b .1 .1) (c .before .before .before .before .before .before .before .before .before .decide .ensures) (looked .0) (not-false _ (c .if1 .left)) (looked .1) (c .before .before .before .zero .ensures)
+    let at-zero = c .before .before .before in
+    let at-values-grade = at-zero .before .before in
+    let at-decide = at-values-grade .before .before .before .before in
+    let start = at-decide .before .before .before .before in
+    let b = start .pre .1 in
+    let looked = at-values-grade .values-grade .ensures in
+    judged-decided (b .0) (b .1 .0) (b .1 .1) (at-decide .decide .ensures) (looked .0) (not-false _ (c .if1 .left)) (looked .1) (at-zero .zero .ensures)
 
 pub judge-spec : {M : Type 1} → statement M
 judge-spec =

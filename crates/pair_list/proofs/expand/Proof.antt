@@ -19,13 +19,23 @@ try-letter-requires : tie.Need-try-letter-requires Inv-loop μ-loop
 try-letter-requires c κs = (c .before .before .loop .inv .tables, (c .before .before .loop .inv .trying, c .before .loop-test .taken))
 
 same-length : tie.Need-same-length Inv-loop μ-loop
-same-length c = expanding-full (c .before .before .before .before .before .before .before .loop .inv) (c .before .before .before .before .try-letter .ensures) (c .enum-told .given .1) .kept .same-length
+same-length c =
+    let at-try-letter = c .before .before .before .before in
+    let at-loop = at-try-letter .before .before .before in
+    expanding-full (at-loop .loop .inv) (at-try-letter .try-letter .ensures) (c .enum-told .given .1) .kept .same-length
 
 returns : tie.Need-returns Inv-loop μ-loop
-returns c = expanding-full (c .before .before .before .before .before .before .before .loop .inv) (c .before .before .before .before .try-letter .ensures) (c .enum-told .given .1)
+returns c =
+    let at-try-letter = c .before .before .before .before in
+    let at-loop = at-try-letter .before .before .before in
+    expanding-full (at-loop .loop .inv) (at-try-letter .try-letter .ensures) (c .enum-told .given .1)
 
 loop-again : tie.Need-loop-again Inv-loop μ-loop
-loop-again c = expanding-next (c .before .before .before .before .before .before .before .before .loop .inv) (c .before .before .before .before .before .before .before .loop-test .taken) (c .before .before .before .before .before .try-letter .ensures) (c .before .c .given .1)
+loop-again c =
+    let at-try-letter = c .before .before .before .before .before in
+    let at-loop-test = at-try-letter .before .before in
+    let at-loop = at-loop-test .before in
+    expanding-next (at-loop .loop .inv) (at-loop-test .loop-test .taken) (at-try-letter .try-letter .ensures) (c .before .c .given .1)
 
 same-length-2 : tie.Need-same-length-2 Inv-loop μ-loop
 same-length-2 c = c .before .loop .inv .kept .same-length

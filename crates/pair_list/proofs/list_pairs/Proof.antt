@@ -20,19 +20,36 @@ expand-requires : tie.Need-expand-requires Inv-loop μ-loop
 expand-requires c κs = (c .before .before .loop .inv .tables, listing-try (c .before .before .loop .inv) (c .before .loop-test .taken))
 
 same-length : tie.Need-same-length Inv-loop μ-loop
-same-length c = listing-full (c .before .before .before .before .before .before .before .loop .inv) (c .before .before .before .before .expand .ensures) (c .enum-told .given .1) .kept .same-length
+same-length c =
+    let at-expand = c .before .before .before .before in
+    let at-loop = at-expand .before .before .before in
+    listing-full (at-loop .loop .inv) (at-expand .expand .ensures) (c .enum-told .given .1) .kept .same-length
 
 returns : tie.Need-returns Inv-loop μ-loop
-returns c = listing-full (c .before .before .before .before .before .before .before .loop .inv) (c .before .before .before .before .expand .ensures) (c .enum-told .given .1)
+returns c =
+    let at-expand = c .before .before .before .before in
+    let at-loop = at-expand .before .before .before in
+    listing-full (at-loop .loop .inv) (at-expand .expand .ensures) (c .enum-told .given .1)
 
 add-from : tie.Need-add-from Inv-loop μ-loop
-add-from c = omega (arith, c .before .before .before .before .before .before .before .loop-test .taken, listing-few (c .before .before .before .before .before .before .before .before .loop .inv))
+add-from c =
+    let at-expand = c .before .before .before .before .before in
+    let at-loop-test = at-expand .before .before in
+    let at-loop = at-loop-test .before in
+    omega (arith, at-loop-test .loop-test .taken, listing-few (at-loop .loop .inv))
 
 loop-less : tie.Need-loop-less Inv-loop μ-loop
-loop-less c = omega (arith, c .before .before .before .before .before .before .before .loop-test .taken, listing-few (c .before .before .before .before .before .before .before .before .loop .inv))
+loop-less c =
+    let at-expand = c .before .before .before .before .before in
+    let at-loop-test = at-expand .before .before in
+    let at-loop = at-loop-test .before in
+    omega (arith, at-loop-test .loop-test .taken, listing-few (at-loop .loop .inv))
 
 loop-again : tie.Need-loop-again Inv-loop μ-loop
-loop-again c = listing-next (c .before .before .before .before .before .before .before .before .loop .inv) (c .before .before .before .before .before .expand .ensures) (c .before .c .given .1)
+loop-again c =
+    let at-expand = c .before .before .before .before .before in
+    let at-loop = at-expand .before .before .before in
+    listing-next (at-loop .loop .inv) (at-expand .expand .ensures) (c .before .c .given .1)
 
 same-length-2 : tie.Need-same-length-2 Inv-loop μ-loop
 same-length-2 c = c .before .loop .inv .kept .same-length

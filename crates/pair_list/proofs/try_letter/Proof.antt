@@ -8,13 +8,25 @@ step-requires : tie.Need-step-requires
 step-requires c κs = left-place (c .before .before .before .before .before .pre .0) (c .before .before .before .before .before .pre .1 .0) (c .before .before .before .before .before .pre .1 .1)
 
 step-requires-2 : tie.Need-step-requires-2
-step-requires-2 c κs = right-place (c .before .before .before .before .before .before .before .before .pre .0) (c .before .before .before .before .before .before .before .before .pre .1 .0) (c .before .before .before .before .before .before .before .before .pre .1 .1)
+step-requires-2 c κs =
+    let at-scratch = c .before .before .before .before in
+    let start = at-scratch .before .before .before .before in
+    right-place (start .pre .0) (start .pre .1 .0) (start .pre .1 .1)
 
 add-pair-requires : tie.Need-add-pair-requires
-add-pair-requires c κs = add-place (c .before .before .before .before .before .before .before .before .before .before .pre .0) (c .before .before .before .before .before .before .before .before .before .before .pre .1 .0) (c .before .before .before .before .before .before .before .before .before .before .pre .1 .1) (c .before .before .before .before .step .ensures) (c .before .step2 .ensures)
+add-pair-requires c κs =
+    let at-step = c .before .before .before .before in
+    let at-scratch = at-step .before .before in
+    let start = at-scratch .before .before .before .before in
+    add-place (start .pre .0) (start .pre .1 .0) (start .pre .1 .1) (at-step .step .ensures) (c .before .step2 .ensures)
 
 returns : tie.Need-returns
-returns c = tried (c .before .before .before .before .before .before .before .before .before .before .before .before .before .pre .0) (c .before .before .before .before .before .before .before .before .before .before .before .before .before .pre .1 .0) (c .before .before .before .before .before .before .before .before .before .before .before .before .before .pre .1 .1) (c .before .before .before .before .before .before .before .step .ensures) (c .before .before .before .before .step2 .ensures) _ (c .before .before .add-pair .ensures)
+returns c =
+    let at-step2 = c .before .before .before .before in
+    let at-step = at-step2 .before .before .before in
+    let at-scratch = at-step .before .before in
+    let start = at-scratch .before .before .before .before in
+    tried (start .pre .0) (start .pre .1 .0) (start .pre .1 .1) (at-step .step .ensures) (at-step2 .step2 .ensures) _ (c .before .before .add-pair .ensures)
 
 pub try-letter-spec : {M : Type 1} → statement M
 try-letter-spec =

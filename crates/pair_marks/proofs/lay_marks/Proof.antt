@@ -26,11 +26,13 @@ marks-row-requires c κs =
 
 loop-again : tie.Need-loop-again Inv-loop μ-loop
 loop-again c =
-    let at-loop = c .before .before .before .before .before in
-    let start = c .before .before .before .before .before .before .before in (
+    let at-loop-test = c .before .before .before .before in
+    let at-loop = at-loop-test .before in
+    let start = at-loop .before .before in
+    let start = start in (
       rows-more (start .pre .few) (at-loop .loop .inv .0) (c .before .before .marks-row .ensures)
           (λ j byte h q.
-          mark-kept (at-loop .loop .inv .0 .kept) (omega arith) (omega (arith, start .pre .few, at-loop .loop .inv .1)) (start .pre) _ _ j (c .before .before .before .before .loop-test .taken) h q),
+          mark-kept (at-loop .loop .inv .0 .kept) (omega arith) (omega (arith, start .pre .few, at-loop .loop .inv .1)) (start .pre) _ _ j (at-loop-test .loop-test .taken) h q),
       omega arith,
     )
 

@@ -34,25 +34,32 @@ add-combine-grades-2 c =
 
 shared-slice-read-combine-grades : tie.Need-shared-slice-read-combine-grades
 shared-slice-read-combine-grades c =
-    let start = c .before .before .before .before .before .before in
+    let at-shared-slice-known = c .before .before .before .before .before in
+    let start = at-shared-slice-known .before in
     omega (arith, start .pre .0 .lefts _ (start .pre .1 .0), start .pre .0 .lefts _ (start .pre .1 .1), start .pre .0 .room)
 
 mul-combine-grades-2 : tie.Need-mul-combine-grades-2
-mul-combine-grades-2 c = omega (arith, c .before .before .before .before .before .before .pre .0 .rights _ (c .before .before .before .before .before .before .pre .1 .0))
+mul-combine-grades-2 c =
+    let at-shared-slice-known = c .before .before .before .before .before in
+    let start = at-shared-slice-known .before in
+    omega (arith, start .pre .0 .rights _ (start .pre .1 .0))
 
 add-combine-grades-3 : tie.Need-add-combine-grades-3
 add-combine-grades-3 c =
-    let start = c .before .before .before .before .before .before in
+    let at-shared-slice-known = c .before .before .before .before .before in
+    let start = at-shared-slice-known .before in
     omega (arith, start .pre .0 .rights _ (start .pre .1 .0), start .pre .0 .rights _ (start .pre .1 .1))
 
 add-combine-grades-4 : tie.Need-add-combine-grades-4
 add-combine-grades-4 c =
-    let start = c .before .before .before .before .before .before in
+    let at-shared-slice-known = c .before .before .before .before .before in
+    let start = at-shared-slice-known .before in
     omega (arith, start .pre .0 .rights _ (start .pre .1 .0), start .pre .0 .rights _ (start .pre .1 .1))
 
 shared-slice-read-combine-grades-2 : tie.Need-shared-slice-read-combine-grades-2
 shared-slice-read-combine-grades-2 c =
-    let start = c .before .before .before .before .before .before .before in
+    let at-shared-slice-known2 = c .before .before .before .before .before in
+    let start = at-shared-slice-known2 .before .before in
     omega (arith, start .pre .0 .rights _ (start .pre .1 .0), start .pre .0 .rights _ (start .pre .1 .1), start .pre .0 .room)
 
 returns : tie.Need-returns

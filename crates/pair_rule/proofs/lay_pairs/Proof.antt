@@ -11,18 +11,24 @@ lay-products-requires c κs = (c .before .before .before .before .pre .0, list-p
 
 lay-images-requires : tie.Need-lay-images-requires
 lay-images-requires c κs =
-    let start = c .before .before .before .before .before .before .before .before in
-    (start .pre .0, pairs-kept (c .before .before .before .lay-products .ensures .kept) (omega arith) (start .pre .0) (list-place (start .pre .0) (start .pre .1)))
+    let at-lay-products = c .before .before .before in
+    let start = at-lay-products .before .before .before .before .before in
+    (start .pre .0, pairs-kept (at-lay-products .lay-products .ensures .kept) (omega arith) (start .pre .0) (list-place (start .pre .0) (start .pre .1)))
 
 lay-marks-requires : tie.Need-lay-marks-requires
 lay-marks-requires c κs =
-    let start = c .before .before .before .before .before .before .before .before .before .before .before .before in
-    marks-place (start .pre .0) (start .pre .1) (c .before .before .before .before .before .before .before .lay-products .ensures) (c .before .before .before .lay-images .ensures)
+    let at-lay-images = c .before .before .before in
+    let at-lay-products = at-lay-images .before .before .before .before in
+    let start = at-lay-products .before .before .before .before .before in
+    marks-place (start .pre .0) (start .pre .1) (at-lay-products .lay-products .ensures) (at-lay-images .lay-images .ensures)
 
 returns : tie.Need-returns
 returns c =
-    let start = c .before .before .before .before .before .before .before .before .before .before .before .before .before .before .before in
-    pairs-laid (start .pre .0) (start .pre .1) (c .before .before .before .before .before .before .before .before .before .before .lay-products .ensures) (c .before .before .before .before .before .before .lay-images .ensures) (c .before .before .lay-marks .ensures)
+    let at-scratch2 = c .before .before .before .before .before in
+    let at-lay-images = at-scratch2 .before in
+    let at-lay-products = at-lay-images .before .before .before .before in
+    let start = at-lay-products .before .before .before .before .before in
+    pairs-laid (start .pre .0) (start .pre .1) (at-lay-products .lay-products .ensures) (at-lay-images .lay-images .ensures) (c .before .before .lay-marks .ensures)
 
 pub lay-pairs-spec : {M : Type 1} → statement M
 lay-pairs-spec =

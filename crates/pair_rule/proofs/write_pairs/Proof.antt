@@ -9,13 +9,18 @@ lay-pairs-requires c κs = (c .before .before .before .before .before .pre .0, c
 
 write-laid-requires : tie.Need-write-laid-requires
 write-laid-requires c κs =
-    let start = c .before .before .before .before .before .before .before .before .before .before in
-    laid-place (start .pre .0) (start .pre .1) (c .before .before .before .before .lay-pairs .ensures)
+    let at-lay-pairs = c .before .before .before .before in
+    let at-lay-pairs-arg = at-lay-pairs .before in
+    let start = at-lay-pairs-arg .before .before .before .before .before in
+    laid-place (start .pre .0) (start .pre .1) (at-lay-pairs .lay-pairs .ensures)
 
 returns : tie.Need-returns
 returns c =
-    let start = c .before .before .before .before .before .before .before .before .before .before .before .before .before in
-    pairs-written (start .pre .0) (start .pre .1) (c .before .before .before .before .before .before .before .lay-pairs .ensures) (c .before .before .write-laid .ensures)
+    let at-write-laid-arg = c .before .before .before .before in
+    let at-lay-pairs = at-write-laid-arg .before .before .before in
+    let at-lay-pairs-arg = at-lay-pairs .before in
+    let start = at-lay-pairs-arg .before .before .before .before .before in
+    pairs-written (start .pre .0) (start .pre .1) (at-lay-pairs .lay-pairs .ensures) (c .before .before .write-laid .ensures)
 
 pub write-pairs-spec : {M : Type 1} → statement M
 write-pairs-spec =

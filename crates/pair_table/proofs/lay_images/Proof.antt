@@ -24,34 +24,47 @@ image-requires : tie.Need-image-requires Inv-loop μ-loop
 image-requires c κs = image-place (c .before .before .before .before .before .pre .0 .first-table) (c .loop-test .taken)
 
 image-requires-2 : tie.Need-image-requires-2 Inv-loop μ-loop
-image-requires-2 c κs = image-place (c .before .before .before .before .before .before .pre .0 .second-table) (c .before .loop-test .taken)
+image-requires-2 c κs =
+    let at-loop = c .before .before in
+    let start = at-loop .before .before .before .before in
+    image-place (start .pre .0 .second-table) (c .before .loop-test .taken)
 
 place-of-requires : tie.Need-place-of-requires Inv-loop μ-loop
 place-of-requires c κs =
-    let start = c .before .before .before .before .before .before .before .before in
-    image-numbered (start .pre .0) (pairs-kept (c .before .before .before .before .loop .inv .0 .kept) (omega arith) (start .pre .0) (start .pre .1)) _ (c .before .before .before .loop-test .taken)
+    let at-loop-test = c .before .before .before in
+    let at-loop = at-loop-test .before in
+    let start = at-loop .before .before .before .before in
+    image-numbered (start .pre .0) (pairs-kept (at-loop .loop .inv .0 .kept) (omega arith) (start .pre .0) (start .pre .1)) _ (at-loop-test .loop-test .taken)
     (c .before .before .image .ensures) (c .before .image2 .ensures)
 
 add-scratch : tie.Need-add-scratch Inv-loop μ-loop
-add-scratch c = omega (arith, c .before .before .before .before .before .before .before .before .before .pre .0 .first-table .letters-small)
+add-scratch c =
+    let at-loop = c .before .before .before .before .before in
+    let start = at-loop .before .before .before .before in
+    omega (arith, start .pre .0 .first-table .letters-small)
 
 slice-write-scratch : tie.Need-slice-write-scratch Inv-loop μ-loop
 slice-write-scratch c =
-    let start = c .before .before .before .before .before .before .before .before .before in
-    omega (arith, start .pre .0 .first-table .letters-small, start .pre .1 .halves .room, c .before .before .before .before .before .loop .inv .0 .kept .same-length)
+    let at-loop = c .before .before .before .before .before in
+    let start = at-loop .before .before .before .before in
+    omega (arith, start .pre .0 .first-table .letters-small, start .pre .1 .halves .room, at-loop .loop .inv .0 .kept .same-length)
 
 add-x : tie.Need-add-x Inv-loop μ-loop
-add-x c = omega (arith, c .before .before .before .before .before .before .before .before .before .pre .0 .first-table .letters-small)
+add-x c =
+    let at-loop = c .before .before .before .before .before in
+    let start = at-loop .before .before .before .before in
+    omega (arith, start .pre .0 .first-table .letters-small)
 
 loop-again : tie.Need-loop-again Inv-loop μ-loop
 loop-again c =
-    let at-test = c .before .before .before .before in
-    let at-loop = c .before .before .before .before .before in
-    let start = c .before .before .before .before .before .before .before .before .before in
+    let at-image = c .before .before .before in
+    let at-test = at-image .before in
+    let at-loop = at-test .before in
+    let start = at-loop .before .before .before .before in
     let kept = at-loop .loop .inv .0 .kept in (
       filled-more (omega arith) (omega (arith, start .pre .0 .first-table .letters-small, start .pre .1 .halves .room, kept .same-length)) (at-loop .loop .inv .0)
           (c .place-of .ensures
-          ∙ image-number (start .pre .0) (pairs-kept kept (omega arith) (start .pre .0) (start .pre .1)) _ (at-test .loop-test .taken) (c .before .before .before .image .ensures) (c .before .before .image2 .ensures)
+          ∙ image-number (start .pre .0) (pairs-kept kept (omega arith) (start .pre .0) (start .pre .1)) _ (at-test .loop-test .taken) (at-image .image .ensures) (c .before .before .image2 .ensures)
           ∙ image-kept kept (omega arith) (start .pre .0) _ (at-test .loop-test .taken)),
       omega arith,
     )

@@ -22,15 +22,18 @@ loop-holds c = (rows-none laidProductsBase _ _ _, omega arith)
 
 products-row-requires : tie.Need-products-row-requires Inv-loop μ-loop
 products-row-requires c κs =
-    let start = c .before .before .before .before .before .before in
-    (start .pre .0, (pairs-kept (c .before .before .loop .inv .0 .kept) (omega arith) (start .pre .0) (start .pre .1), c .before .loop-test .taken))
+    let at-loop = c .before .before in
+    let start = at-loop .before .before .before .before in
+    (start .pre .0, (pairs-kept (at-loop .loop .inv .0 .kept) (omega arith) (start .pre .0) (start .pre .1), c .before .loop-test .taken))
 
 loop-again : tie.Need-loop-again Inv-loop μ-loop
 loop-again c =
-    let at-loop = c .before .before .before .before .before in
-    let start = c .before .before .before .before .before .before .before .before .before in (
+    let at-loop-test = c .before .before .before .before in
+    let at-loop = at-loop-test .before in
+    let start = at-loop .before .before .before .before in
+    let start = start in (
       rows-more (le-refl _) (at-loop .loop .inv .0) (c .before .before .products-row .ensures)
-          (λ j byte h q. q ∙ product-kept (at-loop .loop .inv .0 .kept) (omega arith) (start .pre .0) (start .pre .1 .halves) _ j (c .before .before .before .before .loop-test .taken) h),
+          (λ j byte h q. q ∙ product-kept (at-loop .loop .inv .0 .kept) (omega arith) (start .pre .0) (start .pre .1 .halves) _ j (at-loop-test .loop-test .taken) h),
       omega arith,
     )
 

@@ -21,24 +21,30 @@ cast-d c = fits-8-64 (c .shared-slice-known7 .given _)
 
 product-requires : tie.Need-product-requires
 product-requires c κs =
-    let start = c .before .before .before .before .before .before .before in
+    let at-shared-slice-known2 = c .before .before .before .before .before in
+    let start = at-shared-slice-known2 .before .before in
     table-place (start .pre .0 .first-table) (start .pre .1 .0 .halves .lefts _ (start .pre .1 .1 .0)) (start .pre .1 .0 .halves .lefts _ (start .pre .1 .1 .1))
 
 product-requires-2 : tie.Need-product-requires-2
 product-requires-2 c κs =
-    let start = c .before .before .before .before .before .before .before .before in
+    let at-shared-slice-known3 = c .before .before .before .before .before in
+    let start = at-shared-slice-known3 .before .before .before in
     table-place (start .pre .0 .second-table) (start .pre .1 .0 .halves .rights _ (start .pre .1 .1 .0)) (start .pre .1 .0 .halves .rights _ (start .pre .1 .1 .1))
 
 place-of-requires : tie.Need-place-of-requires
 place-of-requires c κs =
-    let start = c .before .before .before .before .before .before .before .before .before in
-    product-numbered (start .pre .0) (start .pre .1 .0) _ _ (start .pre .1 .1 .0) (start .pre .1 .1 .1) (c .before .product .ensures) (c .product2 .ensures)
+    let at-product = c .before in
+    let at-shared-slice-known3 = at-product .before .before .before .before .before in
+    let start = at-shared-slice-known3 .before .before .before in
+    product-numbered (start .pre .0) (start .pre .1 .0) _ _ (start .pre .1 .1 .0) (start .pre .1 .1 .1) (at-product .product .ensures) (c .product2 .ensures)
 
 returns : tie.Need-returns
 returns c =
-    let start = c .before .before .before .before .before .before .before .before .before .before in
+    let at-product = c .before .before in
+    let at-shared-slice-known3 = at-product .before .before .before .before .before in
+    let start = at-shared-slice-known3 .before .before .before in
     c .place-of .ensures
-    ∙ product-number (start .pre .0) (start .pre .1 .0) _ _ (start .pre .1 .1 .0) (start .pre .1 .1 .1) (c .before .before .product .ensures) (c .before .product2 .ensures)
+    ∙ product-number (start .pre .0) (start .pre .1 .0) _ _ (start .pre .1 .1 .0) (start .pre .1 .1 .1) (at-product .product .ensures) (c .before .product2 .ensures)
 
 pub pair-product-spec : {M : Type 1} → statement M
 pair-product-spec =

@@ -21,35 +21,40 @@ loop-holds c = (filled-none _ _, omega arith)
 
 pair-product-requires : tie.Need-pair-product-requires Inv-loop μ-loop
 pair-product-requires c κs =
-    let start = c .before .before .before .before .before .before in
-    (start .pre .0, (pairs-kept (c .before .before .loop .inv .0 .kept) (omega arith) (start .pre .0) (start .pre .1 .0), (start .pre .1 .1, c .before .loop-test .taken)))
+    let at-loop = c .before .before in
+    let start = at-loop .before .before .before .before in
+    (start .pre .0, (pairs-kept (at-loop .loop .inv .0 .kept) (omega arith) (start .pre .0) (start .pre .1 .0), (start .pre .1 .1, c .before .loop-test .taken)))
 
 mul-scratch : tie.Need-mul-scratch Inv-loop μ-loop
 mul-scratch c =
-    let start = c .before .before .before .before .before .before .before in
+    let at-loop = c .before .before .before in
+    let start = at-loop .before .before .before .before in
     omega (arith, pair-small _ _ _ (start .pre .1 .0 .halves .few) (start .pre .1 .1) (c .before .before .loop-test .taken))
 
 add-scratch : tie.Need-add-scratch Inv-loop μ-loop
 add-scratch c =
-    let start = c .before .before .before .before .before .before .before in
+    let at-loop = c .before .before .before in
+    let start = at-loop .before .before .before .before in
     omega (arith, pair-small _ _ _ (start .pre .1 .0 .halves .few) (start .pre .1 .1) (c .before .before .loop-test .taken))
 
 add-scratch-2 : tie.Need-add-scratch-2 Inv-loop μ-loop
 add-scratch-2 c =
-    let start = c .before .before .before .before .before .before .before in
+    let at-loop = c .before .before .before in
+    let start = at-loop .before .before .before .before in
     omega (arith, pair-small _ _ _ (start .pre .1 .0 .halves .few) (start .pre .1 .1) (c .before .before .loop-test .taken))
 
 slice-write-scratch : tie.Need-slice-write-scratch Inv-loop μ-loop
 slice-write-scratch c =
-    let start = c .before .before .before .before .before .before .before in
+    let at-loop = c .before .before .before in
+    let start = at-loop .before .before .before .before in
     omega
-    (arith, pair-small _ _ _ (start .pre .1 .0 .halves .few) (start .pre .1 .1) (c .before .before .loop-test .taken), start .pre .1 .0 .halves .room, c .before .before .before .loop .inv .0 .kept .same-length)
+    (arith, pair-small _ _ _ (start .pre .1 .0 .halves .few) (start .pre .1 .1) (c .before .before .loop-test .taken), start .pre .1 .0 .halves .room, at-loop .loop .inv .0 .kept .same-length)
 
 loop-again : tie.Need-loop-again Inv-loop μ-loop
 loop-again c =
     let at-test = c .before .before in
-    let at-loop = c .before .before .before in
-    let start = c .before .before .before .before .before .before .before in
+    let at-loop = at-test .before in
+    let start = at-loop .before .before .before .before in
     let kept = at-loop .loop .inv .0 .kept in
     let inside = product-inside (start .pre .1 .0 .halves) _ _ (start .pre .1 .1) (at-test .loop-test .taken) kept in (
       filled-more (omega arith) inside (at-loop .loop .inv .0)

@@ -40,23 +40,27 @@ returns-4 c =
 
 write-reduced-requires : tie.Need-write-reduced-requires
 write-reduced-requires c κs =
-    let at-decide = c .before .before .before .before .before .before in
+    let at-scratch2 = c .before .before .before .before .before in
+    let at-decide = at-scratch2 .before in
     let at-shape = at-decide .before .before .before in
     let at-check = at-shape .before .before .before .before in
     let at-if2 = at-check .before .before in
+    let at-if1 = at-if2 .before in
     let p = checked-rule 1 _ _ _ _ (at-check .check .ensures) (at-shape .shape .given .1) in
-    (checked-table 1 _ _ p, reduce-place _ _ _ _ (at-if2 .before .if1 .left) (at-if2 .if2 .left) p (at-decide .decide .ensures))
+    (checked-table 1 _ _ p, reduce-place _ _ _ _ (at-if1 .if1 .left) (at-if2 .if2 .left) p (at-decide .decide .ensures))
 
 returns-5 : tie.Need-returns-5
 returns-5 c =
     let at-zero2 = c .before .before in
-    let at-write-reduced = at-zero2 .before .before .before .before .before .before .before .before in
+    let at-out = at-zero2 .before .before .before .before .before in
+    let at-write-reduced = at-out .before .before .before in
     let at-if3 = at-write-reduced .before .before .before .before in
     let at-decide = at-if3 .before .before .before in
     let at-shape = at-decide .before .before .before in
     let at-check = at-shape .before .before .before .before in
     let at-if2 = at-check .before .before in
-    reduce-strong _ _ _ _ (at-if2 .before .if1 .left) (at-if2 .if2 .left) (checked-rule 1 _ _ _ _ (at-check .check .ensures) (at-shape .shape .given .1))
+    let at-if1 = at-if2 .before in
+    reduce-strong _ _ _ _ (at-if1 .if1 .left) (at-if2 .if2 .left) (checked-rule 1 _ _ _ _ (at-check .check .ensures) (at-shape .shape .given .1))
     (at-decide .decide .ensures) (at-write-reduced .write-reduced .ensures) (not-false _ (at-if3 .if3 .left)) _ (at-zero2 .zero2 .ensures)
 
 pub reduce-spec : {M : Type 1} → statement M

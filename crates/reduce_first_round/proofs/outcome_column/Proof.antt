@@ -25,28 +25,41 @@ loop-holds c =
 
 outcome-requires : tie.Need-outcome-requires Inv-loop μ-loop
 outcome-requires c κs =
-    let b = c .before .before .before .before .before .before in
-    (b .pre .0, ((c .before .loop-test .taken, least-power-idempotent (c .before .before .before .idempotent-power .ensures) .inside), omega (arith, unchanged-room (c .before .before .loop .inv .kept) (b .pre .1 .1 .1))))
+    let at-idempotent-power = c .before .before .before in
+    let start = at-idempotent-power .before .before .before in
+    (start .pre .0, ((c .before .loop-test .taken, least-power-idempotent (at-idempotent-power .idempotent-power .ensures) .inside), omega (arith, unchanged-room (c .before .before .loop .inv .kept) (start .pre .1 .1 .1))))
 
 mul-scratch : tie.Need-mul-scratch Inv-loop μ-loop
-mul-scratch c = omega (arith, c .before .before .before .before .before .before .before .pre .0 .small)
+mul-scratch c =
+    let at-idempotent-power = c .before .before .before .before in
+    let start = at-idempotent-power .before .before .before in
+    omega (arith, start .pre .0 .small)
 
 add-scratch : tie.Need-add-scratch Inv-loop μ-loop
-add-scratch c = omega (arith, c .before .before .before .before .before .before .before .pre .0 .small)
+add-scratch c =
+    let at-idempotent-power = c .before .before .before .before in
+    let start = at-idempotent-power .before .before .before in
+    omega (arith, start .pre .0 .small)
 
 add-scratch-2 : tie.Need-add-scratch-2 Inv-loop μ-loop
-add-scratch-2 c = omega (arith, c .before .before .before .before .before .before .before .pre .0 .small)
+add-scratch-2 c =
+    let at-idempotent-power = c .before .before .before .before in
+    let start = at-idempotent-power .before .before .before in
+    omega (arith, start .pre .0 .small)
 
 slice-write-scratch : tie.Need-slice-write-scratch Inv-loop μ-loop
 slice-write-scratch c =
-    let b = c .before .before .before .before .before .before .before in
-    omega (arith, b .pre .0 .small, unchanged-room (c .before .before .before .loop .inv .kept) (b .pre .1 .1 .1))
+    let at-loop = c .before .before .before in
+    let start = at-loop .before .before .before .before in
+    omega (arith, start .pre .0 .small, unchanged-room (at-loop .loop .inv .kept) (start .pre .1 .1 .1))
 
 loop-again : tie.Need-loop-again Inv-loop μ-loop
 loop-again c =
-    let b = c .before .before .before .before .before .before .before in
-    column-more (b .pre .1 .0) (b .pre .0 .small) (b .pre .1 .1 .0) (c .before .before .loop-test .taken) (b .pre .1 .1 .1)
-    (c .before .before .before .before .idempotent-power .ensures) (c .outcome .ensures) (c .before .before .before .loop .inv)
+    let at-loop = c .before .before .before in
+    let at-idempotent-power = at-loop .before in
+    let start = at-idempotent-power .before .before .before in
+    column-more (start .pre .1 .0) (start .pre .0 .small) (start .pre .1 .1 .0) (c .before .before .loop-test .taken) (start .pre .1 .1 .1)
+    (at-idempotent-power .idempotent-power .ensures) (c .outcome .ensures) (at-loop .loop .inv)
 
 same-length : tie.Need-same-length Inv-loop μ-loop
 same-length c = c .before .loop .inv .kept .same-length

@@ -24,9 +24,11 @@ outcome-column-requires c κs =
 
 loop-again : tie.Need-loop-again Inv-loop μ-loop
 loop-again c =
-    let b = c .before .before .before .before .before .before .before .before in
-    outcomes-more (b .pre .1 .0) (b .pre .0 .small) (c .before .before .before .before .loop-test .taken)
-    (c .before .before .before .before .before .loop .inv) (c .before .before .outcome-column .ensures)
+    let at-loop-test = c .before .before .before .before in
+    let at-loop = at-loop-test .before in
+    let start = at-loop .before .before .before in
+    outcomes-more (start .pre .1 .0) (start .pre .0 .small) (at-loop-test .loop-test .taken)
+    (at-loop .loop .inv) (c .before .before .outcome-column .ensures)
 
 same-length : tie.Need-same-length Inv-loop μ-loop
 same-length c = c .before .loop .inv .kept .same-length

@@ -30,16 +30,21 @@ returns c = start-differs (c .before .before .before .loop-test .taken) (c .befo
 
 outcome-at-requires-3 : tie.Need-outcome-at-requires-3 Inv-loop μ-loop
 outcome-at-requires-3 c κs =
-    let b = c .before .before .before .before .before .before .before in
-    ((omega (arith, b .pre .0 .small), omega (arith, b .pre .0 .small)), b .pre .1 .1)
+    let at-loop = c .before .before .before .before in
+    let start = at-loop .before .before .before in
+    ((omega (arith, start .pre .0 .small), omega (arith, start .pre .0 .small)), start .pre .1 .1)
 
 outcome-at-requires-4 : tie.Need-outcome-at-requires-4 Inv-loop μ-loop
 outcome-at-requires-4 c κs =
-    let b = c .before .before .before .before .before .before .before .before in
-    ((omega (arith, b .pre .0 .small), omega (arith, b .pre .0 .small)), b .pre .1 .1)
+    let at-loop = c .before .before .before .before .before in
+    let start = at-loop .before .before .before in
+    ((omega (arith, start .pre .0 .small), omega (arith, start .pre .0 .small)), start .pre .1 .1)
 
 returns-2 : tie.Need-returns-2 Inv-loop μ-loop
-returns-2 c = cycle-differs (c .before .before .before .before .before .before .loop-test .taken) (c .before .before .outcome-at3 .ensures) (c .before .outcome-at4 .ensures) (c .if2 .taken)
+returns-2 c =
+    let at-outcome-at = c .before .before .before .before .before in
+    let at-loop-test = at-outcome-at .before in
+    cycle-differs (at-loop-test .loop-test .taken) (c .before .before .outcome-at3 .ensures) (c .before .outcome-at4 .ensures) (c .if2 .taken)
 
 loop-again : tie.Need-loop-again Inv-loop μ-loop
 loop-again c =

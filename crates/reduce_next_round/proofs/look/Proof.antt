@@ -6,8 +6,9 @@ use Rattle.reduce_next_round.proofs.look.Tie as tie
 
 returns : tie.Need-returns
 returns c =
-    let b = c .before .before .before .before .before .before .before .before in
-    round-seen (b .pre .0 .products) (b .pre .0 .images) (b .pre .0 .small) (c .before .before .before .before .next-blocks .ensures) (c .changes .ensures)
+    let at-next-blocks = c .before .before .before .before in
+    let start = at-next-blocks .before .before .before .before in
+    round-seen (start .pre .0 .products) (start .pre .0 .images) (start .pre .0 .small) (at-next-blocks .next-blocks .ensures) (c .changes .ensures)
 
 pub look-spec : {M : Type 1} → statement M
 look-spec = tie.close (tie.spec (λ c κs. search needs) (λ c κs. search needs) (λ c. search needs) returns)

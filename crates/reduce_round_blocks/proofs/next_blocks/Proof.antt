@@ -27,20 +27,28 @@ first-kept-requires c κs =
     (b .pre .0, (c .before .loop-test .taken, unchanged-room (c .before .before .loop .inv .kept) (b .pre .1)))
 
 cast-scratch : tie.Need-cast-scratch Inv-loop μ-loop
-cast-scratch c = omega (arith, c .first-kept .ensures .at-most, c .before .before .before .before .before .before .pre .0 .small)
+cast-scratch c =
+    let at-loop = c .before .before .before in
+    let start = at-loop .before .before .before in
+    omega (arith, c .first-kept .ensures .at-most, start .pre .0 .small)
 
 add-scratch : tie.Need-add-scratch Inv-loop μ-loop
-add-scratch c = omega (arith, c .before .before .before .before .before .before .pre .0 .small)
+add-scratch c =
+    let at-loop = c .before .before .before in
+    let start = at-loop .before .before .before in
+    omega (arith, start .pre .0 .small)
 
 slice-write-scratch : tie.Need-slice-write-scratch Inv-loop μ-loop
 slice-write-scratch c =
-    let b = c .before .before .before .before .before .before in
-    omega (arith, unchanged-room (c .before .before .before .loop .inv .kept) (b .pre .1), b .pre .0 .small)
+    let at-loop = c .before .before .before in
+    let start = at-loop .before .before .before in
+    omega (arith, unchanged-room (at-loop .loop .inv .kept) (start .pre .1), start .pre .0 .small)
 
 loop-again : tie.Need-loop-again Inv-loop μ-loop
 loop-again c =
-    let b = c .before .before .before .before .before .before in
-    next-more (b .pre .0 .small) (b .pre .1) (c .before .before .loop-test .taken) (b .pre .0 .products) (b .pre .0 .images) (c .before .before .before .loop .inv) (c .first-kept .ensures)
+    let at-loop = c .before .before .before in
+    let start = at-loop .before .before .before in
+    next-more (start .pre .0 .small) (start .pre .1) (c .before .before .loop-test .taken) (start .pre .0 .products) (start .pre .0 .images) (at-loop .loop .inv) (c .first-kept .ensures)
 
 same-length : tie.Need-same-length Inv-loop μ-loop
 same-length c = c .before .loop .inv .kept .same-length

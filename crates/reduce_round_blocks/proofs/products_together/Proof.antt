@@ -65,41 +65,56 @@ product-requires-3 c κs =
 
 product-requires-4 : tie.Need-product-requires-4
 product-requires-4 c κs =
-    let d = c .before .before .before .before .before .before in
-    let table = d .before .before .before .pre .0 in
-    let below = letter d in
+    let at-product = c .before .before .before .before .before in
+    let at-image = at-product .before in
+    let start = at-image .before .before .before in
+    let table = start .pre .0 in
+    let below = letter at-image in
     table-place table (omega arith) (omega arith)
 
 add-if2 : tie.Need-add-if2
 add-if2 c =
-    let d = c .before .before .before .before .before .before .before in
-    let table = d .before .before .before .pre .0 in
-    let below = letter d in
+    let at-product2 = c .before .before .before .before .before in
+    let at-image = at-product2 .before .before in
+    let start = at-image .before .before .before in
+    let table = start .pre .0 in
+    let below = letter at-image in
     omega (arith, product-below table (omega arith) (omega arith) (c .before .product3 .ensures), table .small)
 
 shared-slice-read-if2 : tie.Need-shared-slice-read-if2
 shared-slice-read-if2 c =
-    let d = c .before .before .before .before .before .before .before .before in
-    let table = d .before .before .before .pre .0 in
-    let below = letter d in
+    let at-if1 = c .before .before .before in
+    let at-image = at-if1 .before .before .before .before .before in
+    let start = at-image .before .before .before in
+    let table = start .pre .0 in
+    let below = letter at-image in
     omega (arith, product-below table (omega arith) (omega arith) (c .before .before .product3 .ensures), table .small)
 
 add-if2-2 : tie.Need-add-if2-2
 add-if2-2 c =
-    let d = c .before .before .before .before .before .before .before .before in
-    let table = d .before .before .before .pre .0 in
-    let below = letter d in
+    let at-if1 = c .before .before .before in
+    let at-image = at-if1 .before .before .before .before .before in
+    let start = at-image .before .before .before in
+    let table = start .pre .0 in
+    let below = letter at-image in
     omega (arith, product-below table (omega arith) (omega arith) (c .before .product4 .ensures), table .small)
 
 shared-slice-read-if2-2 : tie.Need-shared-slice-read-if2-2
 shared-slice-read-if2-2 c =
-    let d = c .before .before .before .before .before .before .before .before .before in
-    let table = d .before .before .before .pre .0 in
-    let below = letter d in
+    let at-if1 = c .before .before .before .before in
+    let at-image = at-if1 .before .before .before .before .before in
+    let start = at-image .before .before .before in
+    let table = start .pre .0 in
+    let below = letter at-image in
     omega (arith, product-below table (omega arith) (omega arith) (c .before .before .product4 .ensures), table .small)
 
 returns-2 : tie.Need-returns-2
-returns-2 c = left-apart _ (c .before .before .before .before .before .before .before .before .before .before .image .ensures) (c .before .before .before .before .product3 .ensures) (c .before .before .before .product4 .ensures) (c .if2 .taken)
+returns-2 c =
+    let at-product4 = c .before .before .before in
+    let at-product3 = at-product4 .before in
+    let at-product = at-product3 .before .before .before .before .before in
+    let at-image = at-product .before in
+    left-apart _ (at-image .image .ensures) (at-product3 .product3 .ensures) (at-product4 .product4 .ensures) (c .if2 .taken)
 
 returns-3 : tie.Need-returns-3
 returns-3 c =

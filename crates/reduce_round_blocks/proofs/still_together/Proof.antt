@@ -36,8 +36,9 @@ loop-holds c = still-start (c .if1 .left)
 
 products-together-requires : tie.Need-products-together-requires Inv-loop μ-loop
 products-together-requires c κs =
-    let b = c .before .before .before .before .before .before .before in
-    (b .pre .0, ((b .pre .1 .0 .0, b .pre .1 .0 .1, c .loop-test .taken), b .pre .1 .1))
+    let at-if1 = c .before .before in
+    let start = at-if1 .before .before .before .before .before in
+    (start .pre .0, ((start .pre .1 .0 .0, start .pre .1 .0 .1, c .loop-test .taken), start .pre .1 .1))
 
 returns-2 : tie.Need-returns-2 Inv-loop μ-loop
 returns-2 c = still-parted (c .before .before .loop-test .taken) (c .before .products-together .ensures) (not-true _ (c .if2 .taken))

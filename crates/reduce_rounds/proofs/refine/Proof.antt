@@ -23,74 +23,117 @@ outcomes-requires c κs =
 
 first-blocks-requires : tie.Need-first-blocks-requires Inv-loop μ-loop
 first-blocks-requires c κs =
-    let b = c .before .before .before .before .before .before .before in
-    (b .pre .0, unchanged-room (c .before .before .before .outcomes .ensures .kept) (b .pre .1 .1))
+    let at-outcomes = c .before .before .before in
+    let start = at-outcomes .before .before .before .before in
+    (start .pre .0, unchanged-room (at-outcomes .outcomes .ensures .kept) (start .pre .1 .1))
 
 loop-holds : tie.Need-loop-holds Inv-loop μ-loop
 loop-holds c = (running-start _, omega arith)
+
+abbrev start-of : tie.After-slice-known3 Inv-loop μ-loop → tie.Start Inv-loop μ-loop
+start-of c =
+    let at-scratch = c .before .before .before .before .before in
+    at-scratch .before .before .before .before .before
 
 -- round 0 stood where the loop began
 begun : (d : tie.After-slice-known3 Inv-loop μ-loop)
     → Started
     (morphismAt
-    (d .before .before .before .before .before .before .before .before .before .before .args .rule .now)
-    (d .before .before .before .before .before .before .before .before .before .before .args .n)
-    (d .before .before .before .before .before .before .before .before .before .before .args .k))
-    (d .before .before .before .before .before .before .before .before .before .before .args .scratch .now)
+    (start-of d .args .rule .now)
+    (start-of d .args .n)
+    (start-of d .args .k))
+    (start-of d .args .scratch .now)
     (d .before .before .first-blocks .last .1 .1 .1 .0)
 begun d =
-    started (d .before .before .before .before .before .before .before .before .before .before .pre .0 .small)
-    (d .before .before .before .before .before .before .outcomes .ensures) (d .before .before .first-blocks .ensures)
+    let at-scratch = d .before .before .before .before .before in
+    let at-outcomes = at-scratch .before in
+    let start = at-outcomes .before .before .before .before in
+    started (start .pre .0 .small)
+    (at-outcomes .outcomes .ensures) (d .before .before .first-blocks .ensures)
 
 look-requires : tie.Need-look-requires Inv-loop μ-loop
 look-requires c κs =
-    let d = c .before .before in
-    let b = d .before .before .before .before .before .before .before .before .before .before in
-    (b .pre .0, unchanged-room (c .before .loop .inv .0 .kept) (unchanged-room (begun d .kept) (b .pre .1 .1)))
+    let at-slice-known3 = c .before .before in
+    let at-scratch = at-slice-known3 .before .before .before .before .before in
+    let start = at-scratch .before .before .before .before .before in
+    (start .pre .0, unchanged-room (c .before .loop .inv .0 .kept) (unchanged-room (begun at-slice-known3 .kept) (start .pre .1 .1)))
 
 same-length : tie.Need-same-length Inv-loop μ-loop
-same-length c = c .before .before .before .look .ensures .kept .same-length ∙ c .before .before .before .before .before .loop .inv .0 .kept .same-length ∙ begun (c .before .before .before .before .before .before) .kept .same-length
+same-length c =
+    let at-look = c .before .before .before in
+    let at-loop = at-look .before .before in
+    let at-slice-known3 = at-loop .before in
+    at-look .look .ensures .kept .same-length ∙ at-loop .loop .inv .0 .kept .same-length ∙ begun at-slice-known3 .kept .same-length
 
 returns : tie.Need-returns Inv-loop μ-loop
 returns c =
-    let d = c .before .before .before .before .before .before in
-    let table = d .before .before .before .before .before .before .before .before .before .before .pre .0 in
-    running-finished (c .before .before .before .before .before .loop .inv .0) (table .small) (c .before .before .before .look .ensures) (table .some) (begun d) (c .before .before .before .before .before .loop .inv .1) (not-true _ (c .if1 .taken))
+    let at-look = c .before .before .before in
+    let at-loop = at-look .before .before in
+    let at-slice-known3 = at-loop .before in
+    let at-scratch = at-slice-known3 .before .before .before .before .before in
+    let start = at-scratch .before .before .before .before .before in
+    let table = start .pre .0 in
+    running-finished (at-loop .loop .inv .0) (table .small) (at-look .look .ensures) (table .some) (begun at-slice-known3) (at-loop .loop .inv .1) (not-true _ (c .if1 .taken))
 
 same-length-2 : tie.Need-same-length-2 Inv-loop μ-loop
-same-length-2 c = c .before .before .before .before .look .ensures .kept .same-length ∙ c .before .before .before .before .before .before .loop .inv .0 .kept .same-length ∙ begun (c .before .before .before .before .before .before .before) .kept .same-length
+same-length-2 c =
+    let at-look = c .before .before .before .before in
+    let at-loop = at-look .before .before in
+    let at-slice-known3 = at-loop .before in
+    at-look .look .ensures .kept .same-length ∙ at-loop .loop .inv .0 .kept .same-length ∙ begun at-slice-known3 .kept .same-length
 
 returns-2 : tie.Need-returns-2 Inv-loop μ-loop
 returns-2 c =
-    let d = c .before .before .before .before .before .before .before in
-    let table = d .before .before .before .before .before .before .before .before .before .before .pre .0 in
-    running-stopped (c .before .before .before .before .before .before .loop .inv .0) (table .small) (c .before .before .before .before .look .ensures) (table .some) (begun d) (c .if2 .taken) (not-false _ (c .before .if1 .left))
+    let at-look = c .before .before .before .before in
+    let at-loop = at-look .before .before in
+    let at-slice-known3 = at-loop .before in
+    let at-scratch = at-slice-known3 .before .before .before .before .before in
+    let start = at-scratch .before .before .before .before .before in
+    let table = start .pre .0 in
+    running-stopped (at-loop .loop .inv .0) (table .small) (at-look .look .ensures) (table .some) (begun at-slice-known3) (c .if2 .taken) (not-false _ (c .before .if1 .left))
 
 take-requires : tie.Need-take-requires Inv-loop μ-loop
 take-requires c κs =
-    let d = c .before .before .before .before .before .before .before .before in
-    let b = d .before .before .before .before .before .before .before .before .before .before in
-    (b .pre .0 .small, unchanged-room (c .before .before .before .before .before .look .ensures .kept) (unchanged-room (c .before .before .before .before .before .before .before .loop .inv .0 .kept) (unchanged-room (begun d .kept) (b .pre .1 .1))))
+    let at-look = c .before .before .before .before .before in
+    let at-loop = at-look .before .before in
+    let at-slice-known3 = at-loop .before in
+    let at-scratch = at-slice-known3 .before .before .before .before .before in
+    let start = at-scratch .before .before .before .before .before in
+    (start .pre .0 .small, unchanged-room (at-look .look .ensures .kept) (unchanged-room (at-loop .loop .inv .0 .kept) (unchanged-room (begun at-slice-known3 .kept) (start .pre .1 .1))))
 
 add-rounds : tie.Need-add-rounds Inv-loop μ-loop
 add-rounds c =
-    let d = c .before .before .before .before .before .before .before .before .before .before .before in
-    let table = d .before .before .before .before .before .before .before .before .before .before .pre .0 in
-    omega (arith, running-bound (c .before .before .before .before .before .before .before .before .before .before .loop .inv .0) (begun d) (table .some), table .small)
+    let at-if1 = c .before .before .before .before .before in
+    let at-loop = at-if1 .before .before .before .before .before in
+    let at-slice-known3 = at-loop .before in
+    let at-scratch = at-slice-known3 .before .before .before .before .before in
+    let start = at-scratch .before .before .before .before .before in
+    let table = start .pre .0 in
+    omega (arith, running-bound (at-loop .loop .inv .0) (begun at-slice-known3) (table .some), table .small)
 
 loop-less : tie.Need-loop-less Inv-loop μ-loop
 loop-less c =
-    let d = c .before .before .before .before .before .before .before .before .before .before .before in
-    let table = d .before .before .before .before .before .before .before .before .before .before .pre .0 in
-    omega (arith, running-bound (c .before .before .before .before .before .before .before .before .before .before .loop .inv .0) (begun d) (table .some))
+    let at-if1 = c .before .before .before .before .before in
+    let at-loop = at-if1 .before .before .before .before .before in
+    let at-slice-known3 = at-loop .before in
+    let at-scratch = at-slice-known3 .before .before .before .before .before in
+    let start = at-scratch .before .before .before .before .before in
+    let table = start .pre .0 in
+    omega (arith, running-bound (at-loop .loop .inv .0) (begun at-slice-known3) (table .some))
 
 loop-again : tie.Need-loop-again Inv-loop μ-loop
 loop-again c =
-    let d = c .before .before .before .before .before .before .before .before .before .before .before in
-    let l = c .before .before .before .before .before .before .before .before .before .before .loop in
-    let seen = c .before .before .before .before .before .before .before .before .look .ensures in
-    let on = c .before .before .before .before .if2 .left in
-    (running-next (l .inv .0) (d .before .before .before .before .before .before .before .before .before .before .pre .0 .small) seen (not-false _ (c .before .before .before .before .before .if1 .left)) (c .before .before .take .ensures), omega (arith, l .inv .1))
+    let at-if2 = c .before .before .before .before in
+    let at-if1 = at-if2 .before in
+    let at-look = at-if1 .before .before .before in
+    let at-loop = at-look .before .before in
+    let at-slice-known3 = at-loop .before in
+    let at-scratch = at-slice-known3 .before .before .before .before .before in
+    let start = at-scratch .before .before .before .before .before in
+    let l = at-loop .loop in
+    let seen = at-look .look .ensures in
+    let on = at-if2 .if2 .left in
+    (running-next (l .inv .0) (start .pre .0 .small) seen (not-false _ (at-if1 .if1 .left)) (c .before .before .take .ensures), omega (arith, l .inv .1))
 
 pub refine-spec : {M : Type 1} → statement M
 refine-spec =

@@ -59,7 +59,8 @@ write-blocks-requires c κs =
 returns-5 : tie.Need-returns-5
 returns-5 c =
     let at-zero3 = c .before .before in
-    let at-write-blocks = at-zero3 .before .before .before .before .before .before in
+    let at-scratch5 = at-zero3 .before .before .before .before .before in
+    let at-write-blocks = at-scratch5 .before in
     let at-if3 = at-write-blocks .before .before .before in
     let at-decide = at-if3 .before .before .before in
     let at-if2 = at-decide .before .before in

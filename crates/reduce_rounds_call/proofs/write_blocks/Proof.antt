@@ -6,8 +6,10 @@ use Rattle.reduce_rounds_call.proofs.write_blocks.Tie as tie
 
 returns : tie.Need-returns
 returns c =
-    let b = c .before .before .before .before .before .before .before .before .before .before .before .before .before in
-    blocks-given (b .pre .0 .small) (b .pre .1 .1 .0) (c .before .before .before .before .before .before .before .before .refine .ensures) (c .before .before .copy .ensures)
+    let at-scratch2 = c .before .before .before .before .before in
+    let at-refine = at-scratch2 .before .before .before in
+    let start = at-refine .before .before .before .before .before in
+    blocks-given (start .pre .0 .small) (start .pre .1 .1 .0) (at-refine .refine .ensures) (c .before .before .copy .ensures)
 
 pub write-blocks-spec : {M : Type 1} → statement M
 write-blocks-spec =

@@ -32,7 +32,8 @@ write-laid-requires c κs =
 
 same-length : tie.Need-same-length
 same-length c =
-    let at-lay-marks = c .before .before .before .before .before .before .before in
+    let at-write-laid-arg = c .before .before .before .before in
+    let at-lay-marks = at-write-laid-arg .before .before .before in
     let at-lay-images = at-lay-marks .before .before .before .before in
     let at-lay-table = at-lay-images .before .before .before .before in
     at-lay-marks .lay-marks .ensures .kept .same-length ∙ at-lay-images .lay-images .ensures .kept .same-length ∙ at-lay-table .lay-table .ensures .kept .same-length

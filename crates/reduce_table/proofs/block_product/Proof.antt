@@ -29,12 +29,16 @@ add-result c =
 
 shared-slice-read-result : tie.Need-shared-slice-read-result
 shared-slice-read-result c =
-    let start = c .before .before .before .before .before .before in
-    omega (arith, c .before .product .ensures, product-small (start .pre .0) (start .pre .1 .0) _ _ (start .pre .1 .1 .0) (start .pre .1 .1 .1), start .pre .1 .0 .room)
+    let at-product = c .before in
+    let start = at-product .before .before .before .before .before in
+    omega (arith, at-product .product .ensures, product-small (start .pre .0) (start .pre .1 .0) _ _ (start .pre .1 .1 .0) (start .pre .1 .1 .1), start .pre .1 .0 .room)
 
 returns : tie.Need-returns
 unfolding blockProduct
-returns c = ap (numberAt (c .before .before .before .before .before .before .args .scratch .now)) (c .before .product .ensures)
+returns c =
+    let at-product = c .before in
+    let start = at-product .before .before .before .before .before in
+    ap (numberAt (start .args .scratch .now)) (at-product .product .ensures)
 
 pub block-product-spec : {M : Type 1} → statement M
 block-product-spec =

@@ -34,7 +34,10 @@ slice-read-number c =
     (arith, c .before .image .ensures, start .pre .0 .small, start .pre .0 .images _ (at-test .loop-test .taken), start .pre .1, at-loop .loop .inv .0 .kept .same-length)
 
 add-scratch : tie.Need-add-scratch Inv-loop μ-loop
-add-scratch c = omega (arith, c .before .before .before .before .before .before .pre .0 .letters-small)
+add-scratch c =
+    let at-loop = c .before .before .before in
+    let start = at-loop .before .before .before in
+    omega (arith, start .pre .0 .letters-small)
 
 slice-write-scratch : tie.Need-slice-write-scratch Inv-loop μ-loop
 slice-write-scratch c =
@@ -43,7 +46,10 @@ slice-write-scratch c =
     omega (arith, start .pre .0 .letters-small, start .pre .1, at-loop .loop .inv .0 .kept .same-length)
 
 add-a : tie.Need-add-a Inv-loop μ-loop
-add-a c = omega (arith, c .before .before .before .before .before .before .pre .0 .letters-small)
+add-a c =
+    let at-loop = c .before .before .before in
+    let start = at-loop .before .before .before in
+    omega (arith, start .pre .0 .letters-small)
 
 loop-again : tie.Need-loop-again Inv-loop μ-loop
 unfolding blockImage

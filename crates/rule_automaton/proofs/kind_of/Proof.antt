@@ -25,18 +25,29 @@ returns-4 c =
     let at-state = c .before .before in
     kind-final _ _ _ _ _ (at-state .before .before .if1 .left) (at-state .before .if2 .left) (at-state .is-state .ensures) (c .before .if3 .left) (c .if4 .taken)
 
+abbrev start-of : tie.Else4 → tie.Start
+start-of c =
+    let at-if1 = c .before .before .before .before in
+    at-if1 .before .before .before
+
 -- the pair is one of elements, and the table of marks has a byte for it
-below : (c : tie.Else4) → (c .before .before .before .before .before .before .before .args .s < c .before .before .before .before .before .before .before .args .n)
-    × (c .before .before .before .before .before .before .before .args .e < c .before .before .before .before .before .before .before .args .n)
+below : (c : tie.Else4) → (start-of c .args .s < start-of c .args .n)
+    × (start-of c .args .e < start-of c .args .n)
 below c =
     let at-state = c .before .before in
     pair-inside _ _ _ (at-state .is-state .ensures) (c .before .if3 .left) (c .if4 .left)
 
-small : (c : tie.Else4) → c .before .before .before .before .before .before .before .args .n ≤ 64
-small c = c .before .before .before .before .before .before .before .pre .0 .small
+small : (c : tie.Else4) → start-of c .args .n ≤ 64
+small c =
+    let at-if1 = c .before .before .before .before in
+    let start = at-if1 .before .before .before in
+    start .pre .0 .small
 
-room : (c : tie.Else4) → markTableSize ≤ length (c .before .before .before .before .before .before .before .args .marks .now)
-room c = c .before .before .before .before .before .before .before .pre .1
+room : (c : tie.Else4) → markTableSize ≤ length (start-of c .args .marks .now)
+room c =
+    let at-if1 = c .before .before .before .before in
+    let start = at-if1 .before .before .before in
+    start .pre .1
 
 mul-grade : tie.Need-mul-grade
 mul-grade c = omega (arith, below c .0, small c)

@@ -8,10 +8,16 @@ copy-requires : tie.Need-copy-requires
 copy-requires c κs = counted-place (c .before .before .before .pre)
 
 returns : tie.Need-returns
-returns c = counted-written (c .before .before .before .before .before .before .pre) (c .before .before .copy .ensures)
+returns c =
+    let at-copy-arg = c .before .before .before in
+    let start = at-copy-arg .before .before .before in
+    counted-written (start .pre) (c .before .before .copy .ensures)
 
 same-length : tie.Need-same-length
-same-length c = counted-length (c .before .before .before .before .before .before .pre) (returns c)
+same-length c =
+    let at-copy-arg = c .before .before .before in
+    let start = at-copy-arg .before .before .before in
+    counted-length (start .pre) (returns c)
 
 pub write-counted-spec : {M : Type 1} → statement M
 write-counted-spec =

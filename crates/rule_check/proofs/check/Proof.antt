@@ -15,8 +15,10 @@ returns-2 c =
 
 returns-3 : tie.Need-returns-3
 returns-3 c =
-    let checked = c .before .before .before .before .before .before .before .before .before in
-    refused-promise _ _ _ _ (checked .check-rule .result) (checked .before .before .if1 .left) (checked .check-rule .ensures) (c .before .before .before .before .before .refusal .given .1) (c .before .before .zero .ensures)
+    let at-refusal = c .before .before .before .before .before in
+    let checked = at-refusal .before .before .before .before in
+    let at-if1 = checked .before .before in
+    refused-promise _ _ _ _ (checked .check-rule .result) (at-if1 .if1 .left) (checked .check-rule .ensures) (at-refusal .refusal .given .1) (c .before .before .zero .ensures)
 
 pub check-spec : {M : Type 1} → statement M
 check-spec =

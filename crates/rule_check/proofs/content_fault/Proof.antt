@@ -52,45 +52,62 @@ follows : (c : tie.Else1)
     + (1 + c .before .before .before .before .args .shape .letters) + (2 + markWidth * c .before .before .before .before .args .shape .marks)) (c .before .before .before .before .args .rule .now)) ≤ 0
 follows c = subst (λ (l : List ℕ). length l ≤ 0) (c .before .rest-after .ensures) (c .if1 .left)
 
+abbrev start-of : tie.After-enum-told → tie.Start
+start-of c =
+    let at-rest-after = c .before .before .before .before in
+    at-rest-after .before .before .before
+
 -- the table is good
 table-passes : (c : tie.After-enum-told) → (input : ℕ)
-    → FirstFailure (tableChecks input (morphismOf (c .before .before .before .before .before .before .before .args .rule .now))) passed
+    → FirstFailure (tableChecks input (morphismOf (start-of c .args .rule .now))) passed
 table-passes c =
-    let b = c .before .before .before .before .before .before .before in
-    no-fault (λ input. tableChecks input (morphismOf (b .args .rule .now))) (c .before .before .table-fault .result)
-    (of-table _ _ (b .pre .0) (c .before .before .table-fault .result) (c .before .before .table-fault .ensures)) (c .enum-told .given .1)
+    let at-rest-after = c .before .before .before .before in
+    let start = at-rest-after .before .before .before in
+    no-fault (λ input. tableChecks input (morphismOf (start .args .rule .now))) (c .before .before .table-fault .result)
+    (of-table _ _ (start .pre .0) (c .before .before .table-fault .result) (c .before .before .table-fault .ensures)) (c .enum-told .given .1)
 
 returns-2 : tie.Need-returns-2
 returns-2 c =
-    let b = c .before .before .before .before .before .before .before .before in
-    let m = c .before .before .before .table-fault in (
-      table-refuses (b .args .rule .now) (end-is _ _ (b .pre .0)) (follows (c .before .before .before .before))
-          (fault-refused (λ input. tableChecks input (morphismOf (b .args .rule .now))) (m .result) (of-table _ _ (b .pre .0) (m .result) (m .ensures)) (c .before .refusal .given .1)),
+    let at-table-fault = c .before .before .before in
+    let at-if1 = at-table-fault .before in
+    let start = at-if1 .before .before .before .before in
+    let m = at-table-fault .table-fault in (
+      table-refuses (start .args .rule .now) (end-is _ _ (start .pre .0)) (follows at-if1)
+          (fault-refused (λ input. tableChecks input (morphismOf (start .args .rule .now))) (m .result) (of-table _ _ (start .pre .0) (m .result) (m .ensures)) (c .before .refusal .given .1)),
       refl,
     )
 
 mark-fault-requires : tie.Need-mark-fault-requires
-mark-fault-requires c κs = (table-is _ _ (c .before .before .before .before .before .before .before .before .pre .0), marks-room _ _ (c .before .before .before .before .before .before .before .before .pre .0) (c .before .before .before .before .before .before .before .before .pre .1))
+mark-fault-requires c κs =
+    let at-rest-after = c .before .before .before .before .before in
+    let start = at-rest-after .before .before .before in
+    (table-is _ _ (start .pre .0), marks-room _ _ (start .pre .0) (start .pre .1))
 
 returns-3 : tie.Need-returns-3
 returns-3 c =
-    let b = c .before .before .before .before .before .before .before .before .before .before .before .before .before .before in
-    let m = c .before .before .before .before .before .mark-fault in (
-      marks-decide (b .args .rule .now) (end-is _ _ (b .pre .0)) (follows (c .before .before .before .before .before .before .before .before .before .before)) (table-passes (c .before .before .before .before .before .before .before))
-          (fault-refused (λ input. markChecks input (morphismOf (b .args .rule .now)) (b .args .rule .now) (marksAt (b .args .rule .now)) 0 (marksOf (b .args .rule .now))) (m .result)
-          (of-marks _ _ (b .pre .0) (m .result) (m .ensures .0)) (c .before .refusal2 .given .1)),
+    let at-mark-fault = c .before .before .before .before .before in
+    let at-enum-told = at-mark-fault .before .before in
+    let at-if1 = at-enum-told .before .before .before in
+    let start = at-if1 .before .before .before .before in
+    let m = at-mark-fault .mark-fault in (
+      marks-decide (start .args .rule .now) (end-is _ _ (start .pre .0)) (follows at-if1) (table-passes at-enum-told)
+          (fault-refused (λ input. markChecks input (morphismOf (start .args .rule .now)) (start .args .rule .now) (marksAt (start .args .rule .now)) 0 (marksOf (start .args .rule .now))) (m .result)
+          (of-marks _ _ (start .pre .0) (m .result) (m .ensures .0)) (c .before .refusal2 .given .1)),
       kept-said _ _ _ _ _ _ (m .result) (m .ensures .1) (c .before .refusal2 .given .1),
     )
 
 returns-4 : tie.Need-returns-4
 returns-4 c =
-    let b = c .before .before .before .before .before .before .before .before .before .before .before .before .before in
-    let m = c .before .before .before .before .mark-fault in
-    let table = table-passes (c .before .before .before .before .before .before) in (
-      marks-decide (b .args .rule .now) (end-is _ _ (b .pre .0)) (follows (c .before .before .before .before .before .before .before .before .before)) table
-          (no-fault (λ input. markChecks input (morphismOf (b .args .rule .now)) (b .args .rule .now) (marksAt (b .args .rule .now)) 0 (marksOf (b .args .rule .now))) (m .result)
-          (of-marks _ _ (b .pre .0) (m .result) (m .ensures .0)) (c .enum-told2 .given .1)),
-      of-laid _ _ (b .pre .0) (laid-said _ _ _ _ _ _ (m .result) (m .ensures .1) (c .enum-told2 .given .1)),
+    let at-mark-fault = c .before .before .before .before in
+    let at-enum-told = at-mark-fault .before .before in
+    let at-if1 = at-enum-told .before .before .before in
+    let start = at-if1 .before .before .before .before in
+    let m = at-mark-fault .mark-fault in
+    let table = table-passes at-enum-told in (
+      marks-decide (start .args .rule .now) (end-is _ _ (start .pre .0)) (follows at-if1) table
+          (no-fault (λ input. markChecks input (morphismOf (start .args .rule .now)) (start .args .rule .now) (marksAt (start .args .rule .now)) 0 (marksOf (start .args .rule .now))) (m .result)
+          (of-marks _ _ (start .pre .0) (m .result) (m .ensures .0)) (c .enum-told2 .given .1)),
+      of-laid _ _ (start .pre .0) (laid-said _ _ _ _ _ _ (m .result) (m .ensures .1) (c .enum-told2 .given .1)),
     )
 
 pub content-fault-spec : {M : Type 1} → statement M

@@ -13,36 +13,47 @@ reach-requires c κs = (c .before .before .pre, blank-queue)
 
 triples-fault-requires : tie.Need-triples-fault-requires
 triples-fault-requires c κs =
-    let d = c .before in
-    let b = d .before .before .before .before .before .before .before .before in (
+    let at-s = c .before in
+    let at-least-without = at-s .before .before in
+    let at-reach = at-least-without .before .before .before in
+    let start = at-reach .before .before .before in
+    let b = start in (
       b .pre,
-      λ all. unreached (b .args .rule .now) (b .args .n) (b .args .k) (b .pre) all (d .before .before .before .before .before .reach .ensures)
-          (d .before .before .least-without .result) (d .before .before .least-without .ensures) (d .s .given .1),
+      λ all. unreached (b .args .rule .now) (b .args .n) (b .args .k) (b .pre) all (at-reach .reach .ensures)
+          (at-least-without .least-without .result) (at-least-without .least-without .ensures) (at-s .s .given .1),
     )
 
 associates-requires : tie.Need-associates-requires
 associates-requires c κs =
-    let b = c .before .before .before .before .before .before .before .before .before in (
+    let at-least-without = c .before .before .before in
+    let at-reach = at-least-without .before .before .before in
+    let start = at-reach .before .before .before in
+    let b = start in (
       b .pre,
-      all-found (omega (arith, length-replicate {A = ℕ} 256 0)) (c .before .before .before .before .before .before .reach .ensures)
-          (c .before .before .before .least-without .result) (c .before .before .before .least-without .ensures) (c .before .enum-told .given .1),
+      all-found (omega (arith, length-replicate {A = ℕ} 256 0)) (at-reach .reach .ensures)
+          (at-least-without .least-without .result) (at-least-without .least-without .ensures) (c .before .enum-told .given .1),
     )
 
 returns-2 : tie.Need-returns-2
 returns-2 c =
-    let b = c .before .before .before .before .before .before .before .before .before .before .before in
-    let d = c .before .before .before in
-    letters-pass (b .args .rule .now) (b .args .n) (b .args .k) (b .pre) (d .before .before .before .before .before .reach .ensures)
-    (d .before .before .least-without .result) (d .before .before .least-without .ensures) (d .enum-told .given .1)
+    let at-enum-told = c .before .before .before in
+    let at-least-without = at-enum-told .before .before in
+    let at-reach = at-least-without .before .before .before in
+    let start = at-reach .before .before .before in
+    letters-pass (start .args .rule .now) (start .args .n) (start .args .k) (start .pre) (at-reach .reach .ensures)
+    (at-least-without .least-without .result) (at-least-without .least-without .ensures) (at-enum-told .enum-told .given .1)
     (c .before .associates .result) (c .before .associates .ensures) (c .if1 .taken)
 
 triples-fault-requires-2 : tie.Need-triples-fault-requires-2
 triples-fault-requires-2 c κs =
-    let d = c .before .before .before in
-    let b = d .before .before .before .before .before .before .before .before in (
+    let at-enum-told = c .before .before .before in
+    let at-least-without = at-enum-told .before .before in
+    let at-reach = at-least-without .before .before .before in
+    let start = at-reach .before .before .before in
+    let b = start in (
       b .pre,
-      λ all. all-reached (b .args .rule .now) (b .args .n) (b .args .k) (b .pre) all (d .before .before .before .before .before .reach .ensures)
-          (d .before .before .least-without .result) (d .before .before .least-without .ensures) (d .enum-told .given .1),
+      λ all. all-reached (b .args .rule .now) (b .args .n) (b .args .k) (b .pre) all (at-reach .reach .ensures)
+          (at-least-without .least-without .result) (at-least-without .least-without .ensures) (at-enum-told .enum-told .given .1),
     )
 
 pub table-fault-spec : {M : Type 1} → statement M

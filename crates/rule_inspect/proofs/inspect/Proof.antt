@@ -7,8 +7,10 @@ use Rattle.rule_inspect.proofs.inspect.Tie as tie
 
 returns : tie.Need-returns
 returns c =
-    let k = c .before .before .before .before .before .before .before .before .before .check in
-    inspected-rule _ _ _ (k .result) (k .ensures) (c .before .before .before .before .before .shape .given .1) (c .before .before .zero .ensures)
+    let at-shape = c .before .before .before .before .before in
+    let at-check = at-shape .before .before .before .before in
+    let k = at-check .check in
+    inspected-rule _ _ _ (k .result) (k .ensures) (at-shape .shape .given .1) (c .before .before .zero .ensures)
 
 returns-2 : tie.Need-returns-2
 returns-2 c =

@@ -5,7 +5,10 @@ use Rattle.rule_laid.proofs.write_laid.Statement.{statement}
 use Rattle.rule_laid.proofs.write_laid.Tie as tie
 
 write-rule-requires : tie.Need-write-rule-requires
-write-rule-requires c κs = laid-place (c .before .before .before .before .before .before .pre)
+write-rule-requires c κs =
+    let at-products = c .before .before .before in
+    let start = at-products .before .before .before in
+    laid-place (start .pre)
 
 returns : tie.Need-returns
 returns c = laid-written (c .before .before .write-rule .ensures)

@@ -24,7 +24,9 @@ entries-requires c κs = omega (arith, mul-le-mul (good c .within) (good c .with
 
 returns : tie.Need-returns
 returns c =
-    let a = c .before .before .before .before .before .before .args in
+    let at-byte-count = c .before .before .before .before in
+    let start = at-byte-count .before .before in
+    let a = start .args in
     by-entries elementsSection 0 (a .rule .now) (good (c .before)) (c .entries .result) (c .entries .ensures)
 
 returns-2 : tie.Need-returns-2

@@ -20,7 +20,9 @@ entries-requires c κs = omega (arith, good c .within)
 
 returns : tie.Need-returns
 returns c =
-    let a = c .before .before .before .before .before .before .args in
+    let at-byte-count = c .before .before .before .before in
+    let start = at-byte-count .before .before in
+    let a = start .args in
     by-entries (lettersSection (a .n)) (a .at) (a .rest .now) (good (c .before)) (c .entries .result) (c .entries .ensures)
 
 returns-2 : tie.Need-returns-2

@@ -20,7 +20,9 @@ triples-requires c κs = (c .before .before .before .before .before .pre, good c
 
 returns : tie.Need-returns
 returns c =
-    let a = c .before .before .before .before .before .before .args in
+    let at-wide-count = c .before .before .before .before in
+    let start = at-wide-count .before .before in
+    let a = start .args in
     by-entries (marksSection (a .n)) (a .at) (a .rest .now) (good (c .before)) (c .triples .result) (c .triples .ensures _ _ (mark-ranges (a .n)))
 
 returns-2 : tie.Need-returns-2

@@ -46,24 +46,38 @@ loop2-holds c =
     }
 
 product-requires : tie.Need-product-requires Inv-loop2 μ-loop2 Inv-loop μ-loop
-product-requires c κs = table-place (c .before .before .before .before .before .before .before .pre .0) (omega arith) (omega arith)
+product-requires c κs =
+    let at-loop = c .before .before .before .before in
+    let start = at-loop .before .before .before in
+    table-place (start .pre .0) (omega arith) (omega arith)
 
 cast-columns : tie.Need-cast-columns Inv-loop2 μ-loop2 Inv-loop μ-loop
 cast-columns c =
-    let t = c .before .before .before .before .before .before .before .before .pre .0 in
+    let at-loop = c .before .before .before .before .before in
+    let start = at-loop .before .before .before in
+    let t = start .pre .0 in
     omega (arith, t .small, product-below t (omega arith) (omega arith) (c .product .ensures))
 
 mul-columns : tie.Need-mul-columns Inv-loop2 μ-loop2 Inv-loop μ-loop
 mul-columns c = omega (arith, c .before .before .loop2 .inv .below)
 
 add-columns : tie.Need-add-columns Inv-loop2 μ-loop2 Inv-loop μ-loop
-add-columns c = omega (arith, c .before .before .loop2 .inv .below, c .before .before .before .before .before .before .before .before .pre .0 .small)
+add-columns c =
+    let at-loop = c .before .before .before .before .before in
+    let start = at-loop .before .before .before in
+    omega (arith, c .before .before .loop2 .inv .below, start .pre .0 .small)
 
 array-write-columns : tie.Need-array-write-columns Inv-loop2 μ-loop2 Inv-loop μ-loop
-array-write-columns c = omega (arith, c .before .before .loop2 .inv .below, c .before .before .before .before .before .before .before .before .pre .0 .small)
+array-write-columns c =
+    let at-loop = c .before .before .before .before .before in
+    let start = at-loop .before .before .before in
+    omega (arith, c .before .before .loop2 .inv .below, start .pre .0 .small)
 
 loop2-again : tie.Need-loop2-again Inv-loop2 μ-loop2 Inv-loop μ-loop
-loop2-again c = column-more (c .before .before .before .before .before .before .before .before .pre .0 .small) (c .before .before .loop2 .inv) (c .before .loop2-test .taken) (c .product .ensures)
+loop2-again c =
+    let at-loop = c .before .before .before .before .before in
+    let start = at-loop .before .before .before in
+    column-more (start .pre .0 .small) (c .before .before .loop2 .inv) (c .before .loop2-test .taken) (c .product .ensures)
 
 loop-again : tie.Need-loop-again Inv-loop2 μ-loop2 Inv-loop μ-loop
 loop-again c = columns-next (c .before .loop2 .inv .filled) (c .loop2-test .left)

@@ -8,6 +8,7 @@ use lib.ListN.{length}
 use Rattle.formats.proofs.Tables.{Table}
 use Rattle.formats.specs.Table.{morphismAt}
 use Rattle.formats.specs.RuleFile.{markStart, markCycle, markGrade, gradeAmong}
+use Rattle.scratch.specs.Map.{markTableSize}
 use Rattle.rule_marks.specs.Faults.{MarksRoom, MarksLaid}
 use Rattle.rule_marks.proofs.MarkOrder.{no-marks, good-more, marks-pass, mark-unlinked, mark-repeated, said-unlinked, said-linked}
 use Rattle.formats.proofs.MarksPassed.{GoodMarks}
@@ -45,7 +46,7 @@ cycle-below : (d : Turn) → markCycle (markBytes d) (section d) (d .before .loo
 cycle-below d = room d .cycles (d .before .loop .i) (d .loop-test .taken)
 
 -- the mark's place in the table
-spot-below : (d : Turn) → markStart (markBytes d) (section d) (d .before .loop .i) * 64 + markCycle (markBytes d) (section d) (d .before .loop .i) < 4096
+spot-below : (d : Turn) → markStart (markBytes d) (section d) (d .before .loop .i) * 64 + markCycle (markBytes d) (section d) (d .before .loop .i) < markTableSize
 spot-below d = pair-below (table d .small) (start-below d) (cycle-below d)
 
 spot-in : (d : Turn) → markStart (markBytes d) (section d) (d .before .loop .i) * 64 + markCycle (markBytes d) (section d) (d .before .loop .i) < length (d .before .loop .table)
@@ -93,7 +94,10 @@ linked-requires c κs =
     (table d, (start-below d, cycle-below d))
 
 same-length : tie.Need-same-length Inv-loop μ-loop
-same-length c = c .before .before .before .before .before .before .loop .inv .1 .same-length
+same-length c =
+    let at-loop-test = c .before .before .before .before .before in
+    let at-loop = at-loop-test .before in
+    at-loop .loop .inv .1 .same-length
 
 returns : tie.Need-returns Inv-loop μ-loop
 unfolding markStart markCycle
@@ -114,42 +118,61 @@ add-if2 c = omega (arith, spot-below (c .before .before .before .before .before)
 
 slice-read-if2 : tie.Need-slice-read-if2 Inv-loop μ-loop
 unfolding markStart markCycle
-slice-read-if2 c = spot-in (c .before .before .before .before .before .before)
+slice-read-if2 c =
+    let at-linked = c .before .before in
+    let at-loop-test = at-linked .before .before .before .before in
+    spot-in at-loop-test
 
 same-length-2 : tie.Need-same-length-2 Inv-loop μ-loop
-same-length-2 c = c .before .before .before .before .before .before .before .before .loop .inv .1 .same-length
+same-length-2 c =
+    let at-linked = c .before .before .before in
+    let at-loop = at-linked .before .before .before .before .before in
+    at-loop .loop .inv .1 .same-length
 
 returns-2 : tie.Need-returns-2 Inv-loop μ-loop
 unfolding markStart markCycle
 returns-2 c =
-    let d = c .before .before .before .before .before .before .before in
-    let l = said-linked _ _ _ (c .before .before .before .linked .result) (c .before .before .before .linked .ensures) (c .before .before .if1 .left) in
-    let f = mark-seen (markBytes d) (section d) (d .before .loop .i) (table d .small) (d .before .loop .inv .1) (start-below d) (cycle-below d) (c .if2 .taken) in (
-      λ input. mark-repeated input _ (d .before .loop .i) (d .loop-test .taken) (d .before .loop .inv .0) l (f .earlier) (f .before)
+    let at-linked = c .before .before .before in
+    let at-loop-test = at-linked .before .before .before .before in
+    let at-loop = at-loop-test .before in
+    let l = said-linked _ _ _ (at-linked .linked .result) (at-linked .linked .ensures) (c .before .before .if1 .left) in
+    let f = mark-seen (markBytes at-loop-test) (section at-loop-test) (at-loop .loop .i) (table at-loop-test .small) (at-loop .loop .inv .1) (start-below at-loop-test) (cycle-below at-loop-test) (c .if2 .taken) in (
+      λ input. mark-repeated input _ (at-loop .loop .i) (at-loop-test .loop-test .taken) (at-loop .loop .inv .0) l (f .earlier) (f .before)
           (f .same-start) (f .same-cycle),
-      d .before .loop .inv .1 .same-length,
+      at-loop .loop .inv .1 .same-length,
     )
 
 mul-table : tie.Need-mul-table Inv-loop μ-loop
 unfolding markStart markCycle
-mul-table c = omega (arith, spot-below (c .before .before .before .before .before .before .before))
+mul-table c =
+    let at-linked = c .before .before .before in
+    let at-loop-test = at-linked .before .before .before .before in
+    omega (arith, spot-below at-loop-test)
 
 add-table : tie.Need-add-table Inv-loop μ-loop
 unfolding markStart markCycle
-add-table c = omega (arith, spot-below (c .before .before .before .before .before .before .before))
+add-table c =
+    let at-linked = c .before .before .before in
+    let at-loop-test = at-linked .before .before .before .before in
+    omega (arith, spot-below at-loop-test)
 
 slice-write-table : tie.Need-slice-write-table Inv-loop μ-loop
 unfolding markStart markCycle
-slice-write-table c = spot-in (c .before .before .before .before .before .before .before)
+slice-write-table c =
+    let at-linked = c .before .before .before in
+    let at-loop-test = at-linked .before .before .before .before in
+    spot-in at-loop-test
 
 loop-again : tie.Need-loop-again Inv-loop μ-loop
 unfolding markStart markCycle markGrade
 loop-again c =
-    let d = c .before .before .before .before .before .before .before in
-    let l = said-linked _ _ _ (c .before .before .before .linked .result) (c .before .before .before .linked .ensures) (c .before .before .if1 .left) in (
-      good-more (d .before .loop .inv .0)
-          (record { linked = l; fresh = mark-new (markBytes d) (section d) (d .before .loop .i) (table d .small) (d .before .loop .inv .1) (start-below d) (cycle-below d) (λ j h. room d .grades j (omega (arith, d .loop-test .taken)) .above) (c .if2 .left) }),
-      laid-next (markBytes d) (section d) (d .before .loop .i) (table d .small) (d .before .loop .inv .1) (start-below d) (cycle-below d) (spot-in d),
+    let at-linked = c .before .before .before in
+    let at-loop-test = at-linked .before .before .before .before in
+    let at-loop = at-loop-test .before in
+    let l = said-linked _ _ _ (at-linked .linked .result) (at-linked .linked .ensures) (c .before .before .if1 .left) in (
+      good-more (at-loop .loop .inv .0)
+          (record { linked = l; fresh = mark-new (markBytes at-loop-test) (section at-loop-test) (at-loop .loop .i) (table at-loop-test .small) (at-loop .loop .inv .1) (start-below at-loop-test) (cycle-below at-loop-test) (λ j h. room at-loop-test .grades j (omega (arith, at-loop-test .loop-test .taken)) .above) (c .if2 .left) }),
+      laid-next (markBytes at-loop-test) (section at-loop-test) (at-loop .loop .i) (table at-loop-test .small) (at-loop .loop .inv .1) (start-below at-loop-test) (cycle-below at-loop-test) (spot-in at-loop-test),
       omega arith,
     )
 

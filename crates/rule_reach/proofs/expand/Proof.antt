@@ -22,7 +22,11 @@ add-requires : tie.Need-add-requires Inv-loop μ-loop
 add-requires c κs = expanding-add (c .before .before .before .before .loop .inv) (c .before .before .before .loop-test .taken) (c .before .step .ensures)
 
 loop-again : tie.Need-loop-again Inv-loop μ-loop
-loop-again c = expanding-next (c .before .before .before .before .before .before .before .loop .inv) (c .before .before .before .before .before .before .loop-test .taken) (c .before .before .before .before .step .ensures) (c .before .before .add .ensures)
+loop-again c =
+    let at-step = c .before .before .before .before in
+    let at-loop-test = at-step .before .before in
+    let at-loop = at-loop-test .before in
+    expanding-next (at-loop .loop .inv) (at-loop-test .loop-test .taken) (at-step .step .ensures) (c .before .before .add .ensures)
 
 same-length : tie.Need-same-length Inv-loop μ-loop
 same-length c = c .before .loop .inv .kept .same-length

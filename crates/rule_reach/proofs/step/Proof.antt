@@ -19,7 +19,10 @@ product-requires c κs =
     omega (arith, image-below place (c .before .before .image .ensures), entry-below place (c .before .if1 .left))
 
 returns-2 : tie.Need-returns-2
-returns-2 c = step-later (c .before .before .before .before .before .before .pre) (c .before .before .before .image .ensures) (c .before .before .if1 .left) (c .product .ensures)
+returns-2 c =
+    let at-image = c .before .before .before in
+    let start = at-image .before .before .before in
+    step-later (start .pre) (at-image .image .ensures) (c .before .before .if1 .left) (c .product .ensures)
 
 pub step-spec : {M : Type 1} → statement M
 step-spec =

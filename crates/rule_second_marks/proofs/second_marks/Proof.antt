@@ -14,18 +14,26 @@ use Rattle.rule_second_marks.proofs.second_marks.Tie as tie
 
 returns : tie.Need-returns
 returns c =
-    let b = c .before .before .before .before .before .before .before in
-    let call = c .before .before .before .marks-section in (
-      second-cut (b .args .rule .now) (b .args .bytes .now) (b .pre .1 .0 .0) (b .pre .1 .0 .1)
-          (section-refused (marksSection (b .args .n)) 0 (b .args .bytes .now) (call .result) (call .ensures) (c .before .refusal .given .1)),
+    let at-marks-section = c .before .before .before in
+    let start = at-marks-section .before .before .before .before in
+    let call = at-marks-section .marks-section in (
+      second-cut (start .args .rule .now) (start .args .bytes .now) (start .pre .1 .0 .0) (start .pre .1 .0 .1)
+          (section-refused (marksSection (start .args .n)) 0 (start .args .bytes .now) (call .result) (call .ensures) (c .before .refusal .given .1)),
       refl,
     )
 
+abbrev start-of : tie.After-known-told → tie.Start
+start-of c =
+    let at-marks-section = c .before .before .before in
+    at-marks-section .before .before .before .before
+
 -- the section was read
-marks : (c : tie.After-known-told) → SectionPassed (marksSection (c .before .before .before .before .before .before .before .args .n)) 0 (c .before .before .before .before .before .before .before .args .bytes .now) (c .before .count .given .0 .0)
+marks : (c : tie.After-known-told) → SectionPassed (marksSection (start-of c .args .n)) 0 (start-of c .args .bytes .now) (c .before .count .given .0 .0)
 marks c =
-    let a = c .before .before .before .before .before .before .before .args in
-    let call = c .before .before .before .marks-section in
+    let at-marks-section = c .before .before .before in
+    let start = at-marks-section .before .before .before .before in
+    let a = start .args in
+    let call = at-marks-section .marks-section in
     section-read (marksSection (a .n)) 0 (a .bytes .now) (call .result) (call .ensures) (c .before .count .given .1)
 
 mul-end : tie.Need-mul-end
@@ -39,27 +47,33 @@ rest-after-requires c κs = end-inside _ (marks c)
 
 returns-2 : tie.Need-returns-2
 returns-2 c =
-    let d = c .before .before in
-    let b = d .before .before .before .before .before .before .before in (
-      second-trailing (b .args .rule .now) (b .args .bytes .now) (b .pre .1 .0 .0) (b .pre .1 .0 .1) (marks d)
+    let at-known-told = c .before .before in
+    let at-marks-section = at-known-told .before .before .before in
+    let start = at-marks-section .before .before .before .before in
+    let b = start in (
+      second-trailing (b .args .rule .now) (b .args .bytes .now) (b .pre .1 .0 .0) (b .pre .1 .0 .1) (marks at-known-told)
           (subst (λ (l : List ℕ). 0 < length l) (c .before .rest-after .ensures) (c .if1 .taken)),
       refl,
     )
 
 mark-fault-requires : tie.Need-mark-fault-requires
 mark-fault-requires c κs =
-    let d = c .before .before .before in
-    let b = d .before .before .before .before .before .before .before in
-    (b .pre .0, marks-room _ (marks d) (b .pre .1 .1))
+    let at-known-told = c .before .before .before in
+    let at-marks-section = at-known-told .before .before .before in
+    let start = at-marks-section .before .before .before .before in
+    (start .pre .0, marks-room _ (marks at-known-told) (start .pre .1 .1))
 
 returns-3 : tie.Need-returns-3
 returns-3 c =
-    let d = c .before .before .before .before .before .before in
-    let b = d .before .before .before .before .before .before .before in
+    let at-if1 = c .before .before .before .before in
+    let at-rest-after = at-if1 .before in
+    let at-known-told = at-rest-after .before in
+    let at-marks-section = at-known-told .before .before .before in
+    let start = at-marks-section .before .before .before .before in
     let fault = c .before .before .mark-fault in (
-      second-decides (b .args .rule .now) (b .args .bytes .now) (b .pre .1 .0 .0) (b .pre .1 .0 .1) (marks d)
-          (subst (λ (l : List ℕ). length l ≤ 0) (c .before .before .before .before .before .rest-after .ensures) (c .before .before .before .before .if1 .left)) (fault .result) (fault .ensures .0),
-      second-laid (b .args .rule .now) (b .args .bytes .now) (b .pre .1 .0 .0) (b .pre .1 .0 .1) (marks d) _ _ (fault .result) (fault .ensures .1),
+      second-decides (start .args .rule .now) (start .args .bytes .now) (start .pre .1 .0 .0) (start .pre .1 .0 .1) (marks at-known-told)
+          (subst (λ (l : List ℕ). length l ≤ 0) (at-rest-after .rest-after .ensures) (at-if1 .if1 .left)) (fault .result) (fault .ensures .0),
+      second-laid (start .args .rule .now) (start .args .bytes .now) (start .pre .1 .0 .0) (start .pre .1 .0 .1) (marks at-known-told) _ _ (fault .result) (fault .ensures .1),
     )
 
 pub second-marks-spec : {M : Type 1} → statement M

@@ -11,20 +11,26 @@ write-counted-requires c κs = rule-elements (c .before .before .before .before 
 write-counted-requires-2 : tie.Need-write-counted-requires-2
 write-counted-requires-2 c κs =
     let elements = c .before .before .before in
-    rule-letters (elements .before .before .before .before .before .before .pre) (elements .write-counted .ensures)
+    let at-write-counted-arg = elements .before in
+    let start = at-write-counted-arg .before .before .before .before .before in
+    rule-letters (start .pre) (elements .write-counted .ensures)
 
 write-marks-requires : tie.Need-write-marks-requires
 write-marks-requires c κs =
     let letters = c .before .before .before in
     let elements = letters .before .before .before .before in
-    rule-marks (elements .before .before .before .before .before .before .pre) (elements .write-counted .ensures) (letters .write-counted2 .ensures)
+    let at-write-counted-arg = elements .before in
+    let start = at-write-counted-arg .before .before .before .before .before in
+    rule-marks (start .pre) (elements .write-counted .ensures) (letters .write-counted2 .ensures)
 
 returns : tie.Need-returns
 returns c =
     let marks = c .before .before in
     let letters = marks .before .before .before .before in
     let elements = letters .before .before .before .before in
-    rule-written (elements .before .before .before .before .before .before .pre) (elements .write-counted .ensures) (letters .write-counted2 .ensures) (marks .write-marks .ensures)
+    let at-write-counted-arg = elements .before in
+    let start = at-write-counted-arg .before .before .before .before .before in
+    rule-written (start .pre) (elements .write-counted .ensures) (letters .write-counted2 .ensures) (marks .write-marks .ensures)
 
 pub write-rule-spec : {M : Type 1} → statement M
 write-rule-spec =

@@ -36,19 +36,30 @@ cast-last c = fits-8-64 (c .shared-slice-known4 .given _)
 
 returns-3 : tie.Need-returns-3 Inv-loop μ-loop
 returns-3 c floor bound r =
-    beyond-third _ _ _ _ _ (c .before .before .before .before .before .before .before .loop .inv .0) _ (c .before .before .before .before .before .before .loop-test .taken) floor bound r (c .before .before .before .before .if1 .left) (c .before .before .if2 .left) (inr (c .if3 .taken))
+    let at-if1 = c .before .before .before .before in
+    let at-loop-test = at-if1 .before .before in
+    let at-loop = at-loop-test .before in
+    beyond-third _ _ _ _ _ (at-loop .loop .inv .0) _ (at-loop-test .loop-test .taken) floor bound r (at-if1 .if1 .left) (c .before .before .if2 .left) (inr (c .if3 .taken))
 
 returns-4 : tie.Need-returns-4 Inv-loop μ-loop
 returns-4 c floor bound r =
-    beyond-third _ _ _ _ _ (c .before .before .before .before .before .before .before .before .loop .inv .0) _ (c .before .before .before .before .before .before .before .loop-test .taken) floor bound r (c .before .before .before .before .before .if1 .left) (c .before .before .before .if2 .left) (inl (c .if4 .taken))
+    let at-if2 = c .before .before .before in
+    let at-if1 = at-if2 .before .before in
+    let at-loop-test = at-if1 .before .before in
+    let at-loop = at-loop-test .before in
+    beyond-third _ _ _ _ _ (at-loop .loop .inv .0) _ (at-loop-test .loop-test .taken) floor bound r (at-if1 .if1 .left) (at-if2 .if2 .left) (inl (c .if4 .taken))
 
 loop-again : tie.Need-loop-again Inv-loop μ-loop
-loop-again c = (
-  λ floor bound r.
-      triple-good _ _ _ _ _ (c .before .before .before .before .before .before .before .before .loop .inv .0) _ (c .before .before .before .before .before .before .before .loop-test .taken) floor bound r (c .before .before .before .before .before .if1 .left) (c .before .before .before .if2 .left)
-      (record { above = c .if4 .left; below = c .before .if3 .left }),
-  omega arith,
-)
+loop-again c =
+    let at-if2 = c .before .before .before in
+    let at-if1 = at-if2 .before .before in
+    let at-loop-test = at-if1 .before .before in
+    let at-loop = at-loop-test .before in (
+      λ floor bound r.
+          triple-good _ _ _ _ _ (at-loop .loop .inv .0) _ (at-loop-test .loop-test .taken) floor bound r (at-if1 .if1 .left) (at-if2 .if2 .left)
+          (record { above = c .if4 .left; below = c .before .if3 .left }),
+      omega arith,
+    )
 
 returns-5 : tie.Need-returns-5 Inv-loop μ-loop
 returns-5 c floor bound r = all-in (c .before .loop .inv .0 floor bound r) (omega arith)

@@ -14,14 +14,25 @@ use Rattle.section_triples.proofs.triples.Tie as tie
 returns : tie.Need-returns
 returns c floor bound r input = entries-cut _ _ floor bound input _ _ (c .if1 .taken)
 
+abbrev start-of : tie.After-known-told → tie.Start
+start-of c =
+    let at-if1 = c .before .before .before .before in
+    at-if1 .before .before
+
 -- the byte that was found
 out : (c : tie.After-known-told) (floor bound : ℕ → ℕ)
-    → TripleRanges floor bound (c .before .before .before .before .before .before .args .first) (c .before .before .before .before .before .before .args .second) (c .before .before .before .before .before .before .args .third) (c .before .before .before .before .before .before .args .least)
-    → FirstOut (c .before .before .before .before .before .before .args .rest .now) 2 (3 * c .before .before .before .before .before .before .args .count) floor bound (c .before .i .given .0 .0)
-out c floor bound r = let call = c .before .before .before .first-out in found-at (call .result) (call .ensures floor bound r) (c .before .i .given .1)
+    → TripleRanges floor bound (start-of c .args .first) (start-of c .args .second) (start-of c .args .third) (start-of c .args .least)
+    → FirstOut (start-of c .args .rest .now) 2 (3 * start-of c .args .count) floor bound (c .before .i .given .0 .0)
+out c floor bound r =
+    let at-first-out = c .before .before .before in
+    let call = at-first-out .first-out in
+    found-at (call .result) (call .ensures floor bound r) (c .before .i .given .1)
 
-below : (c : tie.After-known-told) → c .before .i .given .0 .0 < 3 * c .before .before .before .before .before .before .args .count
-below c = let call = c .before .before .before .first-out in found-below _ _ _ _ _ _ (call .result) (call .ensures) (c .before .i .given .1)
+below : (c : tie.After-known-told) → c .before .i .given .0 .0 < 3 * start-of c .args .count
+below c =
+    let at-first-out = c .before .before .before in
+    let call = at-first-out .first-out in
+    found-below _ _ _ _ _ _ (call .result) (call .ensures) (c .before .i .given .1)
 
 add-t19 : tie.Need-add-t19
 add-t19 c = omega (arith, below c)

@@ -12,13 +12,19 @@ cast-t15 c = fits-8-64 (c .slice-known5 .given _)
 
 returns : tie.Need-returns
 returns c =
-    let at-reduce = c .before .before .before .before .before .before .before .before in
-    size-strong (at-reduce .before .before .before .before .before .before .before .pre) (at-reduce .reduce .result) (omega arith) (at-reduce .reduce .ensures) (c .before .enum-told .given .1)
+    let at-map2 = c .before .before .before .before .before in
+    let at-reduce = at-map2 .before .before .before in
+    let at-reduce-arg = at-reduce .before .before .before in
+    let start = at-reduce-arg .before .before .before .before in
+    size-strong (start .pre) (at-reduce .reduce .result) (omega arith) (at-reduce .reduce .ensures) (c .before .enum-told .given .1)
 
 returns-2 : tie.Need-returns-2
 returns-2 c =
-    let at-reduce = c .before .before .before .before .before .before .before in
-    size-weak (at-reduce .before .before .before .before .before .before .before .pre) (at-reduce .reduce .result) (omega arith) (at-reduce .reduce .ensures) (c .enum-told2 .given .1)
+    let at-map2 = c .before .before .before .before in
+    let at-reduce = at-map2 .before .before .before in
+    let at-reduce-arg = at-reduce .before .before .before in
+    let start = at-reduce-arg .before .before .before .before in
+    size-weak (start .pre) (at-reduce .reduce .result) (omega arith) (at-reduce .reduce .ensures) (c .enum-told2 .given .1)
 
 pub reduced-size-spec : {M : Type 1} → statement M
 reduced-size-spec =

@@ -11,19 +11,25 @@ returns : tie.Need-returns
 returns c = first-refused _ _ _ (checked-refused 1 _ _ _ _ (c .before .before .before .before .before .check .ensures) (c .before .refusal .given .1))
 
 check-second-requires : tie.Need-check-second-requires
-check-second-requires c κs = checked-room 1 _ _ (checked-rule 1 _ _ _ _ (c .before .before .before .before .before .before .check .ensures) (c .before .before .shape .given .1))
+check-second-requires c κs =
+    let at-scratch = c .before .before .before .before .before in
+    let at-check = at-scratch .before in
+    checked-room 1 _ _ (checked-rule 1 _ _ _ _ (at-check .check .ensures) (c .before .before .shape .given .1))
 
 returns-2 : tie.Need-returns-2
 returns-2 c =
     let second = c .before .before .before .before .before in
-    let first = second .before .before .before .before .before .before .before in
-    both-checked _ _ _ (checked-rule 1 _ _ _ _ (first .check .ensures) (second .before .before .before .shape .given .1)) (second .check-second .result) _ (second .check-second .ensures) (c .before .other .given .1)
+    let at-shape = second .before .before .before in
+    let first = at-shape .before .before .before .before in
+    both-checked _ _ _ (checked-rule 1 _ _ _ _ (first .check .ensures) (at-shape .shape .given .1)) (second .check-second .result) _ (second .check-second .ensures) (c .before .other .given .1)
 
 returns-3 : tie.Need-returns-3
 returns-3 c =
-    let second = c .before .before .before .before .before .before .before .before .before in
-    let first = second .before .before .before .before .before .before .before in
-    second-refused _ _ _ (checked-rule 1 _ _ _ _ (first .check .ensures) (second .before .before .before .shape .given .1)) (second .check-second .result) _ (second .check-second .ensures) (c .before .before .before .before .before .refusal2 .given .1) (c .before .before .zero .ensures)
+    let at-refusal2 = c .before .before .before .before .before in
+    let second = at-refusal2 .before .before .before .before in
+    let at-shape = second .before .before .before in
+    let first = at-shape .before .before .before .before in
+    second-refused _ _ _ (checked-rule 1 _ _ _ _ (first .check .ensures) (at-shape .shape .given .1)) (second .check-second .result) _ (second .check-second .ensures) (at-refusal2 .refusal2 .given .1) (c .before .before .zero .ensures)
 
 pub check-both-spec : {M : Type 1} → statement M
 check-both-spec =

@@ -6,8 +6,10 @@ use Rattle.two_rules.proofs.check_second.Tie as tie
 
 returns : tie.Need-returns
 returns c =
+    let at-check-rule-arg = c .before .before .before in
+    let start = at-check-rule-arg .before .before .before in
     let checked = c .before .before .check-rule in
-    second-verdict _ (c .before .before .before .before .before .before .pre) _ _ (checked .result) (checked .ensures)
+    second-verdict _ (start .pre) _ _ (checked .result) (checked .ensures)
 
 pub check-second-spec : {M : Type 1} → statement M
 check-second-spec =

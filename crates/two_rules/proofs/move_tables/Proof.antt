@@ -2,6 +2,7 @@
 use Prim.Native.Nat.{_+_, _-_}
 use native.Mathlib.Omega.{arith}
 use lib.ListN.{getD, length-set}
+use Rattle.scratch.specs.Map.{markTableSize, searchEnd}
 use Rattle.two_rules.proofs.Moving.{Moving, moving-start, moving-inside, moving-next, moving-all}
 use Rattle.two_rules.proofs.move_tables.Statement.{statement}
 use Rattle.two_rules.proofs.move_tables.Tie as tie
@@ -10,7 +11,7 @@ abbrev Inv-loop : tie.InvT-loop
 Inv-loop scratch₀ i₀ scratch i = Moving i scratch₀ scratch
 
 abbrev μ-loop : tie.MeasureT-loop
-μ-loop scratch₀ i₀ scratch i = 4096 - i
+μ-loop scratch₀ i₀ scratch i = markTableSize - i
 
 loop-holds : tie.Need-loop-holds Inv-loop μ-loop
 loop-holds c = moving-start (c .pre)
@@ -25,7 +26,7 @@ slice-write-scratch : tie.Need-slice-write-scratch Inv-loop μ-loop
 slice-write-scratch c = omega (arith, moving-inside (c .before .before .before .loop .inv) (c .before .before .loop-test .taken))
 
 slice-write-scratch-2 : tie.Need-slice-write-scratch-2 Inv-loop μ-loop
-slice-write-scratch-2 c = omega (arith, moving-inside (c .before .before .before .loop .inv) (c .before .before .loop-test .taken), length-set (c .before .before .before .loop .scratch) (c .before .before .before .loop .i) (getD (c .before .before .before .loop .scratch) (61440 + c .before .before .before .loop .i) 0))
+slice-write-scratch-2 c = omega (arith, moving-inside (c .before .before .before .loop .inv) (c .before .before .loop-test .taken), length-set (c .before .before .before .loop .scratch) (c .before .before .before .loop .i) (getD (c .before .before .before .loop .scratch) (searchEnd + c .before .before .before .loop .i) 0))
 
 loop-again : tie.Need-loop-again Inv-loop μ-loop
 loop-again c = moving-next (c .before .before .before .loop .inv) (c .before .before .loop-test .taken)
