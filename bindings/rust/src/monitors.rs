@@ -159,8 +159,7 @@ pub fn advance_word(
 }
 
 fn advanced(monitor: Monitor, packed: u64) -> Result<Advanced, NotMoved> {
-    let [before, since, third] =
-        unpack(packed).map_err(|refused| NotMoved { monitor, refused })?;
+    let [before, since, third] = unpack(packed).map_err(|refused| NotMoved { monitor, refused })?;
     let verdict = match (since, (third & 255) as u8, third >> 8) {
         (NONE, 4, 0) => None,
         (0..=63, grade @ 0..=3, turns @ 1..=64) => Some(Verdict { grade, turns }),

@@ -1,14 +1,16 @@
 //! The small rules of document 01, with grade 3 on each mark, each with the answer that the document gives; further grades, and the turns
 //! of cycles.
 
+use duknavet::words::Explained;
+use duknavet::{advance_event, advance_mark, advance_stay, advance_word};
 use duknavet::{automaton_rule, classes, combine, complement, confirm, event, fresh, included};
 use duknavet::{keep, mark, member, reduce, reduce_rounds, return_to, state_kind, strong};
 use duknavet::{successors, verdict};
 use duknavet::{Classes, Confirmation, Inclusion, Membership, StateKind};
-use duknavet::{Monitor, Operation, Partition, Refusal, Refused, Strength, Verdict};
+use duknavet::{Monitor, Operation, Partition, Refusal, Refused, RuleMonitor, Strength, Verdict};
 use duknavet::{
-    BLOCKS, CLASSES_OUT, MAP_OUT, MOST_ROUNDS, NONE, POINTS, RULE_OUT, SCRATCH, SUCCESSORS_OUT,
-    U_OUT, V_OUT, WORD,
+    BLOCKS, CLASSES_OUT, LOG, MAP_OUT, MOST_ROUNDS, NONE, POINTS, RULE_OUT, SCRATCH,
+    SUCCESSORS_OUT, U_OUT, V_OUT, WORD,
 };
 
 /// Letter 0 without end, over letters 0 and 1.
@@ -259,6 +261,68 @@ fn an_automaton_that_accepts_nothing() {
     // An idle initial state, and a final one that loops where no run comes.
     let rule = translated(&[2, 1, 2, 1, 1, 0, 1, 0, 1]).expect("few matrices");
     assert_eq!(lasso(&rule, &[0], &[0]), graded(0, 1));
+}
+
+#[test]
+fn advanced_by_steps_and_words() {
+    let scratch = &mut scratch();
+    let as_it_is = advance_stay(&W, fresh(), scratch).expect("a monitor of W");
+    assert_eq!((as_it_is.monitor, as_it_is.verdict), (fresh(), None));
+    let one = advance_event(&W, fresh(), 1, scratch).expect("a letter of W");
+    assert_eq!(one.verdict, Some(Verdict { grade: 0, turns: 1 }));
+    let marked = advance_mark(&W, one.monitor, scratch).expect("a monitor of W");
+    assert_eq!((marked.monitor.before, marked.monitor.since), (1, NONE));
+    assert_eq!(marked.verdict, None);
+    let word = advance_word(&W, marked.monitor, &[1, 0, 1], scratch).expect("letters of W");
+    assert_eq!((word.monitor.before, word.monitor.since), (1, 0));
+    assert_eq!(word.verdict, Some(Verdict { grade: 3, turns: 1 }));
+    assert_eq!(advance_word(&W, word.monitor, &[], scratch), Ok(word));
+    let foreign = advance_word(&W, word.monitor, &[0, 1, 9], scratch).expect_err("no letter of W");
+    assert_eq!(foreign.monitor, word.monitor);
+    assert_eq!(Err::<(), _>(foreign.refused), refused(10, 1, 2));
+    // A weak rule is refused before its letters are looked at.
+    let weak = advance_event(&Z, fresh(), 9, scratch).expect_err("Z is weak");
+    assert_eq!(Err::<(), _>(weak.refused), refused(12, 1, 0));
+    let order_two = advance_word(&Z_ONE_LETTER, fresh(), &[0, 0, 0], scratch).expect("strong");
+    assert_eq!(order_two.verdict.map(|verdict| verdict.turns), Some(2));
+}
+
+#[test]
+fn the_longest_word_of_events() {
+    let scratch = &mut scratch();
+    let mut word = vec![0; LOG];
+    let all = advance_word(&W, fresh(), &word, scratch).expect("letters of W");
+    assert_eq!(all.verdict, Some(Verdict { grade: 3, turns: 1 }));
+    word[LOG - 1] = 2;
+    let last = advance_word(&W, fresh(), &word, scratch).expect_err("no letter of W");
+    assert_eq!(Err::<(), _>(last.refused), refused(10, 1, LOG as u64 - 1));
+    word.push(0);
+    let long = advance_word(&W, fresh(), &word, scratch).expect_err("one letter more");
+    assert_eq!(Err::<(), _>(long.refused), refused(11, 1, 0));
+}
+
+#[test]
+fn advanced_in_words() {
+    let mut watched = RuleMonitor::new(&W);
+    let graded = Verdict { grade: 3, turns: 1 };
+    assert_eq!(watched.advance_word(&[1, 0]), Ok(Some(graded)));
+    assert_eq!(watched.advance_stay(), Ok(Some(graded)));
+    let said = |answer: Result<Option<Verdict>, Explained>| answer.expect_err("refused").words;
+    let foreign = said(watched.advance_word(&[0, 1, 7]));
+    assert_eq!(
+        foreign,
+        "letter 7 at position 2 of the word: the rule has 2 letters"
+    );
+    assert_eq!(
+        said(watched.advance_event(2)),
+        "letter 2: the rule has 2 letters"
+    );
+    let long = said(watched.advance_word(&vec![0; LOG + 1]));
+    assert_eq!(long, "the word has 16777217 letters, more than 16777216");
+    assert_eq!(watched.advance_mark(), Ok(None));
+    assert_eq!(watched.monitor().since, NONE);
+    let weak = said(RuleMonitor::new(&Z).advance_word(&[9]));
+    assert!(weak.starts_with("the rule is weak: "), "{weak}");
 }
 
 #[test]

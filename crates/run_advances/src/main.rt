@@ -33,7 +33,10 @@ fn advanced_line(line: &[u8], answer: Advanced) -> Monitor {
 fn advanced_by_word(line: &[u8], rule: &[u8], m: Monitor, scratch: &mut [u8]) -> Monitor {
     let mut letters = [0u8; 64];
     let count = example_text::numbers(line, 3, &mut letters);
-    advanced_line(line, rules::advance_word(rule, 5, m, &letters[..count], scratch))
+    advanced_line(
+        line,
+        rules::advance_word(rule, 5, m, &letters[..count], scratch),
+    )
 }
 
 // A step.

@@ -43,7 +43,10 @@ fn ask(
 
 /// The value of since after some letters; the first that the rule lacks is refused at its position.
 fn heard(m: &Morphism, since: usize, word: &[u8]) -> Result<usize, Refusal> {
-    if let Some(place) = word.iter().position(|letter| *letter as usize >= m.letters()) {
+    if let Some(place) = word
+        .iter()
+        .position(|letter| *letter as usize >= m.letters())
+    {
         return Err((10, 1, place as u64));
     }
     Ok(word.iter().fold(since, |since, letter| {
@@ -94,10 +97,18 @@ impl Comparison {
         let expected = read();
         self.count_values(call, subject, &expected);
         let inputs: [&[u8]; 1] = [&subject.bytes];
-        let found = self.agreed(call, &inputs, unmoved(answer, monitor), expected, (&[], &scratch));
+        let found = self.agreed(
+            call,
+            &inputs,
+            unmoved(answer, monitor),
+            expected,
+            (&[], &scratch),
+        );
         let (answer, (moved, verdict)) = found?;
         assert_eq!(answer.monitor, moved, "{call} of {monitor:?} on {inputs:?}");
-        let told = answer.verdict.map(|Verdict { grade, turns }| (grade, turns));
+        let told = answer
+            .verdict
+            .map(|Verdict { grade, turns }| (grade, turns));
         assert_eq!(told, verdict, "{call} of {monitor:?} on {inputs:?}");
         match verdict {
             Some(graded) => self.count_graded(call, graded),

@@ -100,7 +100,8 @@ pub fn every_call(c: &mut Comparison, subject: &Subject) {
         c.advance(subject, monitor, step, sizes);
     }
     let length = c.random.below(6);
-    let word = c.random.word(length, letters + usize::from(c.random.once_in(8)));
+    let foreign = usize::from(c.random.once_in(8));
+    let word = c.random.word(length, letters + foreign);
     c.advance_both_ways(subject, monitor, &word);
     if c.random.once_in(4) {
         history(c, subject);
