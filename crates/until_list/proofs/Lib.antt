@@ -1,0 +1,5 @@
+pub mod Adding
+pub mod Keeping
+pub mod Classes
+pub mod Following
+pub mod Letters
