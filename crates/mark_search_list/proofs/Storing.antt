@@ -3,7 +3,7 @@ use Prim.Native.Nat.{ℕ, _+_, _*_, _/_, _%_, _<_}
 use mathlib.Core.Path.{_≡_}
 use mathlib.Core.List.{List}
 use native.Mathlib.Omega.{arith}
-use lib.ListN.{length, getD, set, length-set}
+use lib.ListN.{getD, set}
 use Rattle.finite.proofs.Stores.{Stores, done, put, stores, Apart, here, later, stores-length, stores-other, stores-at}
 use Rattle.mark_search_list.specs.Queue.{frontAt, backAt, letterAt, parentAt, SameEntry}
 use Rattle.mark_search_list.specs.Steps.{StoreNeeds, Stored}

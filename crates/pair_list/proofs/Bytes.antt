@@ -3,7 +3,7 @@ use Prim.Native.Nat.{ℕ, _+_, _*_, _≤_, _<_}
 use mathlib.Core.Path.{refl}
 use mathlib.Core.List.{List}
 use native.Mathlib.Omega.{arith}
-use lib.ListN.{length, getD, set, length-set}
+use lib.ListN.{length, getD, set}
 use Rattle.finite.proofs.Stores.{done, put, stores, Apart, here, later, stores-length, stores-other, stores-at}
 use Rattle.formats.specs.RuleChecks.{scratchSize}
 use Rattle.scratch.specs.Map.{pairNumbersBase, pairLeftsBase, pairRightsBase, pairParentsBase, pairLettersBase}

@@ -1,7 +1,7 @@
 -- Two answers of the call for the same rules, operation and buffers are one, and leave out and scratch alike: the table of the pairs numbered by
 -- first words is fixed, and so are the grades of its lassos, its marks and its file. Assumes nothing.
 use Prim.Native.Nat.{ℕ, _≤_}
-use mathlib.Core.Path.{_≡_, sym, ap, _∙_, subst}
+use mathlib.Core.Path.{_≡_, sym, _∙_, subst}
 use mathlib.Core.Logic.{by-cases}
 use mathlib.Core.List.{List}
 use Rattle.answer.proofs.Order.{AllSingle, single-nil, single-at, single-cons, single-append, one-verdict}

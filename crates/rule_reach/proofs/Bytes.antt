@@ -8,7 +8,7 @@ use native.Mathlib.Omega.{arith}
 use native.Mathlib.Numerals.{add-one}
 use native.Mathlib.Decide.{ℕ-discrete}
 use borrow.Author.Count.{below-more}
-use lib.ListN.{length, getD, set, length-set}
+use lib.ListN.{length, getD, set}
 use Rattle.finite.proofs.Stores.{done, put, stores, Apart, here, later, stores-length, stores-other, stores-at}
 use Rattle.finite.proofs.Pigeonhole.{injection-le, update, update-cases, update-apart}
 use Rattle.finite.proofs.Worklist.{Entry}

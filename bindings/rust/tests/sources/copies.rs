@@ -7,7 +7,7 @@ use super::sizes::Sizes;
 
 /// As many crates, arrays, and structs and enums together had the library when this was written. Raise them as it grows: fewer would
 /// mean that some are not found.
-const FOUND: [usize; 3] = [111, 80, 53];
+const FOUND: [usize; 3] = [111, 80, 50];
 
 #[test]
 fn nothing_in_the_library_is_as_large_as_a_table() {
