@@ -2,8 +2,8 @@
 // letter, so each product is its left factor; element 0 is that of letter 0.
 use answer::Refusal;
 use formats::RULE_SIZE;
-use rule_bytes::write_counted;
 use promises::Written;
+use rule_bytes::write_counted;
 ghost use mathlib.Core.Path.{_≡_};
 ghost use Prim.Native.Nat.{_≤_, _<_};
 ghost use lib.ListN.{length};
