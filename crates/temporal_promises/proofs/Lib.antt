@@ -4,3 +4,4 @@ pub mod OneNext
 pub mod OneUntil
 pub mod OneAnswers
 pub mod NextOrder
+pub mod UntilOrder

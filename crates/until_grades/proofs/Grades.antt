@@ -34,7 +34,8 @@ both-are first n₁ second n₂ k scratch t z e f g = g ∙ ap₂ (λ (a b : ℕ
 -- ---- while they are laid out
 
 module _ {first : List ℕ} {n₁ : ℕ} {second : List ℕ} {n₂ k count : ℕ} {entry : List ℕ} (n : GradesNeeds first n₁ second n₂ k count entry) where
-  module _ {now : List ℕ} (kept : UnchangedOutside untilGradesBase untilClassBase entry now) where
+  -- bytes between the halves and the first rule's closure change
+  module _ {from to : ℕ} {now : List ℕ} (kept : UnchangedOutside from to entry now) (low : 12416 ≤ from) (high : to ≤ searchEnd) where
     left-kept : (i : ℕ) → i < count → leftAt now i ≡ leftAt entry i
     left-kept i h = kept .before (pairLeftsBase + i) (omega (arith, n .few))
 
@@ -78,25 +79,25 @@ module _ {first : List ℕ} {n₁ : ℕ} {second : List ℕ} {n₂ k count : ℕ
       row-kept = unchanged-wider (omega arith) (omega (arith, n .few)) (r .kept)
 
       pub row-needs : GradesNeeds first n₁ second n₂ k count now
-      row-needs = needs-kept row-kept
+      row-needs = needs-kept row-kept (omega arith) (omega arith)
 
       pub byte-room : untilGradesBase + (t * 64 + z) < length now
       byte-room = omega (arith, n .few, row-needs .room)
 
       pub byte-more : {byte : ℕ} → byte ≡ bothGrades first n₁ second n₂ k now t z
           → RowFilled (λ z byte. byte ≡ bothGrades first n₁ second n₂ k entry t z) (untilGradesBase + t * 64) (z + 1) entry (set now (untilGradesBase + (t * 64 + z)) byte)
-      byte-more e = filled-more (omega arith) (omega (arith, byte-room)) r (e ∙ grades-kept row-kept t z ht hz)
+      byte-more e = filled-more (omega arith) (omega (arith, byte-room)) r (e ∙ grades-kept row-kept (omega arith) (omega arith) t z ht hz)
 
     module _ {now : List ℕ} (r : RowsFilled (λ t z byte. byte ≡ bothGrades first n₁ second n₂ k entry t z) untilGradesBase 64 count t entry now) where
       rows-kept : UnchangedOutside untilGradesBase untilClassBase entry now
       rows-kept = unchanged-wider (omega arith) (omega (arith, n .few)) (r .kept)
 
       pub rows-needs : GradesNeeds first n₁ second n₂ k count now
-      rows-needs = needs-kept rows-kept
+      rows-needs = needs-kept rows-kept (omega arith) (omega arith)
 
       pub row-more : {next : List ℕ} → RowFilled (λ z byte. byte ≡ bothGrades first n₁ second n₂ k now t z) (untilGradesBase + t * 64) count now next
           → RowsFilled (λ t z byte. byte ≡ bothGrades first n₁ second n₂ k entry t z) untilGradesBase 64 count (t + 1) entry next
-      row-more s = rows-more (n .few) r s (λ z byte hz q. q ∙ grades-kept rows-kept t z ht hz)
+      row-more s = rows-more (n .few) r s (λ z byte hz q. q ∙ grades-kept rows-kept (omega arith) (omega arith) t z ht hz)
 
 -- both are grades
 module _ {first : List ℕ} {n₁ : ℕ} {second : List ℕ} {n₂ k count : ℕ} {scratch : List ℕ} (n : GradesNeeds first n₁ second n₂ k count scratch) {t z : ℕ} (ht : t < count) (hz : z < count) where
