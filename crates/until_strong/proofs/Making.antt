@@ -34,8 +34,8 @@ use Rattle.pair_rule.specs.Writing.{laidPairs}
 use Rattle.promises.specs.Combine.{pairChecks}
 use Rattle.promises.proofs.CombineOrder.{pairs-last}
 use Rattle.promises.proofs.CombineOrder as pair-order
-use Rattle.temporal_promises.specs.declared.Formed.{Formed}
-use Rattle.temporal_promises.specs.declared.Formed.the-variants.{Refused}
+use Rattle.promises.specs.declared.Written.{Written}
+use Rattle.promises.specs.declared.Written.the-variants.{Refused}
 use Rattle.temporal_promises.specs.Formed.{WrittenAs}
 use Rattle.temporal_promises.specs.Until.{PairTable, UntilMade}
 use Rattle.temporal_promises.proofs.UntilOrder.{pairs-refused, classes-last, none-fails}
@@ -250,6 +250,6 @@ module _ {first second : List ℕ} {one two : Shape} {entry classes out : List �
                   same-length = w .same-length ∙ t .same-length ∙ list-length;
                 }
 
-            pub until-said : (file : UntilFile) {said : Formed} → UntilWritten np (one .letters) laid exit classes classes′ out after file → said ≡ formedOf file
+            pub until-said : (file : UntilFile) {said : Written} → UntilWritten np (one .letters) laid exit classes classes′ out after file → said ≡ formedOf file
                 → UntilOwn first second out after classes classes′ entry exit said
             until-said file w q = subst (UntilOwn first second out after classes classes′ entry exit) (sym q) (own-answer file w)

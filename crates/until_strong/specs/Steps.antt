@@ -8,15 +8,16 @@ use Rattle.answer.specs.Checks.{FirstFailure}
 use Rattle.formats.specs.RuleChecks.{ruleSize}
 use Rattle.rule_layout.specs.declared.Shape.{Shape}
 use Rattle.two_rules.specs.Deciding.{StrongFiles}
-use Rattle.temporal_promises.specs.declared.Formed.{Formed}
-use Rattle.temporal_promises.specs.declared.Formed.the-variants.{Rule as Is-rule, Refused}
-use Rattle.temporal_promises.specs.Formed.{formedVerdict, FormedAnswer}
+use Rattle.promises.specs.declared.Written.{Written}
+use Rattle.promises.specs.declared.Written.the-variants.{Rule as Is-rule, Refused}
+use Rattle.promises.specs.Answers.{writtenVerdict}
+use Rattle.temporal_promises.specs.Formed.{FormedAnswer}
 use Rattle.temporal_promises.specs.Until.{untilClassesSize, untilOwnChecks, UntilMade}
 use Rattle.until_rule.specs.declared.UntilFile.{UntilFile}
 use Rattle.until_rule.specs.declared.UntilFile.the-variants.{Rule as Written, TooMany}
 
 -- the answer, from what was written
-abbrev pub formedOf : UntilFile → Formed
+abbrev pub formedOf : UntilFile → Written
 formedOf (Written length) = Is-rule length
 formedOf TooMany = Refused TooManyClasses 1 0
 
@@ -28,8 +29,8 @@ pub record UntilReady (first second : List ℕ) (one two : Shape) (scratch class
   pub classes-room : untilClassesSize ≤ length classes
 
 -- the verdict of the checks behind those of the files, and what was written
-pub record UntilOwn (first second before after classes classes′ entry exit : List ℕ) (answer : Formed) : Type 0 where
-  pub refusal : FirstFailure (untilOwnChecks first second) (formedVerdict answer)
+pub record UntilOwn (first second before after classes classes′ entry exit : List ℕ) (answer : Written) : Type 0 where
+  pub refusal : FirstFailure (untilOwnChecks first second) (writtenVerdict answer)
   pub answered : FormedAnswer (UntilMade first second) before after answer
   pub classes-length : length classes′ ≡ length classes
   pub same-length : length exit ≡ length entry

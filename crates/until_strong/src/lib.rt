@@ -3,11 +3,11 @@
 use answer::Refusal;
 use pair_list::PairCount;
 use pair_list::list_pairs;
+use promises::Written;
 use rule_layout::Shape;
 use scratch::PAIR_LEFTS_BASE;
 use scratch::PAIR_NUMBERS_BASE;
 use sections::zero_part;
-use temporal_promises::Formed;
 use until_pairs::lay_table;
 use until_rule::UntilFile;
 use until_rule::write_until;
@@ -15,12 +15,12 @@ ghost use mathlib.Core.Path.{_≡_};
 ghost use Rattle.until_strong.specs.Steps.{formedOf, UntilReady, UntilOwn};
 
 // What was written as an answer of the call.
-fn formed(file: UntilFile) -> Formed
+fn formed(file: UntilFile) -> Written
     ensures { λ r. ⌜ r ≡ formedOf file ⌝ }
 {
     match file {
-        UntilFile::Rule(length) => Formed::Rule(length),
-        UntilFile::TooMany => Formed::Refused {
+        UntilFile::Rule(length) => Written::Rule(length),
+        UntilFile::TooMany => Written::Refused {
             refusal: Refusal::TooManyClasses,
             input: 1,
             place: 0,
@@ -37,7 +37,7 @@ pub fn until_of_strong(
     classes: &mut [u8],
     scratch: &mut [u8],
     out: &mut [u8],
-) -> Formed
+) -> Written
     requires { ⌜ UntilReady (now first) (now second) one two (now scratch) (now classes) (now out) ⌝ }
     ensures { λ r. ⌜ UntilOwn (now (first .entry)) (now (second .entry)) (now (out .entry)) (now (out .exit)) (now (classes .entry)) (now (classes .exit)) (now (scratch .entry)) (now (scratch .exit)) r ⌝ }
 {
@@ -52,7 +52,7 @@ pub fn until_of_strong(
     ) {
         PairCount::Listed(count) => count,
         PairCount::TooMany => {
-            return Formed::Refused {
+            return Written::Refused {
                 refusal: Refusal::TooManyPairs,
                 input: 1,
                 place: 0,
