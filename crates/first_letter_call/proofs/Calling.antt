@@ -2,22 +2,18 @@
 use Prim.Native.Nat.{ℕ, _/_, _%_, _^_, _≤_, _<_}
 use native.Mathlib.Omega.{arith}
 use native.Mathlib.Nat.{lt-of-lt-of-le, div-eq-of-lt}
-use mathlib.Core.Path.{_≡_, refl, sym, ap, subst, _∙_}
+use mathlib.Core.Path.{_≡_, refl, sym, ap, subst}
 use mathlib.Core.Logic.{inl, inr, ⊎-elim}
 use mathlib.Core.List.{List, [], _∷_}
 use lib.Dec.{T, eqb}
-use lib.ListN.{length}
 use lib.Pow.{pow-mono}
 use Rattle.finite.proofs.Numbers.{le-or-lt}
 use Rattle.answer.specs.declared.Refusal.{Refusal}
-use Rattle.answer.specs.declared.Refusal.the-variants.{CountOutOfRange, EntryOutOfRange, UnknownLetter, BufferTooShort}
-use Rattle.answer.specs.Checks.{Check, Verdict, Passes, refused, passed, FirstFailure}
+use Rattle.answer.specs.declared.Refusal.the-variants.{CountOutOfRange, EntryOutOfRange, UnknownLetter}
+use Rattle.answer.specs.Checks.{Check, Verdict, refused, passed, FirstFailure}
 use Rattle.answer.proofs.Order.{first-passes, first-fails, none-left}
-use Rattle.formats.specs.RuleChecks.{ruleSize}
-use Rattle.formats.proofs.Buffers.{buffer-short, buffer-long}
 use Rattle.promises.specs.declared.Written.{Written}
-use Rattle.promises.specs.declared.Written.the-variants.{Rule as Is-rule, Refused}
-use Rattle.temporal_promises.specs.Formed.{WrittenAs}
+use Rattle.promises.specs.declared.Written.the-variants.{Refused}
 use Rattle.temporal_promises.specs.FirstLetter.{inSet, lettersCheck, gradeCheck, ForeignInSetAt, setCheck, firstLetterChecks, constantChecks, FirstLetterPromise, ConstantPromise}
 use Rattle.first_letter_call.specs.Elements.{FirstForeign}
 

@@ -10,7 +10,7 @@ use lib.Dec.{T}
 use lib.ListN.{length, getD, set as stored, length-set}
 use lib.Seq.{getD-set-same, getD-set-other}
 use Rattle.finite.proofs.Tests.{true-T}
-use Rattle.temporal_promises.specs.FirstLetter.{inSet, ForeignInSetAt}
+use Rattle.temporal_promises.specs.FirstLetter.{inSet}
 use Rattle.first_letter_call.specs.Elements.{elementIn, FirstForeign, FirstOther, ElementsFilled}
 
 -- ---- the least letter that is foreign

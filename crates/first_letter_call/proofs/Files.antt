@@ -1,8 +1,8 @@
 -- The three sections are those of the file of a rule whose products are their left factors. Assumes nothing.
-use Prim.Native.Nat.{ℕ, zero, suc, _+_, _*_, _≤_, _<_}
+use Prim.Native.Nat.{ℕ, zero, suc, _*_, _≤_, _<_}
 use native.Mathlib.Omega.{arith}
 use native.Mathlib.Nat.{mul-le-mul}
-use mathlib.Core.Path.{_≡_, refl, sym, ap, ap₂, subst, _∙_}
+use mathlib.Core.Path.{_≡_, refl, sym, ap, ap₂, _∙_}
 use mathlib.Core.Bool.{Bool, true, false, cond}
 use mathlib.Core.List.{List, [], _∷_, _++_}
 use lib.Dec.{eqb}
@@ -20,7 +20,7 @@ use Rattle.rule_writer.proofs.Parts.{three-parts}
 use Rattle.temporal_promises.specs.FirstLetter.{inSet}
 use Rattle.first_letter_rule.proofs.FirstLetters.{firstTable, firstMarks}
 use Rattle.first_letter_call.specs.Elements.{elementIn, gradeIn, ElementsFilled}
-use Rattle.first_letter_call.specs.Writing.{SectionsNeeds, sectionBytes, SectionsWritten, RuleWritten}
+use Rattle.first_letter_call.specs.Writing.{SectionsNeeds, SectionsWritten, RuleWritten}
 
 -- ---- the sections written one after the other
 

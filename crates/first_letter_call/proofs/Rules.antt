@@ -1,7 +1,7 @@
 -- The rules that are written are the smallest with their grades. Assumes nothing.
 use Prim.Native.Nat.{ℕ, zero, suc, _≤_, _<_}
 use native.Mathlib.Omega.{arith}
-use mathlib.Core.Path.{_≡_, refl, sym, ap, ap₂, subst, _∙_}
+use mathlib.Core.Path.{_≡_, refl, sym, ap, subst, _∙_}
 use mathlib.Core.Bool.{Bool, true, false, cond}
 use mathlib.Core.Logic.{_↔_}
 use mathlib.Core.List.{List}
@@ -9,7 +9,6 @@ use lib.Dec.{T, eqb}
 use Rattle.finite.proofs.Numbers.{Compared, lesser, level, greater, compared}
 use Rattle.finite.proofs.Tests.{true-T}
 use Rattle.theory.specs.Words.{endless}
-use Rattle.theory.specs.Rules.{Rule}
 use Rattle.formats.proofs.ReadBack.{written-rule}
 use Rattle.temporal_promises.specs.Formed.{WrittenAs}
 use Rattle.temporal_promises.specs.FirstLetter.{inSet, SmallestFor, FirstLetterHas, ConstantHas}

@@ -1,5 +1,5 @@
 -- What is asked for and what is written of the rule of a first letter. Assumes nothing.
-use Prim.Native.Nat.{ℕ, _*_, _≤_, _<_}
+use Prim.Native.Nat.{ℕ, _*_, _≤_}
 use mathlib.Core.List.{List, [], _∷_, _++_}
 use lib.ListN.{length, take}
 use Rattle.formats.specs.RuleChecks.{ruleSize}

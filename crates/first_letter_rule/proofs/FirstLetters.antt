@@ -8,12 +8,12 @@ use mathlib.Core.List.{List, [], _∷_}
 use native.Mathlib.Nat.{eq-or-lt-of-le, mod-eq-of-lt}
 use lib.ListN.{length, getD}
 use borrow.Author.Tests.{lt-ltb}
-use Rattle.finite.specs.Shortlex.{Before, shorter, smaller, here, NotAfter}
+use Rattle.finite.specs.Shortlex.{shorter, smaller, here, NotAfter}
 use Rattle.theory.specs.Words.{Over, over-nil, over-cons, Lasso, endless}
 use Rattle.theory.specs.Rules.{Morphism, Lawful, Marking, Rule, Value, none, element, join, value, AllReached}
 use Rattle.theory.specs.Pairs.{Linked}
 use Rattle.theory.specs.Grades.{AtLeast}
-use Rattle.theory.specs.Smallest.{Smallest, MarksGrades}
+use Rattle.theory.specs.Smallest.{Smallest}
 use Rattle.theory.proofs.Values.{inside-none, element-same, element-apart}
 use Rattle.theory.proofs.Starts.{first-value}
 use Rattle.minimality.proofs.Contexts.{around, ahead, after}

@@ -1,7 +1,7 @@
 -- What the call promises, from what the check of the rule, the verdict on its strength and the writing of the rule of `next` promise. Assumes nothing.
 use Prim.Native.Nat.{ℕ, _≤_, _<_}
 use native.Mathlib.Omega.{arith}
-use mathlib.Core.Path.{_≡_, refl, sym, subst, _∙_}
+use mathlib.Core.Path.{_≡_, refl, sym, subst}
 use mathlib.Core.Bool.{Bool, true, false}
 use mathlib.Core.List.{List}
 use lib.ListN.{length, replicate}
@@ -31,10 +31,10 @@ use Rattle.mark_strong.proofs.Calling.{checked-lawful, decided-file, decided-st
 use Rattle.reduce_first_round.specs.Map.{outcomeOf}
 use Rattle.reduce_first_round.proofs.OutcomeBytes.{outcome-grading}
 use Rattle.next_rule.specs.declared.NextFile.{NextFile}
-use Rattle.next_rule.specs.declared.NextFile.the-variants.{Rule as Written, TooMany}
+use Rattle.next_rule.specs.declared.NextFile.the-variants.{Rule as Is-file, TooMany}
 use Rattle.next_rule.specs.Writing.{NextNeeds, NextRuleWritten, NextWritten}
 use Rattle.promises.specs.declared.Written.{Written}
-use Rattle.promises.specs.declared.Written.the-variants.{Rule as Is-rule, Refused}
+use Rattle.promises.specs.declared.Written.the-variants.{Refused}
 use Rattle.temporal_promises.specs.Formed.{WrittenAs}
 use Rattle.temporal_promises.specs.Next.{NextMade, NextPromise}
 use Rattle.temporal_promises.proofs.NextOrder.{file-first, weak-next, classes-last, none-fails}
@@ -126,7 +126,7 @@ module _ (bytes out entry : List ℕ) (out-long : ruleSize ≤ length out) where
       -- the rule was written, or there are too many classes
       pub next-strong : {exit after : List ℕ} (file : NextFile) → NextWritten (morphismAt bytes (shape .elements) (shape .letters)) decided exit out after file
           → (end : List ℕ) → end ≡ replicate (length exit) 0 → NextPromise bytes out after entry end (formedOf file)
-      next-strong {exit} {after} (Written length-of) w end z =
+      next-strong {exit} {after} (Is-file length-of) w end z =
           let w′ : NextRuleWritten (morphismOf bytes) decided out after length-of = subst (λ (m : Morphism). NextRuleWritten m decided out after length-of) same (w .says) in
           record {
             refusal = none-fails bytes out entry out-long (p .refusal) strong (few-classes w′);

@@ -2,18 +2,18 @@
 use Prim.Native.Nat.{ℕ, _+_, _≤_, _<_}
 use native.Mathlib.Omega.{arith}
 use native.Mathlib.Decide.{ℕ-discrete}
-use mathlib.Core.Path.{_≡_, refl, sym, ap, subst, _∙_}
+use mathlib.Core.Path.{_≡_, refl, subst, _∙_}
 use mathlib.Core.Bool.{Bool, true, false}
 use mathlib.Core.Logic.{_≢_}
 use mathlib.Core.List.{List}
-use lib.ListN.{length, getD, set, length-set}
+use lib.ListN.{length, set, length-set}
 use lib.Seq.{getD-set-same, getD-set-other}
 use Rattle.finite.specs.Tells.{Tells}
 use Rattle.scratch.specs.Bytes.{UnchangedOutside}
 use Rattle.scratch.proofs.Unchanged.{unchanged-none, unchanged-both, unchanged-set, unchanged-wider}
-use Rattle.word_steps.specs.Records.{RecordNeeds, StepRecorded, RecordsKept}
+use Rattle.word_steps.specs.Records.{RecordNeeds, StepRecorded}
 use Rattle.next_list.specs.Pairs.{tailAt, wholeAt}
-use Rattle.next_list.specs.Adding.{HasPair, NoPair, FoundPair, AddNeeds, ListKept, known, added, Added}
+use Rattle.next_list.specs.Adding.{HasPair, FoundPair, AddNeeds, ListKept, known, added, Added}
 use Rattle.next_list.specs.declared.ClassCount.the-variants.{Listed, TooMany}
 
 -- ---- the search in the list

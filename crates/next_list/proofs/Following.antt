@@ -3,24 +3,22 @@ use Prim.Native.Nat.{ℕ, suc, _+_, _-_, _≤_, _<_}
 use native.Mathlib.Omega.{arith}
 use native.Mathlib.Decide.{ℕ-discrete}
 use mathlib.Core.Path.{_≡_, refl, sym, ap, subst, subst₂, _∙_}
-use mathlib.Core.Logic.{_⊎_, _≢_}
+use mathlib.Core.Logic.{_≢_}
 use mathlib.Core.List.{List, [], _∷_, _++_}
 use lib.ListN.{length}
-use Rattle.theory.specs.Words.{Over}
-use Rattle.theory.specs.Rules.{Morphism, Lawful, Value, join, element}
+use Rattle.theory.specs.Rules.{Morphism, Lawful, Value}
 use Rattle.temporal.specs.Nexts.{NextClassOf, SameNextClass, MoreNextClasses}
 use Rattle.temporal.proofs.WordClasses.{Word, MoreWords}
 use Rattle.temporal.proofs.NextClasses.{tail-congruence}
 use Rattle.promises.specs.Monitor.{valueOf}
-use Rattle.word_steps.specs.Records.{StepRecorded, RecordsKept, wordAt}
-use Rattle.word_steps.specs.Search.{Search}
-use Rattle.word_steps.proofs.Words.{Rooted, word-empty, word-is}
+use Rattle.word_steps.specs.Records.{wordAt}
+use Rattle.word_steps.proofs.Words.{word-empty, word-is}
 use Rattle.word_steps.proofs.Searching.{search-rooted, search-kept, word-kept, word-recorded, search-known, search-new, word-new, search-full}
 use Rattle.next_list.specs.declared.Pair.{Pair}
 use Rattle.next_list.specs.declared.ClassCount.{ClassCount}
 use Rattle.next_list.specs.declared.ClassCount.the-variants.{Listed, TooMany}
 use Rattle.next_list.specs.Pairs.{tailAt, wholeAt, ValueNeeds, ValueBehind, Listing, PairBehind}
-use Rattle.next_list.specs.Adding.{HasPair, AddNeeds, StepKnown, StepNew, AddedTo, known, added, Full, AddAnswer, Added}
+use Rattle.next_list.specs.Adding.{HasPair, AddNeeds, StepKnown, StepNew, AddedTo, known, added, Full, Added}
 use Rattle.next_list.specs.Following.{Grown, Followed}
 use Rattle.next_list.proofs.Values.{value-none, letter-class, longer-class, whole-inside, tail-known, pair-same, same-pair}
 

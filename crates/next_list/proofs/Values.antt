@@ -1,20 +1,19 @@
 -- The two values of a word with a letter behind it, and words with the same two values. Assumes nothing.
-use Prim.Native.Nat.{ℕ, suc, _+_, _-_, _≤_, _<_}
+use Prim.Native.Nat.{ℕ, _≤_, _<_}
 use native.Mathlib.Omega.{arith}
 use native.Mathlib.Decide.{ℕ-discrete}
-use mathlib.Core.Path.{_≡_, refl, sym, ap, ap₂, subst, _∙_}
-use mathlib.Core.Bool.{true, false, cond}
+use mathlib.Core.Path.{_≡_, refl, sym, ap, ap₂, _∙_}
 use mathlib.Core.Logic.{_⊎_, inl, inr, ⊎-elim, _≢_}
 use mathlib.Core.List.{List, [], _∷_, _++_}
 use borrow.Author.Tests.{ne-eqb}
 use Rattle.theory.specs.Words.{Over, over-nil, over-cons}
 use Rattle.theory.specs.Rules.{Morphism, Lawful, Value, none, element, join, value}
 use Rattle.theory.proofs.Words.{over-right}
-use Rattle.theory.proofs.Values.{Inside, inside-none, inside-element, element-inside, element-same, element-apart, value-append, value-inside, inside-of}
+use Rattle.theory.proofs.Values.{element-same, element-apart, value-append, inside-of}
 use Rattle.temporal.specs.Nexts.{behindFirst, NextClassOf, SameNextClass}
 use Rattle.temporal.proofs.WordClasses.{Word}
 use Rattle.temporal.proofs.NextClasses.{tail-append}
-use Rattle.promises.specs.Monitor.{noValue, valueOf}
+use Rattle.promises.specs.Monitor.{valueOf}
 use Rattle.next_list.specs.Pairs.{ValueNeeds, ValueBehind}
 
 -- ---- the values that numbers stand for

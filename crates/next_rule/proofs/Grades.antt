@@ -4,8 +4,8 @@ use native.Mathlib.Omega.{arith}
 use mathlib.Core.Path.{_≡_, refl, sym, ap, ap₂, _∙_}
 use mathlib.Core.Logic.{_≢_}
 use mathlib.Core.List.{List}
-use lib.ListN.{length, getD, set}
-use Rattle.theory.specs.Rules.{Morphism, Value, none, element}
+use lib.ListN.{length, set}
+use Rattle.theory.specs.Rules.{Value, none, element}
 use Rattle.temporal.specs.Nexts.{tailGrade, nextOutcome}
 use Rattle.promises.specs.Monitor.{valueOf}
 use Rattle.scratch.specs.Bytes.{UnchangedOutside}

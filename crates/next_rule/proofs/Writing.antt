@@ -6,9 +6,9 @@ use mathlib.Core.Logic.{_⊎_, ⊎-elim}
 use mathlib.Core.List.{List}
 use lib.ListN.{length}
 use Rattle.theory.specs.Words.{Over}
-use Rattle.theory.specs.Rules.{Morphism, Lawful, Value, element}
+use Rattle.theory.specs.Rules.{Morphism, Value, element}
 use Rattle.theory.proofs.Values.{element-apart}
-use Rattle.temporal.specs.Nexts.{NextClassOf, SameNextClass, NextClassesOf, tailGrade, nextOutcome}
+use Rattle.temporal.specs.Nexts.{NextClassOf, SameNextClass, NextClassesOf, nextOutcome}
 use Rattle.temporal.proofs.WordClasses.{Congruence}
 use Rattle.temporal.proofs.NextClasses.{tail-congruence, table-tails}
 use Rattle.minimality.proofs.Saturation.{MarksOutcomes}
@@ -32,7 +32,7 @@ use Rattle.next_list.specs.Pairs.{tailAt, wholeAt, Listing}
 use Rattle.next_list.specs.Following.{ListAnswer, NextListed}
 use Rattle.next_list.proofs.Values.{value-none, value-is, whole-inside, tail-known}
 use Rattle.next_rule.specs.declared.NextFile.the-variants.{Rule as Is-rule, TooMany}
-use Rattle.next_rule.specs.Writing.{PairsSmall, nextGrade, NextNeeds, NextRuleWritten, NextWritten}
+use Rattle.next_rule.specs.Writing.{PairsSmall, nextGrade, NextNeeds, NextWritten}
 use Rattle.next_rule.proofs.Grades.{tail-same}
 
 -- a value that is an element is one of the table

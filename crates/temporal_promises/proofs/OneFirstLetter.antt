@@ -1,7 +1,6 @@
 -- Two answers of `first_letter`, or of `constant`, for the same numbers and buffer are one: of the smallest rules with the same grades only one is numbered by
 -- first words. Assumes nothing.
 use Prim.Native.Nat.{ℕ}
-use native.Mathlib.Omega.{arith}
 use mathlib.Core.Path.{_≡_, sym, _∙_, subst}
 use mathlib.Core.List.{List}
 use Rattle.finite.proofs.Numbers.{Compared, lesser, level, greater, compared}

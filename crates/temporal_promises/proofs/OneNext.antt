@@ -4,7 +4,6 @@ use Prim.Native.Nat.{ℕ}
 use mathlib.Core.Path.{_≡_, sym, _∙_}
 use mathlib.Core.List.{List}
 use Rattle.answer.proofs.Order.{AllSingle, single-nil, single-at, single-cons, single-append}
-use Rattle.theory.specs.Rules.{Rule}
 use Rattle.theory.proofs.SameGrades.{renumbered-size}
 use Rattle.temporal.proofs.NextClasses.{tails-renumbered}
 use Rattle.temporal.proofs.Existence.{next-same}

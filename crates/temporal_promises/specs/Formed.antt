@@ -1,6 +1,5 @@
 -- What the calls that make a rule of a temporal formula have in common: a rule is written, or out is kept. Assumes nothing.
 use Prim.Native.Nat.{ℕ}
-use mathlib.Core.Path.{_≡_}
 use mathlib.Core.List.{List}
 use Rattle.theory.specs.Rules.{Rule}
 use Rattle.formats.specs.ReadBack.{WrittenRule}

@@ -1,7 +1,7 @@
 -- The ways to a clamped grade, and the ends of one clamp over another. Assumes nothing.
-use Prim.Native.Nat.{ℕ, _+_, _*_, _/_, _%_, min, max, _≤_, _<_}
+use Prim.Native.Nat.{ℕ, _+_, _*_, _≤_, _<_}
 use native.Mathlib.Omega.{arith}
-use mathlib.Core.Path.{_≡_, refl, sym, ap, ap₂, _∙_}
+use mathlib.Core.Path.{_≡_, ap₂}
 use Rattle.temporal.specs.Clamps.{clamp}
 use Rattle.until_clamps.specs.Clamps.{lowOf, highOf, over}
 

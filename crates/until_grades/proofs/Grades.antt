@@ -1,7 +1,7 @@
 -- The grades at the contexts, worked out from bytes that laying them out leaves as they were. Assumes nothing.
 use Prim.Native.Nat.{ℕ, _+_, _*_, max, _≤_, _<_}
 use native.Mathlib.Omega.{arith}
-use mathlib.Core.Path.{_≡_, refl, sym, ap, ap₂, _∙_}
+use mathlib.Core.Path.{_≡_, ap, ap₂, _∙_}
 use mathlib.Core.List.{List}
 use lib.ListN.{length, set}
 use Rattle.theory.specs.Rules.{Morphism, Lawful}

@@ -1,10 +1,9 @@
 -- The class of an entry's word with a letter behind it, worked out in bytes. Assumes nothing.
 use Prim.Native.Nat.{ℕ, zero, suc, _+_, _*_, _-_, max, _≤_, _<_}
 use native.Mathlib.Omega.{arith}
-use mathlib.Core.Path.{_≡_, refl, sym, ap, ap₂, subst, _∙_}
-use mathlib.Core.Logic.{_≢_}
+use mathlib.Core.Path.{_≡_, refl, sym, ap, ap₂, _∙_}
 use mathlib.Core.List.{List, [], _∷_, _++_}
-use lib.ListN.{length, getD}
+use lib.ListN.{getD}
 use borrow.Author.Tests.{eq-eqb, ne-eqb}
 use Rattle.theory.specs.Words.{Over, over-nil, over-cons}
 use Rattle.theory.specs.Rules.{Morphism, Lawful, element, join, value}
@@ -14,16 +13,15 @@ use Rattle.temporal.proofs.Clamps.{through-small, step-low, step-high}
 use Rattle.finite.proofs.Shortlex.{over-snoc}
 use Rattle.scratch.proofs.Rows.{pair-small}
 use Rattle.until_step.proofs.Rows.{pair-letter, pair-longer}
-use Rattle.scratch.specs.Bytes.{UnchangedOutside}
 use Rattle.scratch.specs.Map.{untilClassBase, untilStepBase}
 use Rattle.scratch.specs.Rows.{RowsFilled}
 use Rattle.word_steps.specs.Records.{wordAt}
 use Rattle.word_steps.proofs.Words.{word-empty, word-over, word-is}
 use Rattle.word_steps.proofs.Searching.{search-rooted}
-use Rattle.until_clamps.specs.Clamps.{lowOf, highOf, over}
+use Rattle.until_clamps.specs.Clamps.{lowOf, highOf}
 use Rattle.until_clamps.proofs.Clamps.{low-of, high-of, over-low, over-high}
 use Rattle.until_step.specs.Bytes.{productByte, imageByte, gradesAt, stepAt, newAt, pairAt, classAt, entryByte, steppedByte, letterByte, pairBehind, StepNeeds, LetterNeeds, PairNeeds}
-use Rattle.until_list.specs.Listing.{UntilTables, Listing, Stepped}
+use Rattle.until_list.specs.Listing.{Listing, Stepped}
 use Rattle.until_list.proofs.Keeping.{FrontKept}
 
 -- the value of a word with a letter behind it

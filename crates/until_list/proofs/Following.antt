@@ -6,21 +6,21 @@ use mathlib.Core.Path.{_≡_, refl, sym, ap, subst, subst₂, _∙_}
 use mathlib.Core.Logic.{_≢_}
 use mathlib.Core.List.{List, [], _∷_, _++_}
 use lib.ListN.{length}
-use Rattle.theory.specs.Rules.{Morphism, element}
+use Rattle.theory.specs.Rules.{Morphism}
 use Rattle.theory.proofs.Values.{element-same}
 use Rattle.temporal.specs.Clamps.{UntilClassOf, SameUntilClass, MoreUntilClasses}
 use Rattle.temporal.proofs.WordClasses.{Congruence, MoreWords}
 use Rattle.temporal.proofs.UntilClasses.{classes-same, class-congruence}
-use Rattle.word_steps.specs.Records.{StepRecorded, wordAt}
+use Rattle.word_steps.specs.Records.{wordAt}
 use Rattle.word_steps.proofs.Searching.{search-kept, word-kept, word-recorded, search-known, search-new, word-new, search-full}
 use Rattle.until_clamps.specs.Clamps.{lowOf, highOf}
 use Rattle.until_clamps.proofs.Clamps.{ends-same}
-use Rattle.until_step.specs.Bytes.{newAt, pairAt, classAt}
+use Rattle.until_step.specs.Bytes.{newAt, classAt}
 use Rattle.until_search.specs.Searching.{ClassSame}
 use Rattle.until_list.specs.declared.ClassCount.{ClassCount}
 use Rattle.until_list.specs.declared.ClassCount.the-variants.{Listed, TooMany}
 use Rattle.until_list.specs.Listing.{ClassHeld, Listing, Stepped}
-use Rattle.until_list.specs.Adding.{AddNeeds, TablesKept, StepKnown, StepNew, AddedTo, known, added, Full, AddAnswer, Added}
+use Rattle.until_list.specs.Adding.{TablesKept, StepKnown, StepNew, AddedTo, known, added, Full, AddAnswer}
 use Rattle.until_list.specs.Following.{Grown, GrownAnswer}
 use Rattle.until_list.proofs.Keeping.{tables-kept, held-same, stepped-kept}
 

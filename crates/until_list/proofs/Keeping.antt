@@ -11,8 +11,8 @@ use Rattle.scratch.proofs.Rows.{pair-small}
 use Rattle.word_steps.specs.Records.{wordAt, RecordsKept}
 use Rattle.word_steps.proofs.Searching.{search-kept, word-kept}
 use Rattle.until_clamps.specs.Clamps.{lowOf, highOf}
-use Rattle.until_step.specs.Bytes.{productByte, gradesAt, stepAt, pairAt, classAt}
-use Rattle.until_list.specs.Listing.{UntilTables, ClassHeld, Listing, Stepped}
+use Rattle.until_step.specs.Bytes.{classAt}
+use Rattle.until_list.specs.Listing.{UntilTables, Listing, Stepped}
 use Rattle.until_list.specs.Adding.{TablesKept}
 
 -- the tables and the grades are as they were

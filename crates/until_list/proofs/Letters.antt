@@ -1,10 +1,9 @@
 -- Following letters and entries, from what the functions leave in bytes. Assumes nothing.
-use Prim.Native.Nat.{ℕ, suc, _+_, _≤_, _<_}
+use Prim.Native.Nat.{ℕ, _+_, _≤_, _<_}
 use native.Mathlib.Omega.{arith}
 use mathlib.Core.Path.{_≡_, refl, sym, subst, _∙_}
 use mathlib.Core.List.{List, [], _∷_, _++_}
 use lib.ListN.{length}
-use Rattle.theory.specs.Rules.{Morphism}
 use Rattle.temporal.specs.Clamps.{UntilClassOf}
 use Rattle.scratch.specs.Map.{untilClassBase, untilStepBase}
 use Rattle.scratch.specs.Rows.{RowsFilled}

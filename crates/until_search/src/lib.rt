@@ -8,7 +8,7 @@ ghost use Rattle.finite.specs.Tells.{Tells};
 ghost use Rattle.finite.specs.Each.{EachBelow};
 ghost use Rattle.scratch.specs.Rows.{RowFilled, RowsFilled};
 ghost use Rattle.until_step.specs.Bytes.{newAt};
-ghost use Rattle.until_search.specs.Searching.{SameAt, RowSame, ClassSame, FoundClass, SearchNeeds, StoreNeeds};
+ghost use Rattle.until_search.specs.Searching.{RowSame, ClassSame, FoundClass, SearchNeeds, StoreNeeds};
 
 // Whether class j has the clamps of the new one at the contexts (t, z).
 fn same_row(classes: &[u8], scratch: &[u8], np: usize, j: usize, t: usize) -> bool

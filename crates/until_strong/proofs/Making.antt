@@ -18,7 +18,7 @@ use Rattle.temporal.proofs.UntilRule.{UntilRule, pairs-until}
 use Rattle.formats.specs.Table.{morphismAt}
 use Rattle.formats.specs.RuleFile.{morphismOf, markingOf}
 use Rattle.formats.proofs.ReadBack.{written-rule}
-use Rattle.scratch.specs.Map.{secondBase, searchEnd, pairNumbersBase, pairLeftsBase, marksFrom, MarkingAt}
+use Rattle.scratch.specs.Map.{secondBase, searchEnd, pairNumbersBase, pairLeftsBase, MarkingAt}
 use Rattle.scratch.proofs.Markings.{marking-kept}
 use Rattle.sections.specs.Answers.{PartZeroed}
 use Rattle.rule_layout.specs.declared.Shape.{Shape}
@@ -43,7 +43,7 @@ use Rattle.until_grades.specs.Grades.{look, bothGrades}
 use Rattle.until_list.specs.Listing.{UntilTables, Listing}
 use Rattle.until_pairs.specs.Tables.{TableNeeds, TableLaid}
 use Rattle.until_rule.specs.declared.UntilFile.{UntilFile}
-use Rattle.until_rule.specs.declared.UntilFile.the-variants.{Rule as Written, TooMany as Too-many}
+use Rattle.until_rule.specs.declared.UntilFile.the-variants.{Rule as Is-file, TooMany as Too-many}
 use Rattle.until_rule.specs.Writing.{UntilNeeds, UntilRuleWritten, UntilWritten}
 use Rattle.until_strong.specs.Steps.{formedOf, UntilReady, UntilOwn}
 
@@ -233,7 +233,7 @@ module _ {first second : List ℕ} {one two : Shape} {entry classes out : List �
           module _ {exit classes′ after : List ℕ} where
             own-answer : (file : UntilFile) → UntilWritten np (one .letters) laid exit classes classes′ out after file → UntilOwn first second out after classes classes′ entry exit (formedOf file)
             unfolding pair-table
-            own-answer (Written end) w =
+            own-answer (Is-file end) w =
                 let r = w .says (m .product) (m .image) φ ψ listing in
                 record {
                   refusal = none-fails first second passes pair-table (few-classes r);

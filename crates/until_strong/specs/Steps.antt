@@ -14,11 +14,11 @@ use Rattle.promises.specs.Answers.{writtenVerdict}
 use Rattle.temporal_promises.specs.Formed.{FormedAnswer}
 use Rattle.temporal_promises.specs.Until.{untilClassesSize, untilOwnChecks, UntilMade}
 use Rattle.until_rule.specs.declared.UntilFile.{UntilFile}
-use Rattle.until_rule.specs.declared.UntilFile.the-variants.{Rule as Written, TooMany}
+use Rattle.until_rule.specs.declared.UntilFile.the-variants.{Rule as Is-file, TooMany}
 
 -- the answer, from what was written
 abbrev pub formedOf : UntilFile → Written
-formedOf (Written length) = Is-rule length
+formedOf (Is-file end) = Is-rule end
 formedOf TooMany = Refused TooManyClasses 1 0
 
 -- two good rules over as many letters, both strong, the closures of their marks in scratch, and room

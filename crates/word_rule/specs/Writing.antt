@@ -3,7 +3,6 @@ use Prim.Native.Nat.{ℕ, _≤_, _<_}
 use mathlib.Core.Path.{_≡_}
 use mathlib.Core.List.{List}
 use lib.ListN.{length}
-use Rattle.theory.specs.Rules.{Morphism, Marking}
 use Rattle.theory.specs.Pairs.{Linked}
 use Rattle.formats.specs.RuleChecks.{ruleSize, scratchSize}
 use Rattle.formats.specs.WrittenFile.{fileOf}

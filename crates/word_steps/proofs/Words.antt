@@ -3,7 +3,6 @@ use Prim.Native.Nat.{ℕ, zero, suc, _≤_, _<_}
 use native.Mathlib.Omega.{arith}
 use mathlib.Core.Path.{_≡_, refl, ap, ap₂, _∙_}
 use mathlib.Core.List.{List, [], _∷_, _++_}
-use lib.ListN.{length}
 use Rattle.finite.proofs.Numbers.{strong}
 use Rattle.finite.proofs.Shortlex.{over-snoc, length-snoc}
 use Rattle.theory.specs.Words.{Over, over-nil}

@@ -1,7 +1,7 @@
 -- The number of a product along the step by which its second factor was found: of a letter's own class it is where the letter leads from the first factor,
 -- and of a class p · g where g leads from the product with p. Assumes nothing.
 use Prim.Native.Nat.{ℕ, suc, _+_, _*_, _-_, _<_}
-use mathlib.Core.Path.{_≡_, refl, sym, ap, _∙_}
+use mathlib.Core.Path.{_≡_, sym, ap, _∙_}
 use mathlib.Core.Logic.{_≢_}
 use mathlib.Core.List.{List, [], _∷_, _++_}
 use native.Mathlib.Omega.{arith}

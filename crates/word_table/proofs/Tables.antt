@@ -18,7 +18,7 @@ use Rattle.rule_reach.specs.Reach.{wordStep}
 use Rattle.rule_first_words.proofs.Ordered.{entry, found-by-first-words}
 use Rattle.word_steps.specs.Records.{nextAt, parentAt, letterAt, wordAt}
 use Rattle.word_steps.specs.Search.{StepNumber, Search}
-use Rattle.word_steps.proofs.Words.{Rooted, word-empty, word-is}
+use Rattle.word_steps.proofs.Words.{word-empty, word-is}
 use Rattle.word_steps.proofs.Searching.{search-rooted}
 use Rattle.word_table.specs.Laying.{stepFrom, laidRule, TableNeeds, AlongWord}
 

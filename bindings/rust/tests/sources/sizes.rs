@@ -212,9 +212,13 @@ impl<'a> Sizes<'a> {
         }
         let entries = split(inner, ",").into_iter();
         let entries = entries.filter(|entry| !entry.is_empty());
-        let parts: Result<Vec<Layout>, String> = entries
+        let entries: Vec<Result<Layout, String>> = entries
             .map(|entry| self.layout(home, entry, depth))
             .collect();
+        // All entries of a list have one type: what is worked out there is as large as an entry that is known.
+        let known = entries.iter().flatten().copied().next();
+        let part = |entry: Result<Layout, String>| entry.or_else(|fault| known.ok_or(fault));
+        let parts: Result<Vec<Layout>, String> = entries.into_iter().map(part).collect();
         let parts = parts?;
         match parts[..] {
             // a slice has a place and a length

@@ -1,5 +1,4 @@
 -- Each number is refused in its turn, and else the rule is written. Assumes nothing.
-use native.Mathlib.Omega.{arith}
 use borrow.Author.Needs.{needs}
 use Rattle.answer.proofs.Order.{none-left}
 use Rattle.formats.proofs.Buffers.{buffer-short, buffer-long}

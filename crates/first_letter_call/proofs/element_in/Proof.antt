@@ -1,5 +1,4 @@
 -- Letter 0 is in the set or not, and so is the letter. Assumes nothing.
-use mathlib.Core.Path.{refl, sym, _∙_}
 use borrow.Author.Needs.{needs}
 use Rattle.first_letter_call.proofs.Elements.{element-told}
 use Rattle.first_letter_call.proofs.element_in.Statement.{statement}

@@ -1,6 +1,5 @@
 -- The loop holds that no letter before the one at hand is foreign and in the set. Assumes nothing.
 use Prim.Native.Nat.{_-_}
-use native.Mathlib.Omega.{arith}
 use borrow.Author.Needs.{needs}
 use Rattle.first_letter_call.proofs.Elements.{NoForeign, foreign-start, foreign-here, foreign-more, foreign-none}
 use Rattle.first_letter_call.proofs.first_foreign.Statement.{statement}

@@ -1,5 +1,4 @@
 -- Each number is refused in its turn, and else the rule is written. Assumes nothing.
-use native.Mathlib.Omega.{arith}
 use borrow.Author.Needs.{needs}
 use Rattle.formats.proofs.Buffers.{buffer-short, buffer-long}
 use Rattle.first_letter_call.proofs.Calling.{letters-few, letters-many, letters-pass, grade-high, grade-passes, set-foreign, set-passes, first-refused}

@@ -1,5 +1,4 @@
 -- Letter 0 is in the set or not. Assumes nothing.
-use native.Mathlib.Omega.{arith}
 use borrow.Author.Needs.{needs}
 use Rattle.first_letter_call.proofs.Files.{two-place, two-first, two-second}
 use Rattle.first_letter_call.proofs.write_two.Statement.{statement}

@@ -2,7 +2,6 @@
 -- or there are too many classes. Assumes nothing.
 use borrow.Author.Tests.{not-true, not-false}
 use borrow.Author.Needs.{needs}
-use mathlib.Core.Path.{sym, subst}
 use Rattle.rule_check.proofs.Calls.{checked-rule, checked-refused}
 use Rattle.mark_strong.proofs.Calling.{checked-table, decide-place}
 use Rattle.next_call.proofs.Calling.{out-short, next-refused, next-place, next-weak, next-said}

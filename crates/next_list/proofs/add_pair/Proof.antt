@@ -1,5 +1,4 @@
 -- The class is there, there is no place for it, or it is added. Assumes nothing.
-use native.Mathlib.Omega.{arith}
 use borrow.Author.Needs.{needs}
 use Rattle.next_list.proofs.Adding.{known-place, add-known, add-full, whole-room, new-place, add-new}
 use Rattle.next_list.proofs.add_pair.Statement.{statement}

@@ -1,6 +1,5 @@
 -- The loop holds that none of the first i classes has the two values. Assumes nothing.
 use Prim.Native.Nat.{_-_}
-use native.Mathlib.Omega.{arith}
 use borrow.Author.Needs.{needs}
 use Rattle.next_list.proofs.Adding.{Unfound, unfound-start, found-here, unfound-more, unfound-all}
 use Rattle.next_list.proofs.find_pair.Statement.{statement}

@@ -1,8 +1,7 @@
 -- Entry 0 is the empty word, and another has the values of its class. Assumes nothing.
-use native.Mathlib.Omega.{arith}
 use borrow.Author.Needs.{needs}
 use mir.Facts.{fits-8-64}
-use Rattle.next_list.proofs.Tables.{image-place, product-place, pair-zero, needs-before, whole-before, pair-more}
+use Rattle.next_list.proofs.Tables.{image-place, pair-zero, needs-before, whole-before, pair-more}
 use Rattle.next_list.proofs.pair_behind.Statement.{statement}
 use Rattle.next_list.proofs.pair_behind.Tie as tie
 

@@ -1,7 +1,6 @@
 -- The class behind the letter is worked out and added. Assumes nothing.
 use native.Mathlib.Omega.{arith}
 use mathlib.Core.Path.{_∙_}
-use borrow.Author.Needs.{needs}
 use mir.Facts.{fits-8-64}
 use Rattle.until_list.proofs.Letters.{image-room, image-small, rows-place, behind-place, add-place, letter-followed}
 use Rattle.until_list.proofs.follow_letter.Statement.{statement}

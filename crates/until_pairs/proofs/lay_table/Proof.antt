@@ -1,5 +1,4 @@
 -- Products, letters and grades are laid out one after the other. Assumes nothing.
-use borrow.Author.Needs.{needs}
 use Rattle.until_pairs.proofs.Laying.{products-place, images-place, levels-place, all-laid}
 use Rattle.until_pairs.proofs.lay_table.Statement.{statement}
 use Rattle.until_pairs.proofs.lay_table.Tie as tie

@@ -1,6 +1,5 @@
 -- The pair and the rows are the same or not. Assumes nothing.
 use native.Mathlib.Omega.{arith}
-use borrow.Author.Needs.{needs}
 use mir.Facts.{fits-8-64}
 use Rattle.until_search.proofs.Finding.{other-pair, other-rows, same-both}
 use Rattle.until_search.proofs.same_class.Statement.{statement}

@@ -1,5 +1,5 @@
 -- The loop holds that the bytes so far are the same. Assumes nothing.
-use Prim.Native.Nat.{_-_, _≤_}
+use Prim.Native.Nat.{_-_}
 use native.Mathlib.Omega.{arith}
 use Rattle.finite.specs.Each.{EachBelow}
 use Rattle.finite.proofs.Each.{each-none, each-more, each-all, each-not}

@@ -1,6 +1,5 @@
 -- The entry is the empty word or a class. Assumes nothing.
 use native.Mathlib.Omega.{arith}
-use borrow.Author.Needs.{needs}
 use Rattle.until_step.proofs.Rows.{entry-empty, entry-class}
 use Rattle.until_step.proofs.entry_byte.Statement.{statement}
 use Rattle.until_step.proofs.entry_byte.Tie as tie

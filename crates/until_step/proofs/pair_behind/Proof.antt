@@ -1,6 +1,5 @@
 -- The entry is the empty word or a class. Assumes nothing.
 use native.Mathlib.Omega.{arith}
-use borrow.Author.Needs.{needs}
 use mir.Facts.{fits-8-64}
 use Rattle.until_step.proofs.Rows.{pair-letter, pair-longer, pair-place}
 use Rattle.until_step.proofs.pair_behind.Statement.{statement}

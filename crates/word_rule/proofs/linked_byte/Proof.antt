@@ -1,5 +1,4 @@
 -- Two classes are linked or not. Assumes nothing.
-use native.Mathlib.Omega.{arith}
 use borrow.Author.Needs.{needs}
 use Rattle.word_rule.proofs.Marks.{mark-unlinked, mark-linked}
 use Rattle.word_rule.proofs.linked_byte.Statement.{statement}
