@@ -1,4 +1,4 @@
--- What `until` does where its buffers are long enough. Assumes nothing.
+-- What `until` does where the buffers of the rule and of the classes are long enough. Assumes nothing.
 use Prim.Native.Nat.{ℕ, _≤_}
 use mathlib.Core.Path.{_≡_}
 use mathlib.Core.List.{List, _++_}

@@ -12,7 +12,7 @@ use until_strengths::until_checked;
 ghost use Rattle.temporal_promises.specs.Until.{UntilPromise};
 ghost use Rattle.until_call.specs.Buffers.{LongBuffers, UntilLong};
 
-// The answer where all buffers are long enough. Scratch ends as zeros.
+// The answer where the buffers of the rule and of the classes are long enough. Scratch is left as every call leaves it.
 fn until_long(
     first: &[u8],
     second: &[u8],
