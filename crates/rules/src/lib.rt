@@ -58,3 +58,5 @@ pub use rule_file_part::file_part;
 pub use rule_inspect::inspect;
 pub use summary::summarize;
 pub use temporal_promises::Formed;
+pub use temporal_promises::UNTIL_CLASSES_SIZE;
+pub use until_call::until;
