@@ -15,7 +15,7 @@ use Rattle.two_rules.specs.Checking.{BothPromise}
 use Rattle.two_rules.proofs.Calling.{refused-then, passed-then, both-left}
 use Rattle.promises.specs.declared.Written.{Written}
 use Rattle.promises.specs.declared.Written.the-variants.{Refused}
-use Rattle.temporal_promises.specs.Until.{untilClassesSize, untilOwnChecks, untilLeft, untilClassesLeft, UntilPromise}
+use Rattle.temporal_promises.specs.Until.{untilClassesSize, untilOwnChecks, untilLeft, UntilPromise}
 use Rattle.until_strong.specs.Steps.{UntilOwn}
 use Rattle.until_strengths.specs.Steps.{BothReady}
 use Rattle.until_call.specs.Buffers.{LongBuffers, UntilLong}

@@ -1,6 +1,6 @@
 -- `until_call::until` meets its contract: a short buffer is refused first; else the answer stands, and the classes are cleared. Assumes nothing.
 use borrow.Author.Needs.{needs}
-use Rattle.until_call.proofs.Calling.{out-short, classes-short, scratch-short, long-buffers, long-made}
+use Rattle.until_call.proofs.Calling.{out-short, classes-short, scratch-short, long-made}
 use Rattle.until_call.proofs.until.Statement.{statement}
 use Rattle.until_call.proofs.until.Tie as tie
 
