@@ -14,6 +14,8 @@ ghost use Rattle.answer.specs.NumbersTheorem.{NumbersTheorem};
 ghost use Rattle.automaton_call.specs.ReadyTheorem.{ReadyTheorem};
 ghost use Rattle.promises.specs.ConfirmTheorem.{ConfirmTheorem};
 ghost use Rattle.board_histories.specs.Histories.{BoardTheorem};
+ghost use Rattle.temporal_laws.specs.Laws.{FormulaLaws};
+ghost use Rattle.temporal_promises.specs.OneAnswers.{TemporalOneAnswers};
 ghost use Rattle.unpacking.specs.BoardTheorem.{ExportedBoardTheorem, ExportedBoardOneAnswers};
 
 // Each call leaves one answer and one of every lent byte; of `included` only the lasso is open.
@@ -79,6 +81,16 @@ fn ready_theorem()
 // Document 02, Job 13.
 fn confirmed_theorem()
     ensures { λ r. ⌜ ConfirmTheorem ⌝ }
+{}
+
+// Rules from formulas: each call leaves one answer,
+fn temporal_one_answers_theorem()
+    ensures { λ r. ⌜ TemporalOneAnswers ⌝ }
+{}
+
+// and formulas keep the laws that their users know.
+fn formula_laws_theorem()
+    ensures { λ r. ⌜ FormulaLaws ⌝ }
 {}
 
 // Document 02, Job 14.
