@@ -1,12 +1,14 @@
-//! The documents' examples: the transcripts of docs/TOOL.md and the README are replayed, and the worked examples of the README and docs/FORMATS.md run.
+//! The documents' examples: the transcripts of docs/TOOL.md and the README are replayed, and the worked examples of docs/RULES.md and docs/FORMATS.md run.
 
-use crate::program::{run_with, Scrap};
+use crate::program::{run, run_with, Scrap};
 use std::path::{Path, PathBuf};
 use std::process::Command;
 
 const TOOL: &str = include_str!("../../../../docs/TOOL.md");
 const FORMATS: &str = include_str!("../../../../docs/FORMATS.md");
 const README: &str = include_str!("../../../../README.md");
+const RULES: &str = include_str!("../../../../docs/RULES.md");
+const INSTALL: &str = include_str!("../../../../docs/INSTALL.md");
 
 /// A directory with the samples in it, which is gone when the test ends.
 struct Place(PathBuf);
@@ -134,19 +136,19 @@ const W: &str = "2  0 0 0 1  2  0 1  1 0  0 0 3";
 const THREE_GRADES: &str = "2  0 0 0 1  2  0 1  3 0  0 0 3  0 1 2  1 1 1";
 
 #[test]
-fn examples_of_the_readme() {
+fn examples_of_the_rules() {
     let line = "elements 2 letters 2 marks 1 linked 3 classes 3 strong 1 reduced 2";
-    assert!(README.contains(line));
-    example(README, W, &["summary", "-"], 0, line);
+    assert!(RULES.contains(line));
+    example(RULES, W, &["summary", "-"], 0, line);
     example(
-        README,
+        RULES,
         W,
         &["member", "-", "u: 1  v: 0"],
         0,
         "grade 3 turns 1",
     );
     example(
-        README,
+        RULES,
         W,
         &["member", "-", "u: 0  v: 1"],
         1,
@@ -154,14 +156,39 @@ fn examples_of_the_readme() {
     );
     let weak = "2  0 1 1 0  2  1 0  1 0  0 0 3";
     example(
-        README,
+        RULES,
         weak,
         &["strong", "-"],
         1,
         "weak\ngrade 3 values 1 0  u: 0  v: 0 0\ngrade 0 values 1 0  u: 0  v: 1\n",
     );
-    example(README, weak, &["member", "-", "v: 0"], 0, "turns 2");
-    assert!(README.contains("refused 5 at 1"));
+    example(RULES, weak, &["member", "-", "v: 0"], 0, "turns 2");
+    assert!(INSTALL.contains("refused 5 at 1"));
+}
+
+#[test]
+fn the_readme_fits_a_few_screens() {
+    let lines: Vec<&str> = README.lines().collect();
+    assert!(lines.len() <= 120, "{} lines", lines.len());
+    for (number, line) in lines.iter().enumerate() {
+        let length = line.chars().count();
+        assert!(length <= 110, "line {}: {length} characters", number + 1);
+    }
+}
+
+#[test]
+fn the_picture_of_the_readme_is_the_tools() {
+    let picture = include_str!("../../../../docs/three-grades.svg");
+    let sample = concat!(
+        env!("CARGO_MANIFEST_DIR"),
+        "/../../samples/three-grades.rule"
+    );
+    assert!(README.contains("docs/three-grades.svg"));
+    let drawn = run(&["picture", sample]);
+    assert!(
+        drawn.printed(0) == picture,
+        "docs/three-grades.svg is what `duknavet-tool picture` draws"
+    );
 }
 
 #[test]
