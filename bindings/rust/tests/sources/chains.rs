@@ -18,10 +18,22 @@ const FACES: [&str; 2] = ["rules", "board"];
 const SHARED: [(&str, &str, &str); 6] = [
     ("rule_check", "check", "The check of a rule"),
     ("mark_strong", "decide", "Whether a checked rule is strong"),
-    ("rule_laid", "write_laid", "A rule that is laid out in scratch, written"),
+    (
+        "rule_laid",
+        "write_laid",
+        "A rule that is laid out in scratch, written",
+    ),
     ("reduce_rounds", "refine", "The rounds of a reduction"),
-    ("two_rules", "check_both", "Two rules checked in one scratch"),
-    ("two_rules", "decide_both", "Whether two checked rules are strong"),
+    (
+        "two_rules",
+        "check_both",
+        "Two rules checked in one scratch",
+    ),
+    (
+        "two_rules",
+        "decide_both",
+        "Whether two checked rules are strong",
+    ),
 ];
 
 /// The ground of nearly every call, which the page names once: products and images read, bytes held against a bound, counted sections and zeros.
@@ -47,10 +59,14 @@ fn heading(text: &str) -> String {
 fn first_sentence(text: &str) -> String {
     let mut plain = text.to_string();
     while let Some(at) = plain.find(" (document ") {
-        let end = plain[at..].find(')').map_or(plain.len(), |end| at + end + 1);
+        let end = plain[at..]
+            .find(')')
+            .map_or(plain.len(), |end| at + end + 1);
         plain.replace_range(at..end, "");
     }
-    let ends = [". ", ": ", "; ", ", as document 01 ", ", as specs/"].iter().filter_map(|mark| plain.find(mark));
+    let ends = [". ", ": ", "; ", ", as document 01 ", ", as specs/"]
+        .iter()
+        .filter_map(|mark| plain.find(mark));
     let end = ends.min().unwrap_or(plain.len());
     plain[..end].trim_end_matches('.').to_string()
 }
@@ -60,7 +76,11 @@ impl Calls {
         let mut codes: BTreeMap<String, Code> = BTreeMap::new();
         let mut leading = BTreeMap::new();
         for (path, text) in repository.ending("/src/lib.rt") {
-            let home = path.split('/').next().expect("the crate of a file").to_string();
+            let home = path
+                .split('/')
+                .next()
+                .expect("the crate of a file")
+                .to_string();
             leading.insert(home.clone(), first_sentence(&heading(text)));
             codes.insert(home, Code::read(text));
         }
@@ -192,7 +212,9 @@ fn shared(way: &Way) -> Option<&'static str> {
 fn public_calls(repository: &Repository, calls: &Calls) -> Vec<Way> {
     let mut found = Vec::new();
     for face in FACES {
-        let text = repository.text(&format!("{face}/src/lib.rt")).expect("a face of the library");
+        let text = repository
+            .text(&format!("{face}/src/lib.rt"))
+            .expect("a face of the library");
         let code = Code::read(text);
         for import in code.imports.iter().filter(|import| import.passed_on) {
             let way = (import.home.clone(), import.item.clone());
