@@ -39,6 +39,7 @@ mod boards;
 mod combinations;
 pub mod exchange;
 pub mod files;
+pub mod formulas;
 mod lassos;
 pub mod letters;
 mod markings;

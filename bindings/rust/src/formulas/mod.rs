@@ -1,0 +1,22 @@
+//! Temporal formulas as people write them: read, put in brackets, and made into the bytes that a rule is made of.
+//!
+//! A formula speaks of an endless word and of what is left of it after some letters. It stands for the grade 3 or 0; a
+//! document may give a lower grade to some of its formulas. `docs/FORMULAS.md` of the repository has the language.
+
+mod document;
+mod meaning;
+mod parse;
+mod patterns;
+mod program;
+mod tokens;
+mod tree;
+
+pub use document::{Document, Line};
+pub use meaning::{Alphabet, Formula};
+pub use parse::{read, Read};
+pub use program::{Operation, Program};
+pub use tokens::FormulaError;
+pub use tree::Tree;
+
+/// How deep the parts of a formula may lie in one another.
+pub const MOST_DEPTH: usize = 200;
