@@ -2,6 +2,7 @@
 
 use super::tree::{Binary, Tree, Unary};
 use crate::text::Names;
+use std::fmt;
 
 /// The letters that formulas speak of, by their names or as valuations of propositions.
 #[derive(Clone, Debug, PartialEq, Eq)]
@@ -195,6 +196,38 @@ impl Formula {
             | Formula::Until(first, second)
             | Formula::Release(first, second)
             | Formula::WeakUntil(first, second) => vec![first, second],
+        }
+    }
+}
+
+/// A formula in words again, over an alphabet: sets by the names of their letters.
+pub struct Shown<'a>(pub &'a Formula, pub &'a Alphabet);
+
+impl fmt::Display for Shown<'_> {
+    fn fmt(&self, f: &mut fmt::Formatter<'_>) -> fmt::Result {
+        let Shown(formula, alphabet) = *self;
+        let own = |part: &'_ Formula| Shown(part, alphabet).to_string();
+        match formula {
+            Formula::Letters(set) => {
+                let letters = (0..16u8).filter(|letter| set >> letter & 1 == 1);
+                let names: Vec<String> = letters.map(|letter| alphabet.names.show(letter)).collect();
+                match names.len() {
+                    1 => f.write_str(&names[0]),
+                    _ => write!(f, "{{{}}}", names.join(", ")),
+                }
+            }
+            Formula::Constant(3) => f.write_str("true"),
+            Formula::Constant(0) => f.write_str("false"),
+            Formula::Constant(grade) => write!(f, "grade {grade}"),
+            Formula::Not(part) => write!(f, "!{}", own(part)),
+            Formula::Next(part) => write!(f, "X {}", own(part)),
+            Formula::Eventually(part) => write!(f, "F {}", own(part)),
+            Formula::Always(part) => write!(f, "G {}", own(part)),
+            Formula::Both(a, b) => write!(f, "({} && {})", own(a), own(b)),
+            Formula::Either(a, b) => write!(f, "({} || {})", own(a), own(b)),
+            Formula::Until(a, b) => write!(f, "({} U {})", own(a), own(b)),
+            Formula::Release(a, b) => write!(f, "({} R {})", own(a), own(b)),
+            Formula::WeakUntil(a, b) => write!(f, "({} W {})", own(a), own(b)),
         }
     }
 }

@@ -8,13 +8,15 @@ mod meaning;
 mod parse;
 mod patterns;
 mod program;
+mod rule;
 mod tokens;
 mod tree;
 
 pub use document::{Document, Line};
-pub use meaning::{Alphabet, Formula};
+pub use meaning::{Alphabet, Formula, Shown};
 pub use parse::{read, Read};
-pub use program::{Operation, Program};
+pub use program::{NoProgram, Operation, Program};
+pub use rule::{make, Made, NotMade, Step};
 pub use tokens::FormulaError;
 pub use tree::Tree;
 

@@ -8,12 +8,14 @@ const MOST_RULES: usize = 8;
 /// The most bytes of a program.
 const MOST_BYTES: usize = 65_535;
 
-mod code {
+/// The codes of the operations.
+pub(super) mod code {
     pub const SET: u8 = 0;
     pub const CONSTANT: u8 = 1;
     pub const NOT: u8 = 2;
     pub const BOTH: u8 = 3;
     pub const EITHER: u8 = 4;
+    pub const WITHOUT: u8 = 5;
     pub const NEXT: u8 = 6;
     pub const UNTIL: u8 = 7;
     pub const EVENTUALLY: u8 = 8;

@@ -5,6 +5,7 @@ mod errors;
 mod evaluation;
 mod programs;
 mod reading;
+mod rules;
 
 use duknavet::formulas::{read, Alphabet, Formula, Tree};
 use duknavet::text::Names;

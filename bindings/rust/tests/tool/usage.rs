@@ -3,7 +3,7 @@
 use crate::program::{run, tool, Scrap};
 use crate::samples::{AUTOMATON, W};
 
-const COMMANDS: [&str; 22] = [
+const COMMANDS: [&str; 23] = [
     "check",
     "summary",
     "strong",
@@ -16,6 +16,7 @@ const COMMANDS: [&str; 22] = [
     "confirm",
     "rounds",
     "automaton",
+    "formula",
     "states",
     "follow",
     "board",
@@ -168,6 +169,7 @@ fn full_disk() {
             "combine" => vec![name, "both", rule.name(), rule.name()],
             "included" | "follow" | "board" => continue,
             "automaton" => vec![name, automaton.name()],
+            "formula" => vec![name, "G a", "--letters", "a,b"],
             "letters" => vec![name, rule.name(), "--name", "a,b"],
             "stretch" => vec![name, "v: 0", "0"],
             "compare" => vec![name, rule.name(), automaton.name()],

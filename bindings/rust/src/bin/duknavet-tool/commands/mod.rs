@@ -10,6 +10,7 @@ mod complement;
 mod confirm;
 mod convert;
 mod follow;
+mod formula;
 mod included;
 mod letters;
 mod member;
@@ -39,6 +40,7 @@ pub const ALL: &[&Command] = &[
     &confirm::COMMAND,
     &rounds::COMMAND,
     &automaton::COMMAND,
+    &formula::COMMAND,
     &states::COMMAND,
     &follow::COMMAND,
     &board::COMMAND,

@@ -1,0 +1,123 @@
+//! The rule of a formula, by the library's calls: the operations of its program run over a stack of rules, and each result is reduced before the next is
+//! made of it. Every call is proved; that they are put together as the formula says is tested.
+
+use super::meaning::Formula;
+use super::program::{code, Program};
+use crate::words::Explained;
+use crate::{owned, Operation};
+
+/// What an operation of a program made.
+#[derive(Clone, Debug, PartialEq, Eq)]
+pub struct Step {
+    /// The part of the formula.
+    pub part: Formula,
+    /// How many elements its smallest rule has.
+    pub elements: usize,
+    /// The grade of every lasso, where all have one.
+    pub constant: Option<u8>,
+}
+
+/// The smallest rule of a formula, and what was made on the way.
+#[derive(Clone, Debug, PartialEq, Eq)]
+pub struct Made {
+    /// The rule file.
+    pub rule: Vec<u8>,
+    /// A step for each operation.
+    pub steps: Vec<Step>,
+}
+
+/// A part of which no rule could be made: the tables on the way are too large.
+#[derive(Clone, Debug, PartialEq, Eq)]
+pub struct NotMade {
+    /// The part.
+    pub part: Formula,
+    /// The refusal.
+    pub explained: Explained,
+}
+
+/// The grade of every lasso by a smallest rule, where all have one: such a rule has one element.
+fn constant(rule: &[u8]) -> Option<u8> {
+    match rule {
+        [1, 0, _, rest @ ..] => match rest.last() {
+            Some(grade) if rest.len() > 4 && rest[rest.len() - 5] == 1 => Some(*grade),
+            _ => Some(0),
+        },
+        _ => None,
+    }
+}
+
+/// Makes the smallest rule of a program's formula over so many letters.
+pub fn make(letters: usize, program: &Program) -> Result<Made, NotMade> {
+    let mut stack: Vec<Vec<u8>> = Vec::new();
+    let mut steps = Vec::new();
+    for operation in &program.operations {
+        let bytes = &program.bytes[operation.at..];
+        let rule = operate(letters, bytes, &mut stack).map_err(|explained| NotMade {
+            part: operation.part.clone(),
+            explained,
+        })?;
+        steps.push(Step {
+            part: operation.part.clone(),
+            elements: rule.first().copied().map_or(0, usize::from),
+            constant: constant(&rule),
+        });
+        stack.push(rule);
+    }
+    let rule = stack.pop().unwrap_or_default();
+    Ok(Made { rule, steps })
+}
+
+/// The rule that the operation at the front of some bytes makes of those on the stack, which it takes away.
+fn operate(letters: usize, bytes: &[u8], stack: &mut Vec<Vec<u8>>) -> Result<Vec<u8>, Explained> {
+    let always = |letters: usize| owned::constant(letters, 3);
+    let mut taken = || stack.pop().unwrap_or_default();
+    match bytes[0] {
+        code::SET => {
+            let set = u16::from_le_bytes([bytes[2], bytes[3]]);
+            owned::first_letter(letters, usize::from(set), usize::from(bytes[1]))
+        }
+        code::CONSTANT => owned::constant(letters, usize::from(bytes[1])),
+        code::COPY => {
+            let below = stack.len().saturating_sub(1 + usize::from(bytes[1]));
+            Ok(stack.get(below).cloned().unwrap_or_default())
+        }
+        code::NOT => not(&taken()),
+        code::NEXT => reduced(owned::next(&taken())?),
+        code::EVENTUALLY => until(&always(letters)?, &taken()),
+        code::ALWAYS => {
+            let part = not(&taken())?;
+            not(&until(&always(letters)?, &part)?)
+        }
+        other => {
+            let (second, first) = (taken(), taken());
+            match other {
+                code::BOTH => combined(&first, &second, Operation::Both),
+                code::EITHER => combined(&first, &second, Operation::Either),
+                code::WITHOUT => combined(&first, &second, Operation::Without),
+                code::UNTIL => until(&first, &second),
+                code::RELEASE => not(&until(&not(&first)?, &not(&second)?)?),
+                _ => {
+                    let until_second = until(&first, &second)?;
+                    let never_broken = not(&until(&always(letters)?, &not(&first)?)?)?;
+                    combined(&until_second, &never_broken, Operation::Either)
+                }
+            }
+        }
+    }
+}
+
+fn reduced(rule: Vec<u8>) -> Result<Vec<u8>, Explained> {
+    owned::reduce(&rule)
+}
+
+fn not(rule: &[u8]) -> Result<Vec<u8>, Explained> {
+    reduced(owned::complement(rule)?)
+}
+
+fn until(first: &[u8], second: &[u8]) -> Result<Vec<u8>, Explained> {
+    reduced(owned::until(first, second)?)
+}
+
+fn combined(first: &[u8], second: &[u8], operation: Operation) -> Result<Vec<u8>, Explained> {
+    reduced(owned::combine(first, second, operation)?)
+}
