@@ -45,7 +45,7 @@ type Refusals = (&'static str, &'static [(u8, &'static [u8])]);
 
 /// Which refusals each call can answer, with their inputs: every number that applies to it.
 /// A rule's checks are 1 to 8; a second marks section has no table and no letters, so not 5 and 6.
-const REFUSALS: [Refusals; 25] = [
+const REFUSALS: [Refusals; 29] = [
     ("classes", &[(1, &[1, 2, 3, 4, 5, 6, 7, 8, 13])]),
     ("strong", &[(1, &[1, 2, 3, 4, 5, 6, 7, 8, 13])]),
     (
@@ -141,7 +141,7 @@ const fn board(name: &'static [u8], first: &'static [u8]) -> [(u8, &'static [u8]
 }
 
 /// Outcomes that must occur at least so often.
-const LEAST: [(&str, &str, u64); 233] = [
+const LEAST: [(&str, &str, u64); 241] = [
     ("classes", "counts", 1000),
     ("strong", "weak", 100),
     ("strong", "strong, marks closed", 1000),

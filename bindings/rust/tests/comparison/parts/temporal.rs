@@ -1,7 +1,7 @@
 //! Rules of temporal formulas: of numbers in and out of their ranges, of random rules, weak ones too, and of rules that were made so.
 
 use crate::calls::*;
-use crate::definitions::rule::Morphism;
+use crate::definitions::rule::{Mark, Morphism};
 use crate::inputs::{marks, morphisms};
 use crate::subject::Subject;
 use duknavet::RULE_OUT;
@@ -26,17 +26,32 @@ pub fn run(c: &mut Comparison, count: usize) {
     }
     // Each letter its own element, which a word that begins with it has: so many pairs of a first letter and the next, and those without one.
     for n in [7, 8, 16] {
-        let m = Morphism {
-            n,
-            table: (0..n * n).map(|at| (at / n) as u8).collect(),
-            images: (0..n as u8).collect(),
-        };
-        next(c, &Subject::new(m.with(Vec::new()).bytes()));
+        next(c, &by_first_letter(&vec![0; n]));
     }
+    // Ten letters with which nothing is decided, and six that bound the grade from below and above in eight ways.
+    let first = by_first_letter(&[3, 3, 3, 3, 3, 3, 3, 3, 3, 3, 0, 1, 2, 3, 3, 2]);
+    let second = by_first_letter(&[0, 0, 0, 0, 0, 0, 0, 0, 0, 0, 0, 1, 2, 3, 1, 0]);
+    until(c, &first, &second);
     for (m, n) in [(8, 9), (4, 5), (3, 9)] {
         let rules = [m, n].map(|n| Subject::new(morphisms::sums(n, &[1]).with(Vec::new()).bytes()));
         until(c, &rules[0], &rules[1]);
     }
+}
+
+/// A letter and an element for each grade: a word has the element of its first letter, and a lasso that letter's grade.
+fn by_first_letter(grades: &[u8]) -> Subject {
+    let n = grades.len();
+    let m = Morphism {
+        n,
+        table: (0..n * n).map(|at| (at / n) as u8).collect(),
+        images: (0..n as u8).collect(),
+    };
+    let graded = m.linked_pairs().into_iter().map(|pair| Mark {
+        pair,
+        grade: grades[pair.0 as usize],
+    });
+    let marks = graded.filter(|mark| mark.grade > 0).collect();
+    Subject::new(m.with(marks).bytes())
 }
 
 fn numbers(c: &mut Comparison) {
