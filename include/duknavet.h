@@ -3,14 +3,15 @@
  *
  * What a caller owes
  *   - Each pointer is not null, also for a length of 0, and good for its length.
- *   - A buffer that is written (out, blocks, scratch, state, map of duknavet_reduce, u and v of duknavet_included, points of duknavet_keep,
+ *   - A buffer that is written (out, blocks, scratch, state, classes, map of duknavet_reduce, u and v of duknavet_included, points of duknavet_keep,
  *     files of duknavet_board_enter)
  *     overlaps no other argument's bytes during the call. Bytes that are only read may overlap.
  *   - Nothing else: any bytes of any length, and any numbers, have their answer. No call keeps a pointer, allocates, or
  *     uses memory shared between calls; calls on different buffers may run at the same time.
  *
  * Buffers
- *   - scratch has DUKNAVET_SCRATCH bytes or more. It may hold anything, and ends as zeros over its whole length.
+ *   - scratch has DUKNAVET_SCRATCH bytes or more. It may hold anything, and ends as zeros over its whole length. So does classes of
+ *     duknavet_until, which has DUKNAVET_UNTIL_CLASSES bytes or more.
  *   - Result buffers have the sizes below or more. Bytes past a result keep what they had; after a refusal so does every
  *     byte. Where a buffer is too short (DUKNAVET_BUFFER_TOO_SHORT) no buffer changes, the scratch included.
  *
@@ -44,9 +45,12 @@
 extern "C" {
 #endif
 
+/* The version of this header and of the library. Refusals may be added to a later one. */
+#define DUKNAVET_VERSION "0.2.0"
+
 /* The sizes that lent buffers must have, in bytes; longer ones pass. */
 #define DUKNAVET_SCRATCH 65536 /* scratch of every call */
-#define DUKNAVET_RULE 16404    /* out of complement, reduce, both .. and automaton_rule: the longest rule file */
+#define DUKNAVET_RULE 16404    /* out of every call that writes a rule: the longest rule file */
 #define DUKNAVET_CLASSES 8192  /* out of classes: two bytes for each pair of 64 elements */
 #define DUKNAVET_U 64          /* u of included */
 #define DUKNAVET_V 4224        /* v of included */
@@ -56,6 +60,7 @@ extern "C" {
 #define DUKNAVET_SUCCESSORS 65 /* out of successors: a byte for each element, and one for none */
 #define DUKNAVET_BOARD 25      /* state of a board: three bytes for each of the names 0 to 7, then the lowest grade */
 #define DUKNAVET_FILES 131232  /* files of a board: DUKNAVET_RULE bytes for each name */
+#define DUKNAVET_UNTIL_CLASSES 262144 /* classes of until: 4,096 bytes for each of 64 elements */
 
 /* The most letters that u or v of a lasso may have; the fewest is 0 for u and 1 for v. */
 #define DUKNAVET_WORD 4224
@@ -77,18 +82,20 @@ extern "C" {
  * values, 11 for u, then v, or for a verdict, 10 in u, then v, or for an event, 12. For an automaton: 13, 1 to 4, 8, 14. For
  * keep and return: 13, the rule's, 15, 16, 3 for the values of the monitor and of every kept name. For reduce_rounds: 13, the
  * rule's, 20, 12. For state_kind: 13, the rule's, 3 for the least grade, 17. For successors: 13, the rule's, 17, 10. For advance_event,
- * advance_mark and advance_stay: 13, the rule's, 3, 12, 10; for advance_word: 13, the rule's, 3, 12, 11, 10. */
+ * advance_mark and advance_stay: 13, the rule's, 3, 12, 10; for advance_word: 13, the rule's, 3, 12, 11, 10. For first_letter: 13, 2, 3, 10;
+ * for constant: 13, 2, 3. For next: 13, the rule's, 12, 23. For until: 13, the first file's, the second's, 18, 12 for the first, for the
+ * second, 19, 23. */
 enum duknavet_refusal {
     DUKNAVET_RESULT = 0,               /* no refusal */
     DUKNAVET_TRUNCATED = 1,            /* bytes end inside a count or section: the length of the input */
-    DUKNAVET_COUNT_OUT_OF_RANGE = 2,   /* a count lies outside its range: its first byte */
-    DUKNAVET_ENTRY_OUT_OF_RANGE = 3,   /* an entry, grade or value that there is none of: its byte; 0 for a monitor, a least grade */
+    DUKNAVET_COUNT_OUT_OF_RANGE = 2,   /* a count lies outside its range: its first byte; 0 for a number of letters */
+    DUKNAVET_ENTRY_OUT_OF_RANGE = 3,   /* an entry, grade or value that there is none of: its byte; 0 for a monitor, a grade alone */
     DUKNAVET_TRAILING_BYTES = 4,       /* bytes follow the last section: the first such byte */
     DUKNAVET_NOT_ASSOCIATIVE = 5,      /* (a*b)*c differs from a*(b*c): a * 4096 + b * 64 + c */
     DUKNAVET_UNREACHABLE = 6,          /* an element is no word's value: the least */
     DUKNAVET_NOT_LINKED = 7,           /* a marked pair is not linked: its first byte */
     DUKNAVET_DUPLICATE = 8,            /* a pair or transition stands twice: the first byte of the later */
-    DUKNAVET_UNKNOWN_LETTER = 10,      /* a word or event has a letter of k or more: its position; 0 for an event */
+    DUKNAVET_UNKNOWN_LETTER = 10,      /* a word or event has a letter of k or more: its position; 0 for an event; of a set: the letter */
     DUKNAVET_WORD_LENGTH = 11,         /* u, v or a word of events is too long, v is empty, or a verdict lacks since: 0 */
     DUKNAVET_NOT_STRONG = 12,          /* the rule is not strong: 0 */
     DUKNAVET_BUFFER_TOO_SHORT = 13,    /* a lent buffer is too short: 0 */
@@ -100,7 +107,8 @@ enum duknavet_refusal {
     DUKNAVET_TOO_MANY_PAIRS = 19,      /* two rules to be made one have more than 64 pairs of values: 0 */
     DUKNAVET_LIMIT_OUT_OF_RANGE = 20,  /* a limit of rounds is above 64: 0 */
     DUKNAVET_NAME_NOT_FREE = 21,       /* a rule would enter under a name above 7 or taken: 0 */
-    DUKNAVET_NAME_NOT_PRESENT = 22     /* no rule is present under the name that would leave: 0 */
+    DUKNAVET_NAME_NOT_PRESENT = 22,    /* no rule is present under the name that would leave: 0 */
+    DUKNAVET_TOO_MANY_CLASSES = 23     /* the rule of next or until would have more than 64 elements: 0 */
 };
 
 /* The refusal of an answer; DUKNAVET_RESULT where it is a result. */
@@ -199,6 +207,36 @@ uint64_t duknavet_without(const uint8_t *first, size_t first_length,
                           const uint8_t *second, size_t second_length,
                           uint8_t *out, size_t out_length,
                           uint8_t *scratch, size_t scratch_length);
+
+/* The rule over so many letters, 1 to 16, that gives a lasso the grade, 0 to 3, where its first letter is in the set, else 0; letter a is in it
+ * if set / 2^a is odd. It is the smallest such rule. Field 0: how many bytes of out (DUKNAVET_RULE) it has. Refused, in this order: 13; 2 for
+ * the letters; 3 for the grade; 10 where the set has a letter that is not below letters, the least such letter the place. */
+uint64_t duknavet_first_letter(size_t letters, size_t set, size_t grade,
+                               uint8_t *out, size_t out_length);
+
+/* The rule over so many letters that gives every lasso the grade. Refused as duknavet_first_letter is, but never by 10. */
+uint64_t duknavet_constant(size_t letters, size_t grade,
+                           uint8_t *out, size_t out_length);
+
+/* The rule that gives a lasso the grade that a strong rule gives to its endless word without the first letter. Its elements are the pairs
+ * (value of what is behind the first letter, or none; value of the word) that non-empty words have. It is strong, and marks every linked pair
+ * whose lassos it grades 1 or more, with that grade; it need not be the smallest. Field 0: how many bytes of out (DUKNAVET_RULE) it has.
+ * Refused, in this order: 13; the rule's; 12; 23 where there are more than 64 such pairs. */
+uint64_t duknavet_next(const uint8_t *rule, size_t rule_length,
+                       uint8_t *out, size_t out_length,
+                       uint8_t *scratch, size_t scratch_length);
+
+/* The rule of the first until the second, two strong rules over as many letters: the grade of a lasso is the highest, over the places i of its
+ * endless word, of the lowest of the second's grade from i on and of the first's grade from each j < i on. It is strong, and marks every
+ * linked pair whose lassos it grades 1 or more, with that grade; it need not be the smallest. Field 0: how many bytes of out (DUKNAVET_RULE)
+ * it has. classes (DUKNAVET_UNTIL_CLASSES) may hold anything, and ends as zeros like scratch. The first file is input 1, the second input 2;
+ * both may be the same bytes. Refused, in this order: 13; the first file's; the second's; 18; 12 for the first, for the second; 19; 23 where
+ * the rule would have more than 64 elements. */
+uint64_t duknavet_until(const uint8_t *first, size_t first_length,
+                        const uint8_t *second, size_t second_length,
+                        uint8_t *out, size_t out_length,
+                        uint8_t *classes, size_t classes_length,
+                        uint8_t *scratch, size_t scratch_length);
 
 /* The reduction of a strong rule by rounds: which elements stand together after at most limit rounds (0 to DUKNAVET_MOST_ROUNDS)
  * after round 0. Round 0 puts s and t together if, for every element z, lassos with the values (s, z) and (t, z) have equal

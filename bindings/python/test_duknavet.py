@@ -154,6 +154,33 @@ class Calls(unittest.TestCase):
             duknavet.both(W, remainders(1, 1))
         self.assertEqual(str(caught.exception), "LettersDiffer (refusal 18, input 1, place 0)")
 
+    def test_temporal_rules(self):
+        ones = duknavet.first_letter(2, 0b10, 2)
+        self.assertEqual(ones, bytes([2, 0, 0, 1, 1, 2, 0, 1, 2, 0, 1, 0, 2, 1, 1, 2]))
+        self.assertEqual(duknavet.constant(2, 3), bytes([1, 0, 2, 0, 0, 1, 0, 0, 0, 3]))
+        self.assertEqual(duknavet.first_letter(2, 0b11, 3), duknavet.constant(2, 3))
+        # Grade 3 for letter 0 first and 1 for letter 1: of 0, then 1 for ever, this, the other, what is next and until have four grades.
+        graded = duknavet.either(duknavet.first_letter(2, 0b01, 3), duknavet.first_letter(2, 0b10, 1))
+        rules = (graded, ones, duknavet.next(graded), duknavet.until(graded, ones))
+        self.assertEqual([duknavet.member(rule, word(0), word(1)).grade for rule in rules], [3, 0, 1, 2])
+        # The other way about letter 0 comes at once.
+        self.assertEqual(duknavet.member(duknavet.until(ones, graded), word(0), word(1)).grade, 3)
+
+    def test_temporal_rules_refused(self):
+        self.refused(2, 1, 0, duknavet.constant, 0, 1)
+        self.refused(2, 1, 0, duknavet.first_letter, 17, 0, 4)
+        self.refused(3, 1, 0, duknavet.constant, 16, 4)
+        self.refused(10, 1, 5, duknavet.first_letter, 3, 0b1100001, 1)
+        self.refused(12, 1, 0, duknavet.next, Z)
+        self.refused(23, 1, 0, duknavet.next, left_zeros(8))
+        self.assertEqual(duknavet.next(left_zeros(7))[0], 56)
+        self.refused(18, 1, 0, duknavet.until, W, remainders(1, 0))
+        self.refused(12, 1, 0, duknavet.until, Z, Z)
+        self.refused(12, 2, 0, duknavet.until, W, Z)
+        self.refused(19, 1, 0, duknavet.until, remainders(8, 1), remainders(9, 1))
+        self.assertRaises(ValueError, duknavet.first_letter, 2, 1 << 64, 1)
+        self.assertRaises(ValueError, duknavet.constant, 2, -1)
+
     def test_rounds(self):
         self.assertEqual(duknavet.reduce_rounds(TWICE, 0), Rounds(0, False, [0, 1, 2, 1]))
         self.assertEqual(duknavet.reduce_rounds(TWICE, 1), Rounds(1, True, [0, 1, 2, 3]))
@@ -198,11 +225,11 @@ class Calls(unittest.TestCase):
             named = re.findall(r"^    DUKNAVET_(\w+) = (\d+)", file.read(), re.MULTILINE)
         kinds = {int(number): name.title().replace("_", "") for name, number in named if name != "RESULT"}
         self.assertEqual(duknavet.KINDS, kinds)
-        self.assertEqual(sorted(kinds), [number for number in range(1, 23) if number != 9])
+        self.assertEqual(sorted(kinds), [number for number in range(1, 24) if number != 9])
         found = {number: kind for number, kind in duknavet.KINDS.items() if number > 14}
         points = {15: "NameOutOfRange", 16: "NameNeverKept"}
         later = {17: "NoSuchState", 18: "LettersDiffer", 19: "TooManyPairs", 20: "LimitOutOfRange"}
-        names = {21: "NameNotFree", 22: "NameNotPresent"}
+        names = {21: "NameNotFree", 22: "NameNotPresent", 23: "TooManyClasses"}
         self.assertEqual(found, {**points, **later, **names})
         with self.assertRaises(Refused) as caught:
             duknavet.successors(Z, 0, 1, 0)

@@ -12,7 +12,7 @@ import zipfile
 
 HERE = os.path.dirname(os.path.dirname(os.path.abspath(__file__)))
 NAME = "duknavet"
-VERSION = "0.1.0"
+VERSION = "0.2.0"
 
 
 def get_requires_for_build_wheel(config_settings=None):

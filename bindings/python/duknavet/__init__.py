@@ -18,6 +18,8 @@ import ctypes
 import os
 from typing import List, NamedTuple, Optional, Tuple
 
+__version__ = "0.2.0"
+
 SCRATCH = 65536
 RULE_OUT = 16404
 CLASSES_OUT = 8192
@@ -30,6 +32,7 @@ SUCCESSORS_OUT = 65
 BOARD_NAMES = 8
 BOARD_STATE = 25
 BOARD_FILES = 131232
+UNTIL_CLASSES = 262144
 #: The most letters that a word of events may have.
 LOG = 16777216
 #: The value of a monitor, and of a state's s, that stands for no letters.
@@ -59,6 +62,7 @@ KINDS = {
     20: "LimitOutOfRange",
     21: "NameNotFree",
     22: "NameNotPresent",
+    23: "TooManyClasses",
 }
 
 
@@ -163,6 +167,10 @@ def _load() -> ctypes.CDLL:
         "both": lent + lent + written + written,
         "either": lent + lent + written + written,
         "without": lent + lent + written + written,
+        "first_letter": [size, size, size] + written,
+        "constant": [size, size] + written,
+        "next": lent + written + written,
+        "until": lent + lent + written + written + written,
         "reduce_rounds": lent + [size] + written + written,
         "state_kind": lent + [size, size, ctypes.c_uint8] + written,
         "successors": lent + [size, size, ctypes.c_uint8] + written + written,
@@ -202,7 +210,7 @@ def _call(name: str, *arguments) -> Tuple[int, int, int]:
         handed.append(argument)
         if not isinstance(argument, int):
             handed.append(len(argument))
-    if name not in ("fresh", "board_empty"):
+    if name not in ("fresh", "board_empty", "first_letter", "constant"):
         handed += [ctypes.create_string_buffer(SCRATCH), SCRATCH]
     answer = getattr(_library, f"duknavet_{name}")(*handed)
     if answer & 255:
@@ -243,9 +251,9 @@ def classes(rule: bytes) -> Classes:
     return Classes([None if number == 65535 else number for number in numbers], *counts)
 
 
-def _written(name: str, *files: bytes) -> bytes:
+def _written(name: str, *inputs) -> bytes:
     out = ctypes.create_string_buffer(RULE_OUT)
-    length, _, _ = _call(name, *files, out)
+    length, _, _ = _call(name, *inputs, out)
     return out.raw[:length]
 
 
@@ -284,6 +292,30 @@ def either(first: bytes, second: bytes) -> bytes:
 def without(first: bytes, second: bytes) -> bytes:
     """The rule made of two strong ones over as many letters that gives each lasso the lower of its first grade and 3 less its second."""
     return _written("without", first, second)
+
+
+def first_letter(letters: int, set: int, grade: int) -> bytes:
+    """The smallest rule over so many letters that gives a lasso the grade where its first letter is in the set, else 0; letter a is in the set if
+    set / 2**a is odd."""
+    return _written("first_letter", _size(letters, "a number of letters"), _size(set, "a set"), _size(grade, "a grade"))
+
+
+def constant(letters: int, grade: int) -> bytes:
+    """The smallest rule over so many letters that gives every lasso the grade."""
+    return _written("constant", _size(letters, "a number of letters"), _size(grade, "a grade"))
+
+
+def next(rule: bytes) -> bytes:
+    """The rule that gives each lasso the grade that a strong rule gives to its endless word without the first letter."""
+    return _written("next", rule)
+
+
+def until(first: bytes, second: bytes) -> bytes:
+    """The rule of the first until the second, two strong ones over as many letters: the highest, over the places of a lasso's endless word, of the
+    lowest of the second's grade from there on and the first's from each place before."""
+    out, classes = ctypes.create_string_buffer(RULE_OUT), ctypes.create_string_buffer(UNTIL_CLASSES)
+    length, _, _ = _call("until", first, second, out, classes)
+    return out.raw[:length]
 
 
 def reduce_rounds(rule: bytes, limit: int = 64) -> Rounds:

@@ -5,16 +5,18 @@
 
 use std::ops::RangeInclusive;
 
-/// Why a call refuses; the discriminant is the refusal's number.
+/// Why a call refuses; the discriminant is the refusal's number. A later version may add some.
+#[non_exhaustive]
 #[derive(Clone, Copy, Debug, PartialEq, Eq, Hash, PartialOrd, Ord)]
 #[repr(u8)]
 pub enum Refusal {
     /// The bytes end inside a count or a section. Place: the length of the input.
     Truncated = 1,
-    /// A count lies outside its range. Place: its first byte.
+    /// A count lies outside its range (place: its first byte), or a number of letters is not 1 to 16 (place 0).
     CountOutOfRange = 2,
     /// An entry names no element, state, letter or state kind, or is a mark's grade and not 1 to 3 (place: its byte); or a value of
-    /// a monitor or under a kept name is neither an element nor [`NONE`](crate::NONE), or a least grade is not 1 to 3 (place 0).
+    /// a monitor or under a kept name is neither an element nor [`NONE`](crate::NONE), or a grade is not in its range
+    /// (place 0).
     EntryOutOfRange = 3,
     /// Bytes follow the last section. Place: the first such byte.
     TrailingBytes = 4,
@@ -26,7 +28,8 @@ pub enum Refusal {
     NotLinked = 7,
     /// A marked pair, with whatever grade, or a transition stands twice. Place: the first byte of the later.
     Duplicate = 8,
-    /// A word or an event has a letter that the rule does not have. Place: its position, the first in a word, 0 for an event.
+    /// A word, an event or a set has a letter that the rule does not have. Place: its position, the first in a word, 0 for an event; of a set
+    /// the least such letter.
     UnknownLetter = 10,
     /// u (input 1) has more than [`WORD`](crate::WORD) letters, v (input 2) does not have 1 to [`WORD`](crate::WORD), a word of
     /// events has more than [`LOG`](crate::LOG), or a verdict is wanted of a monitor that saw no letter since its last mark.
@@ -53,10 +56,12 @@ pub enum Refusal {
     NameNotFree = 21,
     /// A rule would leave a board under a name where none is.
     NameNotPresent = 22,
+    /// The rule of [`next`](crate::next) or [`until`](crate::until) would have more than 64 elements.
+    TooManyClasses = 23,
 }
 
 impl Refusal {
-    /// The refusal's number, 1 to 22, never 9.
+    /// The refusal's number, 1 to 23, never 9.
     pub fn number(self) -> u8 {
         self as u8
     }
@@ -87,6 +92,7 @@ impl Refusal {
             Refusal::LimitOutOfRange => "the limit of rounds is above 64",
             Refusal::NameNotFree => "the name is above 7 or taken",
             Refusal::NameNotPresent => "no rule is present under the name",
+            Refusal::TooManyClasses => "the rule would have more than 64 elements",
         }
     }
 
@@ -114,6 +120,7 @@ impl Refusal {
             20 => Refusal::LimitOutOfRange,
             21 => Refusal::NameNotFree,
             22 => Refusal::NameNotPresent,
+            23 => Refusal::TooManyClasses,
             _ => return None,
         })
     }
@@ -236,7 +243,7 @@ mod tests {
         for number in 0..=255 {
             match Refusal::from_number(number) {
                 Some(refusal) => assert_eq!(refusal.number(), number),
-                None => assert!(matches!(number, 0 | 9) || number > 22),
+                None => assert!(matches!(number, 0 | 9) || number > 23),
             }
         }
     }
@@ -272,6 +279,7 @@ mod tests {
             (20, "the limit of rounds is above 64"),
             (21, "the name is above 7 or taken"),
             (22, "no rule is present under the name"),
+            (23, "the rule would have more than 64 elements"),
         ];
         let numbers: Vec<u8> = (0..=255)
             .filter(|own| Refusal::from_number(*own).is_some())
@@ -316,10 +324,10 @@ mod tests {
 
     #[test]
     fn what_packs_no_answer_panics() {
-        for packed in [0x0000_0117, 0x0000_0109, 0x0100, 0x0001, 0x0301] {
+        for packed in [0x0000_0118, 0x0000_0109, 0x0100, 0x0001, 0x0301] {
             assert!(catch_unwind(|| unpack(packed)).is_err());
         }
-        for packed in [0x0000_0117, 0x0000_0109, 0x0100, 0x0801] {
+        for packed in [0x0000_0118, 0x0000_0109, 0x0100, 0x0801] {
             assert!(catch_unwind(|| unpack_of_board(packed)).is_err());
         }
         assert!(catch_unwind(|| unpack_bool(0x2_0000)).is_err());

@@ -53,6 +53,7 @@ mod rule_automaton;
 mod rule_board;
 mod rule_monitor;
 mod states;
+mod temporal;
 pub mod text;
 pub mod witness;
 pub mod words;
@@ -74,6 +75,7 @@ pub use rule_automaton::{ListedState, RuleAutomaton, RuleState};
 pub use rule_board::RuleBoard;
 pub use rule_monitor::RuleMonitor;
 pub use states::{state_kind, successors, StateKind, Successors};
+pub use temporal::{constant, first_letter, next, until, Formed, UNTIL_CLASSES};
 
 /// The bytes that a scratch must have; a longer one passes.
 pub const SCRATCH: usize = 65_536;

@@ -13,7 +13,8 @@ use crate::files::Lasso;
 use crate::words::{explain, Asked, Explained};
 use crate::{Confirmation, Inclusion, Membership, Operation, Partition};
 use crate::{RuleState, StateKind, Strength};
-use crate::{BLOCKS, CLASSES_OUT, MAP_OUT, RULE_OUT, SCRATCH, SUCCESSORS_OUT, U_OUT, V_OUT};
+use crate::{BLOCKS, CLASSES_OUT, MAP_OUT, RULE_OUT, SCRATCH, SUCCESSORS_OUT, U_OUT};
+use crate::{UNTIL_CLASSES, V_OUT};
 
 /// The conjugacy classes of a rule's linked pairs.
 #[derive(Clone, Debug, PartialEq, Eq, Hash)]
@@ -203,6 +204,41 @@ pub fn confirm(first: &[u8], second: &[u8], map: &[u8]) -> Result<Confirmation, 
 pub fn combine(first: &[u8], second: &[u8], operation: Operation) -> Result<Vec<u8>, Explained> {
     let call = |out: &mut [u8], scratch: &mut [u8]| {
         crate::combine(first, second, operation, out, scratch).map(|written| written.length)
+    };
+    written(call, Asked::TwoRules { first, second })
+}
+
+/// The smallest rule over so many letters that gives a lasso the grade where its first letter is in the set, else 0. Letter a is in the set if
+/// `set` / 2^a is odd.
+pub fn first_letter(letters: usize, set: usize, grade: usize) -> Result<Vec<u8>, Explained> {
+    let call = |out: &mut [u8], _: &mut [u8]| {
+        crate::first_letter(letters, set, grade, out).map(|written| written.length)
+    };
+    written(call, Asked::Numbers { letters, grade })
+}
+
+/// The smallest rule over so many letters that gives every lasso the grade.
+pub fn constant(letters: usize, grade: usize) -> Result<Vec<u8>, Explained> {
+    let call = |out: &mut [u8], _: &mut [u8]| {
+        crate::constant(letters, grade, out).map(|written| written.length)
+    };
+    written(call, Asked::Numbers { letters, grade })
+}
+
+/// The rule that gives each lasso the grade that a strong rule gives to its endless word without the first letter. It need not be the smallest.
+pub fn next(rule: &[u8]) -> Result<Vec<u8>, Explained> {
+    let call = |out: &mut [u8], scratch: &mut [u8]| {
+        crate::next(rule, out, scratch).map(|written| written.length)
+    };
+    written(call, Asked::Rule(rule))
+}
+
+/// The rule of the first until the second, two strong ones over as many letters: the highest, over the places of a lasso's endless word, of the
+/// lowest of the second's grade from there on and the first's from each place before. It need not be the smallest.
+pub fn until(first: &[u8], second: &[u8]) -> Result<Vec<u8>, Explained> {
+    let mut classes = vec![0; UNTIL_CLASSES];
+    let call = |out: &mut [u8], scratch: &mut [u8]| {
+        crate::until(first, second, out, &mut classes, scratch).map(|written| written.length)
     };
     written(call, Asked::TwoRules { first, second })
 }

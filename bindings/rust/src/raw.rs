@@ -54,6 +54,10 @@ exported! {
     both = duknavet_both(first: &[u8], second: &[u8], out: &mut [u8], scratch: &mut [u8]);
     either = duknavet_either(first: &[u8], second: &[u8], out: &mut [u8], scratch: &mut [u8]);
     without = duknavet_without(first: &[u8], second: &[u8], out: &mut [u8], scratch: &mut [u8]);
+    first_letter = duknavet_first_letter(letters: usize, set: usize, grade: usize, out: &mut [u8]);
+    constant = duknavet_constant(letters: usize, grade: usize, out: &mut [u8]);
+    next = duknavet_next(rule: &[u8], out: &mut [u8], scratch: &mut [u8]);
+    until = duknavet_until(first: &[u8], second: &[u8], out: &mut [u8], classes: &mut [u8], scratch: &mut [u8]);
     reduce_rounds = duknavet_reduce_rounds(rule: &[u8], limit: usize, blocks: &mut [u8], scratch: &mut [u8]);
     state_kind = duknavet_state_kind(rule: &[u8], s: usize, e: usize, least: u8, scratch: &mut [u8]);
     successors = duknavet_successors(rule: &[u8], s: usize, e: usize, letter: u8, out: &mut [u8], scratch: &mut [u8]);

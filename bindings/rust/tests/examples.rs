@@ -4,6 +4,7 @@
 use duknavet::words::Explained;
 use duknavet::{advance_event, advance_mark, advance_stay, advance_word};
 use duknavet::{automaton_rule, classes, combine, complement, confirm, event, fresh, included};
+use duknavet::{constant, first_letter, next, owned, until, UNTIL_CLASSES};
 use duknavet::{keep, mark, member, reduce, reduce_rounds, return_to, state_kind, strong};
 use duknavet::{successors, verdict};
 use duknavet::{Classes, Confirmation, Inclusion, Membership, StateKind};
@@ -804,4 +805,197 @@ fn grades_that_there_are_none_of() {
 fn files_with_two_bytes_a_mark_are_cut_short() {
     let before = [2, 0, 0, 0, 1, 2, 0, 1, 1, 0, 0, 0];
     assert_eq!(strength(&before), refused(1, 1, 12));
+}
+
+fn of_first_letter(letters: usize, set: usize, grade: usize) -> Result<Vec<u8>, Refused> {
+    let mut out = vec![0; RULE_OUT];
+    let length = first_letter(letters, set, grade, &mut out)?.length;
+    Ok(out[..length].to_vec())
+}
+
+fn of_constant(letters: usize, grade: usize) -> Result<Vec<u8>, Refused> {
+    let mut out = vec![0; RULE_OUT];
+    let length = constant(letters, grade, &mut out)?.length;
+    Ok(out[..length].to_vec())
+}
+
+fn of_next(rule: &[u8]) -> Result<Vec<u8>, Refused> {
+    let mut out = vec![0; RULE_OUT];
+    let length = next(rule, &mut out, &mut scratch())?.length;
+    Ok(out[..length].to_vec())
+}
+
+/// The classes hold stale bytes, and end as zeros.
+fn of_until(first: &[u8], second: &[u8]) -> Result<Vec<u8>, Refused> {
+    let (mut out, mut classes) = (vec![0; RULE_OUT], vec![0xa5; UNTIL_CLASSES + 3]);
+    let formed = until(first, second, &mut out, &mut classes, &mut scratch());
+    assert!(classes.iter().all(|byte| *byte == 0));
+    Ok(out[..formed?.length].to_vec())
+}
+
+fn grade_of(rule: &[u8], u: &[u8], v: &[u8]) -> u8 {
+    lasso(rule, u, v).expect("a rule and a lasso").grade
+}
+
+/// A letter and an element for each grade: each lasso has the grade of its first letter.
+fn by_first_letter(grades: &[u8]) -> Vec<u8> {
+    let n = grades.len() as u8;
+    let mut rule = vec![n];
+    rule.extend((0..n).flat_map(|a| (0..n).map(move |_| a)));
+    rule.push(n);
+    rule.extend(0..n);
+    let pairs = (0..n).flat_map(|s| (0..n).map(move |e| (s, e)));
+    let marks: Vec<[u8; 3]> = pairs
+        .map(|(s, e)| [s, e, grades[s as usize]])
+        .filter(|mark| mark[2] > 0)
+        .collect();
+    rule.extend((marks.len() as u16).to_le_bytes());
+    rule.extend(marks.concat());
+    rule
+}
+
+#[test]
+fn rules_of_a_first_letter() {
+    let zero_of_two = [2, 0, 0, 1, 1, 2, 0, 1, 2, 0, 0, 0, 3, 0, 1, 3];
+    assert_eq!(of_first_letter(2, 0b01, 3), Ok(zero_of_two.to_vec()));
+    let ends_of_three = [2, 0, 0, 1, 1, 3, 0, 1, 0, 2, 0, 0, 0, 2, 0, 1, 2];
+    assert_eq!(of_first_letter(3, 0b101, 2), Ok(ends_of_three.to_vec()));
+    let last_of_three = [2, 0, 0, 1, 1, 3, 0, 1, 1, 2, 0, 1, 0, 1, 1, 1, 1];
+    assert_eq!(of_first_letter(3, 0b110, 1), Ok(last_of_three.to_vec()));
+    // All letters, none, or no grade: one element is enough.
+    let always = vec![1, 0, 2, 0, 0, 1, 0, 0, 0, 2];
+    let never = vec![1, 0, 2, 0, 0, 0, 0];
+    assert_eq!(of_constant(2, 2), Ok(always.clone()));
+    assert_eq!(of_first_letter(2, 0b11, 2), Ok(always));
+    assert_eq!(of_constant(2, 0), Ok(never.clone()));
+    assert_eq!(of_first_letter(2, 0, 2), Ok(never.clone()));
+    assert_eq!(of_first_letter(2, 0b01, 0), Ok(never));
+}
+
+#[test]
+fn numbers_of_a_first_letter_refused() {
+    let short = &mut [7; RULE_OUT - 1];
+    assert_eq!(first_letter(0, 0, 4, short), refused(13, 1, 0));
+    assert_eq!(constant(0, 4, short), refused(13, 1, 0));
+    assert_eq!(*short, [7; RULE_OUT - 1]);
+    for letters in [0, 17, usize::MAX] {
+        assert_eq!(of_first_letter(letters, 1 << 20, 4), refused(2, 1, 0));
+        assert_eq!(of_constant(letters, 4), refused(2, 1, 0));
+    }
+    assert_eq!(of_first_letter(16, 1 << 20, 4), refused(3, 1, 0));
+    assert_eq!(of_constant(16, 256), refused(3, 1, 0));
+    assert_eq!(of_first_letter(16, 1 << 16 | 1 << 20, 3), refused(10, 1, 16));
+    assert_eq!(of_first_letter(2, 1 << 63 | 1, 3), refused(10, 1, 63));
+    let said = |answer: Result<Vec<u8>, Explained>| answer.expect_err("a refusal").to_string();
+    let words = "17 letters, not 1 to 16 (refusal 2, input 1, place 0)";
+    assert_eq!(said(owned::constant(17, 1)), words);
+    let words = "the grade is 4, not 0 to 3 (refusal 3, input 1, place 0)";
+    assert_eq!(said(owned::first_letter(2, 1, 4)), words);
+    let words = "the set has letter 5: the rule has 2 letters (refusal 10, input 1, place 5)";
+    assert_eq!(said(owned::first_letter(2, 0b10_0001, 1)), words);
+}
+
+#[test]
+fn four_grades_of_a_lasso() {
+    // Letter 0 first has grade 3 and letter 1 grade 1; by the second letter 1 has grade 2. Of 0, then 1 for ever, letter 1 comes at place 1,
+    // behind grade 3.
+    let first = by_first_letter(&[3, 1]);
+    let second = of_first_letter(2, 0b10, 2).expect("numbers");
+    let rules = [
+        first.clone(),
+        second.clone(),
+        of_next(&first).expect("strong"),
+        of_until(&first, &second).expect("strong"),
+    ];
+    assert_eq!(rules.map(|rule| grade_of(&rule, &[0], &[1])), [3, 0, 1, 2]);
+    // The same over three letters, where letter 2 lets nothing through: 0, then 2, then 1 for ever.
+    let first = by_first_letter(&[3, 1, 0]);
+    let second = of_first_letter(3, 0b010, 2).expect("numbers");
+    let made = of_until(&first, &second).expect("strong");
+    assert_eq!(grade_of(&made, &[0], &[1]), 2);
+    assert_eq!(grade_of(&made, &[0, 2], &[1]), 0);
+    assert_eq!(grade_of(&made, &[1, 0, 2], &[1]), 2);
+    assert_eq!(grade_of(&of_next(&second).expect("strong"), &[], &[2, 1]), 2);
+}
+
+#[test]
+fn next_and_until_of_three_grades() {
+    let ones = of_first_letter(2, 0b10, 3).expect("numbers");
+    let next = of_next(&W_GRADED).expect("strong");
+    let until = of_until(&W_GRADED, &ones).expect("strong");
+    let back = of_until(&ones, &W_GRADED).expect("strong");
+    // The lasso; by the rule, by what is next, by the rule until letter 1, and by letter 1 until the rule.
+    let cases: [(&[u8], &[u8], [u8; 4]); 6] = [
+        (&[0], &[1], [2, 1, 2, 2]),
+        (&[0, 0], &[1], [2, 2, 2, 2]),
+        (&[], &[0], [3, 3, 0, 3]),
+        (&[1], &[0], [3, 3, 3, 3]),
+        (&[], &[1], [1, 1, 3, 1]),
+        (&[1, 0], &[1], [2, 2, 3, 2]),
+    ];
+    for (u, v, expected) in cases {
+        let rules = [&W_GRADED[..], &next, &until, &back];
+        assert_eq!(rules.map(|rule| grade_of(rule, u, v)), expected, "{u:?} {v:?}");
+    }
+    assert_eq!(strength(&until), Ok(Strength::Strong));
+    assert_eq!(strength(&next), Ok(Strength::Strong));
+}
+
+#[test]
+fn next_of_sums_modulo_3() {
+    // Words of one letter: 1 to 4 letters have values behind the first, and further ones repeat.
+    let sums = remainders(3, &[1, 0, 0, 0, 2]);
+    let expected = [
+        4, 1, 2, 3, 1, 2, 3, 1, 2, 3, 1, 2, 3, 1, 2, 3, 1, 1, 0, 3, 0, 1, 2, 2, 2, 2, 2, 3, 2, 2,
+    ];
+    let next = of_next(&sums);
+    assert_eq!(next, Ok(expected.to_vec()));
+    let always = of_constant(1, 2).expect("numbers");
+    assert_eq!(reduced(&expected), Ok(always.clone()));
+    // Every lasso has grade 2 by the sums, so that only the second decides below that.
+    let low = of_constant(1, 1).expect("numbers");
+    let until = of_until(&sums, &low).expect("strong");
+    assert_eq!(reduced(&until), Ok(low.clone()));
+    let back = of_until(&low, &sums).expect("strong");
+    assert_eq!(reduced(&back), Ok(always));
+}
+
+#[test]
+fn next_and_until_refused() {
+    assert_eq!(of_next(&Z), refused(12, 1, 0));
+    assert_eq!(of_next(&W[..12]), refused(1, 1, 12));
+    assert_eq!(of_next(&by_first_letter(&[0; 7])).map(|rule| rule[0]), Ok(56));
+    assert_eq!(of_next(&by_first_letter(&[0; 8])), refused(23, 1, 0));
+    let one_letter = of_constant(1, 3).expect("numbers");
+    assert_eq!(of_until(&W, &one_letter), refused(18, 1, 0));
+    assert_eq!(of_until(&Z, &one_letter), refused(18, 1, 0));
+    assert_eq!(of_until(&Z, &Z), refused(12, 1, 0));
+    assert_eq!(of_until(&W, &Z), refused(12, 2, 0));
+    assert_eq!(of_until(&W, &W[..12]), refused(1, 2, 12));
+    let sums = |n| remainders(n, &[0, 0]);
+    assert_eq!(of_until(&sums(8), &sums(9)), refused(19, 1, 0));
+    // Ten letters that let everything through, and six that bound the grade in eight ways: more than 64 in all.
+    let first = by_first_letter(&[3, 3, 3, 3, 3, 3, 3, 3, 3, 3, 0, 1, 2, 3, 3, 2]);
+    let second = by_first_letter(&[0, 0, 0, 0, 0, 0, 0, 0, 0, 0, 0, 1, 2, 3, 1, 0]);
+    assert_eq!(of_until(&first, &second), refused(23, 1, 0));
+    let said = owned::until(&first, &second).expect_err("a refusal");
+    let words = "the rule of `until` would have more than 64 elements (refusal 23, input 1, place 0)";
+    assert_eq!(said.to_string(), words);
+    let said = owned::next(&by_first_letter(&[0; 8])).expect_err("a refusal");
+    let words = "the rule of `next` would have more than 64 elements (refusal 23, input 1, place 0)";
+    assert_eq!(said.to_string(), words);
+}
+
+#[test]
+fn short_classes_change_nothing() {
+    let sizes = [RULE_OUT, UNTIL_CLASSES, SCRATCH];
+    for short in 0..3 {
+        let mut lent = sizes.map(|size| vec![7; size]);
+        lent[short].pop();
+        let before = lent.clone();
+        let [out, classes, scratch] = &mut lent;
+        // 13 comes before whatever is wrong with the files.
+        assert_eq!(until(&Z, &[], out, classes, scratch), refused(13, 1, 0));
+        assert_eq!(lent, before);
+    }
 }

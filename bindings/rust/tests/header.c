@@ -9,6 +9,7 @@
 static uint8_t out[DUKNAVET_RULE], classes[DUKNAVET_CLASSES], u[DUKNAVET_U], v[DUKNAVET_V];
 static uint8_t points[DUKNAVET_POINTS], blocks[DUKNAVET_BLOCKS], map[DUKNAVET_MAP], scratch[DUKNAVET_SCRATCH];
 static uint8_t board[DUKNAVET_BOARD + 1], files[DUKNAVET_FILES];
+static uint8_t until_classes[DUKNAVET_UNTIL_CLASSES];
 static int failures;
 
 static void expect(const char *what, int holds)
@@ -130,6 +131,13 @@ static void refusals(void)
     expect("21", is_refused(answer, DUKNAVET_NAME_NOT_FREE, 21, 1, 0));
     answer = duknavet_board_leave(board, sizeof board, 7, files, sizeof files, scratch, sizeof scratch);
     expect("22", is_refused(answer, DUKNAVET_NAME_NOT_PRESENT, 22, 1, 0));
+    /* Of eight first letters there are 64 pairs of a first letter and the next, and 8 without a next. */
+    n = left_zeros(8, 0);
+    answer = duknavet_next(large, n, out, sizeof out, scratch, sizeof scratch);
+    expect("23", is_refused(answer, DUKNAVET_TOO_MANY_CLASSES, 23, 1, 0));
+    expect("2 of letters", is_refused(duknavet_constant(17, 1, out, sizeof out), DUKNAVET_COUNT_OUT_OF_RANGE, 2, 1, 0));
+    expect("3 of a grade", is_refused(duknavet_constant(16, 4, out, sizeof out), DUKNAVET_ENTRY_OUT_OF_RANGE, 3, 1, 0));
+    expect("10 of a set", is_refused(duknavet_first_letter(2, (size_t)1 << 63 | 1, 3, out, sizeof out), DUKNAVET_UNKNOWN_LETTER, 10, 1, 63));
     /* Of a board the input is a name, up to 7. */
     answer = duknavet_board_enter(board, sizeof board, 7, w, 12, files, sizeof files, scratch, sizeof scratch);
     expect("input 7", is_refused(answer, DUKNAVET_TRUNCATED, 1, 7, 12));
@@ -159,6 +167,9 @@ static void sizes(void)
         expect("blocks", duknavet_refusal_of(duknavet_reduce_rounds(w, sizeof w, 0, blocks, DUKNAVET_BLOCKS - l, scratch, s)) == expected);
         expect("successors", duknavet_refusal_of(duknavet_successors(w, sizeof w, 0, 0, 0, out, DUKNAVET_SUCCESSORS - l, scratch, s)) == expected);
         expect("board", duknavet_refusal_of(duknavet_board_empty(board, DUKNAVET_BOARD - l)) == expected);
+        expect("classes of until", duknavet_refusal_of(duknavet_until(w, sizeof w, w, sizeof w, out, sizeof out, until_classes,
+                                                                      DUKNAVET_UNTIL_CLASSES - l, scratch, s)) == expected);
+        expect("rule of a constant", duknavet_refusal_of(duknavet_constant(1, 0, out, DUKNAVET_RULE - l)) == expected);
         expect("files", duknavet_refusal_of(duknavet_board_mark(board, sizeof board, files, DUKNAVET_FILES - l, scratch, s)) == expected);
     }
     memset(longest_word, 0, sizeof longest_word);
@@ -203,6 +214,7 @@ int main(void)
     static const uint8_t no_marks[] = {0, 0};
     static const uint8_t one_element[] = {1, 0, 2, 0, 0, 1, 0, 0, 0, 3};
     static const uint8_t every_mark[] = {2, 0, 0, 0, 1, 2, 0, 1, 3, 0, 0, 0, 3, 0, 1, 3, 1, 1, 3};
+    static const uint8_t second_letter_first[] = {2, 0, 0, 1, 1, 2, 0, 1, 2, 0, 1, 0, 3, 1, 1, 3};
     static const uint8_t three_grades[] = {2, 0, 0, 0, 1, 2, 0, 1, 3, 0, 0, 0, 3, 0, 1, 2, 1, 1, 1};
     static const uint8_t automaton[] = {2, 1, 2, 2, 4, 0, 0, 0, 1, 0, 1, 0, 1, 0, 1, 1, 1, 0};
     static const uint8_t sums[] = {2, 0, 1, 1, 0, 2, 1, 0, 1, 0, 0, 0, 2};
@@ -255,6 +267,25 @@ int main(void)
     expect("letters", duknavet_refusal_of(answer) == DUKNAVET_LETTERS_DIFFER);
     answer = duknavet_either(rule, sizeof rule, sums, sizeof sums, out, sizeof out, scratch, sizeof scratch);
     expect("second weak", duknavet_refusal_of(answer) == DUKNAVET_NOT_STRONG && duknavet_input_of(answer) == 2);
+    expect("first letter", is_result(duknavet_first_letter(2, 2, 3, out, sizeof out), sizeof second_letter_first, 0, 0) &&
+                               memcmp(out, second_letter_first, sizeof second_letter_first) == 0);
+    expect("constant", is_result(duknavet_constant(2, 3, out, sizeof out), sizeof one_element, 0, 0) &&
+                           memcmp(out, one_element, sizeof one_element) == 0);
+    answer = duknavet_next(second_letter_first, sizeof second_letter_first, out, sizeof out, scratch, sizeof scratch);
+    expect("next", duknavet_refusal_of(answer) == DUKNAVET_RESULT && duknavet_field(answer, 0) == duknavet_rule_length(out));
+    memcpy(large, out, duknavet_field(answer, 0));
+    /* The cycle alone has no value behind its first letter, and twice it has. */
+    expect("behind the first", is_result(duknavet_member(large, duknavet_field(answer, 0), letter, 1, letter + 1, 1, scratch, sizeof scratch), 3, 2, 0));
+    expect("at the first", is_result(duknavet_member(large, duknavet_field(answer, 0), letter + 1, 1, letter, 1, scratch, sizeof scratch), 0, 2, 0));
+    memset(until_classes, 9, sizeof until_classes);
+    answer = duknavet_until(three_grades, sizeof three_grades, second_letter_first, sizeof second_letter_first, out, sizeof out, until_classes,
+                            sizeof until_classes, scratch, sizeof scratch);
+    expect("until", duknavet_refusal_of(answer) == DUKNAVET_RESULT && duknavet_field(answer, 0) == duknavet_rule_length(out));
+    expect("zeros", until_classes[0] == 0 && until_classes[sizeof until_classes - 1] == 0);
+    memcpy(large, out, duknavet_field(answer, 0));
+    /* Letter 1 comes after letter 0, from where the first rule gives grade 2. */
+    expect("until letter 1", is_result(duknavet_member(large, duknavet_field(answer, 0), letter, 1, letter + 1, 1, scratch, sizeof scratch), 2, 1, 0));
+    expect("never letter 1", is_result(duknavet_member(large, duknavet_field(answer, 0), letter, 1, letter, 1, scratch, sizeof scratch), 0, 1, 0));
     answer = duknavet_included(rule, sizeof rule, no_marks, sizeof no_marks, u, sizeof u, v, sizeof v, scratch, sizeof scratch);
     expect("included", duknavet_refusal_of(answer) == DUKNAVET_RESULT && duknavet_field(answer, 0) == 0);
     expect("witness", is_result(duknavet_member(rule, sizeof rule, u, duknavet_field(answer, 1), v, duknavet_field(answer, 2),

@@ -29,5 +29,5 @@ fn module() {
     std::fs::remove_file(&object).expect("the shared object is a file of this test");
     let said = String::from_utf8_lossy(&tested.stderr);
     assert!(tested.status.success(), "{said}");
-    assert!(said.contains("Ran 26 tests"), "{said}");
+    assert!(said.contains("Ran 28 tests"), "{said}");
 }

@@ -43,6 +43,9 @@ ghost use Rattle.promises.specs.Strong.{StrongPromise};
 ghost use Rattle.promises.specs.Verdict.{VerdictPromise};
 ghost use Rattle.promises.specs.declared.Operation.the-variants.{Both, Either, Without};
 ghost use Rattle.promises.specs.declared.Step.the-variants.{Event, Mark, Stay};
+ghost use Rattle.temporal_promises.specs.FirstLetter.{FirstLetterPromise, ConstantPromise};
+ghost use Rattle.temporal_promises.specs.Next.{NextPromise};
+ghost use Rattle.temporal_promises.specs.Until.{UntilPromise};
 ghost use Rattle.packing_counts.specs.Counts.{listedContents, writtenContents, partitionContents, successorsContents};
 ghost use Rattle.packing_decisions.specs.Decisions.{strengthContents, lassoVerdictContents, inclusionContents, confirmationContents, kindContents};
 ghost use Rattle.packing_monitors.specs.Monitors.{packMonitor, movedContents, advancedContents};
@@ -293,6 +296,49 @@ pub extern "C" fn duknavet_without(
     ensures { λ r. ⌜ Exported (CombinePromise (now (first .entry)) (now (second .entry)) Without (now (out .entry)) (now (out .exit)) (now (scratch .entry)) (now (scratch .exit))) writtenContents r ⌝ }
 {
     pack_written(rules::combine(first, second, Operation::Without, out, scratch))
+}
+
+// How many bytes the rule that gives a grade where the first letter is in a set has, which stands in `out`.
+#[no_mangle]
+pub extern "C" fn duknavet_first_letter(
+    letters: usize,
+    set: usize,
+    grade: usize,
+    out: &mut [u8],
+) -> u64
+    ensures { λ r. ⌜ Exported (FirstLetterPromise letters set grade (now (out .entry)) (now (out .exit))) writtenContents r ⌝ }
+{
+    pack_written(rules::first_letter(letters, set, grade, out))
+}
+
+// The same of the rule that gives every lasso a grade.
+#[no_mangle]
+pub extern "C" fn duknavet_constant(letters: usize, grade: usize, out: &mut [u8]) -> u64
+    ensures { λ r. ⌜ Exported (ConstantPromise letters grade (now (out .entry)) (now (out .exit))) writtenContents r ⌝ }
+{
+    pack_written(rules::constant(letters, grade, out))
+}
+
+// The same of the rule that gives the grade of the word without its first letter.
+#[no_mangle]
+pub extern "C" fn duknavet_next(rule: &[u8], out: &mut [u8], scratch: &mut [u8]) -> u64
+    ensures { λ r. ⌜ Exported (NextPromise (now (rule .entry)) (now (out .entry)) (now (out .exit)) (now (scratch .entry)) (now (scratch .exit))) writtenContents r ⌝ }
+{
+    pack_written(rules::next(rule, out, scratch))
+}
+
+// The same of the rule of the first rule until the second.
+#[no_mangle]
+pub extern "C" fn duknavet_until(
+    first: &[u8],
+    second: &[u8],
+    out: &mut [u8],
+    classes: &mut [u8],
+    scratch: &mut [u8],
+) -> u64
+    ensures { λ r. ⌜ Exported (UntilPromise (now (first .entry)) (now (second .entry)) (now (out .entry)) (now (out .exit)) (now (classes .entry)) (now (classes .exit)) (now (scratch .entry)) (now (scratch .exit))) writtenContents r ⌝ }
+{
+    pack_written(rules::until(first, second, out, classes, scratch))
 }
 
 // How many rounds of the reduction were done within the limit, and 1 if one more would change nothing; the blocks in `blocks`.

@@ -18,7 +18,7 @@ use Rattle.temporal_promises.specs.FirstLetter.{inSet, lettersCheck, gradeCheck
 use Rattle.first_letter_call.specs.Elements.{FirstForeign}
 
 -- a set of 64 bits has no letter from 64 on
-none-beyond : {set a : ℕ} → set < 2 ^ 64 → 64 ≤ a → T (inSet set a) → ⊥
+pub none-beyond : {set a : ℕ} → set < 2 ^ 64 → 64 ≤ a → T (inSet set a) → ⊥
 unfolding inSet
 none-beyond {set} {a} h l t =
     let z : set / 2 ^ a ≡ 0 = div-eq-of-lt (lt-of-lt-of-le h (pow-mono l)) in

@@ -1,7 +1,7 @@
 -- Packing loses nothing. Of each exported call, for inputs of any length: the number is read back as what the answer holds, so two calls
 -- that give one number gave one answer (`-told`). An answer that meets its call's promise keeps to the limits of packing (`-fits`): the
 -- refusals by Limits, the results by what their promises say. Assumes nothing.
-use Prim.Native.Nat.{ℕ, _+_, _*_, _≤_, _<_}
+use Prim.Native.Nat.{ℕ, _+_, _*_, _^_, _≤_, _<_}
 use mathlib.Core.Path.{_≡_, refl, sym, ap, _∙_, subst}
 use mathlib.Core.Logic.{⊎-elim}
 use mathlib.Core.Bool.{Bool, true, false}
@@ -11,6 +11,7 @@ use native.Mathlib.Nat.{mul-le-mul}
 use lib.ListN.{length}
 use Rattle.finite.specs.Select.{select}
 use Rattle.finite.proofs.Numbers.{le-or-lt}
+use Rattle.answer.specs.Checks.{Check}
 use Rattle.answer.proofs.Order.{passed-first, passed-last, passes-head, passes-tail}
 use Rattle.answer.proofs.Limits.{Limited, limited-nil, limited-cons, limited-append}
 use Rattle.theory.specs.Rules.{Morphism, Marking}
@@ -41,7 +42,11 @@ use Rattle.promises.specs.declared.Operation.{Operation}
 use Rattle.promises.specs.declared.Confirmation.{Confirmation}
 use Rattle.promises.specs.declared.Confirmation.the-variants.{Yes, No, Refused as Not-confirmed}
 use Rattle.promises.specs.Confirm.{ConfirmPromise}
-use Rattle.promises.specs.Combine.{LettersDifferAt, TooManyPairsAt, CombinePromise}
+use Rattle.promises.specs.Combine.{LettersDifferAt, TooManyPairsAt, pairChecks, CombinePromise}
+use Rattle.temporal_promises.specs.FirstLetter.{LettersOutOfRangeAt, GradeOutOfRangeAt, ForeignInSetAt, lettersCheck, gradeCheck, setCheck, FirstLetterPromise, ConstantPromise}
+use Rattle.temporal_promises.specs.Next.{TooManyNextAt, NextPromise}
+use Rattle.temporal_promises.specs.Until.{TooManyUntilAt, UntilPromise}
+use Rattle.first_letter_call.proofs.Calling.{none-beyond}
 use Rattle.promises.specs.declared.Inclusion.{Inclusion}
 use Rattle.promises.specs.declared.Inclusion.the-variants.{Included, NotIncluded, Refused as Not-compared}
 use Rattle.promises.specs.Inclusion.{InclusionPromise}
@@ -156,16 +161,58 @@ confirm-fits {first} {second} {entry = entry} (Not-confirmed r i place) p =
     (λ _. limited-cons (λ place (f : WeakAt _ place). at-zero (f .is-place)) (λ _. limited-nil)))) (p .refusal)
 
 -- combine
+pair-limited : (first second : List ℕ) → Limited Near (pairChecks first second)
+pair-limited first second =
+    limited-cons (λ place (f : LettersDifferAt _ _ place). at-zero (f .is-place))
+    (λ _. limited-cons (λ place (f : WeakAt _ place). at-zero (f .is-place))
+    (λ _. limited-cons (λ place (f : WeakAt _ place). near (omega arith) (omega (arith, f .is-place)))
+    (λ _. limited-cons (λ place (f : TooManyPairsAt _ _ place). at-zero (f .is-place)) (λ _. limited-nil))))
+
 combine-fits : {first second : List ℕ} {operation : Operation} {before after entry exit : List ℕ} (answer : Written)
     → CombinePromise first second operation before after entry exit answer → Fits (writtenContents answer)
 combine-fits (Rule end) p = written-fits (p .answered .written)
 combine-fits {first} {second} {entry = entry} (Not-written r i place) p =
     refused-fits r (buffer-limited (limited-append (checkedChecks 1 first entry) (checked-limited first entry)
     (λ _. limited-append (ruleChecks 2 second) (rule-limited 2 second (omega arith))
-    (λ _. limited-cons (λ place (f : LettersDifferAt _ _ place). at-zero (f .is-place))
+    (λ _. pair-limited first second)))) (p .refusal)
+
+-- first_letter, constant: a letter of a set of 64 bits is below 64
+numbers-limited : (letters grade : ℕ) {checks : List Check} → Limited Near checks → Limited Near (lettersCheck letters ∷ gradeCheck grade ∷ checks)
+numbers-limited letters grade l =
+    limited-cons (λ place (f : LettersOutOfRangeAt letters place). at-zero (f .is-place))
+    (λ _. limited-cons (λ place (f : GradeOutOfRangeAt grade place). at-zero (f .is-place)) (λ _. l))
+
+set-limited : {letters set : ℕ} → set < 2 ^ 64 → Limited Near (setCheck letters set ∷ [])
+set-limited {letters} {set} small =
+    limited-cons (λ place (f : ForeignInSetAt letters set place). ⊎-elim (λ h. absurd (none-beyond small h (f .in-set))) (λ h. near (omega arith) (omega arith)) (le-or-lt 64 place))
+    (λ _. limited-nil)
+
+first-letter-fits : {letters set grade : ℕ} {before after : List ℕ} → set < 2 ^ 64 → (answer : Written) → FirstLetterPromise letters set grade before after answer
+    → Fits (writtenContents answer)
+first-letter-fits small (Rule end) p = written-fits (p .answered .written)
+first-letter-fits {letters} {grade = grade} small (Not-written r i place) p = refused-fits r (buffer-limited (numbers-limited letters grade (set-limited small))) (p .refusal)
+
+constant-fits : {letters grade : ℕ} {before after : List ℕ} (answer : Written) → ConstantPromise letters grade before after answer → Fits (writtenContents answer)
+constant-fits (Rule end) p = written-fits (p .answered .written)
+constant-fits {letters} {grade} (Not-written r i place) p = refused-fits r (buffer-limited (numbers-limited letters grade limited-nil)) (p .refusal)
+
+-- next
+next-fits : {bytes before after entry exit : List ℕ} (answer : Written) → NextPromise bytes before after entry exit answer → Fits (writtenContents answer)
+next-fits (Rule end) p = written-fits (p .answered .written)
+next-fits {bytes} {entry = entry} (Not-written r i place) p =
+    refused-fits r (buffer-limited (limited-append (checkedChecks 1 bytes entry) (checked-limited bytes entry)
     (λ _. limited-cons (λ place (f : WeakAt _ place). at-zero (f .is-place))
-    (λ _. limited-cons (λ place (f : WeakAt _ place). near (omega arith) (omega (arith, f .is-place)))
-    (λ _. limited-cons (λ place (f : TooManyPairsAt _ _ place). at-zero (f .is-place)) (λ _. limited-nil)))))))) (p .refusal)
+    (λ _. limited-cons (λ place (f : TooManyNextAt _ place). at-zero (f .is-place)) (λ _. limited-nil))))) (p .refusal)
+
+-- until
+until-fits : {first second before after classes classes′ entry exit : List ℕ} (answer : Written) → UntilPromise first second before after classes classes′ entry exit answer
+    → Fits (writtenContents answer)
+until-fits (Rule end) p = written-fits (p .answered .written)
+until-fits {first} {second} {entry = entry} (Not-written r i place) p =
+    refused-fits r (buffer-limited (buffer-limited (limited-append (checkedChecks 1 first entry) (checked-limited first entry)
+    (λ _. limited-append (ruleChecks 2 second) (rule-limited 2 second (omega arith))
+    (λ _. limited-append (pairChecks first second) (pair-limited first second)
+    (λ _. limited-cons (λ place (f : TooManyUntilAt _ _ place). at-zero (f .is-place)) (λ _. limited-nil))))))) (p .refusal)
 
 -- reduce_rounds: the limit passed its check, so that it is at most 64
 bit-small : (b : Bool) → bit b ≤ 1
@@ -292,6 +339,16 @@ module _ {Answer : Type 0} {holds : Answer → Contents} where
     one-answer = λ x y. one (x .answer) (y .answer) (x .promise) (y .promise) (sym (read-answer fits x) ∙ read-answer fits′ y);
   }
 
+module _ {out out-exit out′ out-exit′ : List ℕ} where
+  -- a set is a number of 64 bits
+  pub first-letter-told : {letters set grade letters′ set′ grade′ : ℕ} → set < 2 ^ 64 → set′ < 2 ^ 64
+      → Told writtenContents (FirstLetterPromise letters set grade out out-exit) (FirstLetterPromise letters′ set′ grade′ out′ out-exit′)
+  first-letter-told small small′ = told (first-letter-fits small) (first-letter-fits small′) (λ a b p q. written-told a b)
+
+  pub constant-told : {letters grade letters′ grade′ : ℕ}
+      → Told writtenContents (ConstantPromise letters grade out out-exit) (ConstantPromise letters′ grade′ out′ out-exit′)
+  constant-told = told constant-fits constant-fits (λ a b p q. written-told a b)
+
 module _ {bytes entry exit bytes′ entry′ exit′ : List ℕ} where
   pub strong-told : Told strengthContents (StrongPromise bytes entry exit) (StrongPromise bytes′ entry′ exit′)
   strong-told = told strength-fits strength-fits (λ a b p q. strength-told a b)
@@ -348,6 +405,14 @@ module _ {bytes entry exit bytes′ entry′ exit′ : List ℕ} where
     pub combine-told : {second second′ : List ℕ} {operation operation′ : Operation}
         → Told writtenContents (CombinePromise bytes second operation out out-exit entry exit) (CombinePromise bytes′ second′ operation′ out′ out-exit′ entry′ exit′)
     combine-told = told combine-fits combine-fits (λ a b p q. written-told a b)
+
+    pub next-told : Told writtenContents (NextPromise bytes out out-exit entry exit) (NextPromise bytes′ out′ out-exit′ entry′ exit′)
+    next-told = told next-fits next-fits (λ a b p q. written-told a b)
+
+    pub until-told : {second classes classes-exit second′ classes′ classes-exit′ : List ℕ}
+        → Told writtenContents (UntilPromise bytes second out out-exit classes classes-exit entry exit)
+        (UntilPromise bytes′ second′ out′ out-exit′ classes′ classes-exit′ entry′ exit′)
+    until-told = told until-fits until-fits (λ a b p q. written-told a b)
 
     pub automaton-rule-told : Told writtenContents (RulePromise bytes out out-exit entry exit) (RulePromise bytes′ out′ out-exit′ entry′ exit′)
     automaton-rule-told = told automaton-fits automaton-fits (λ a b p q. written-told a b)

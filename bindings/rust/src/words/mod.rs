@@ -63,6 +63,13 @@ pub enum Asked<'a> {
     },
     /// An automaton.
     Automaton(&'a [u8]),
+    /// The numbers that a rule is made of.
+    Numbers {
+        /// How many letters.
+        letters: usize,
+        /// The grade.
+        grade: usize,
+    },
     /// A rule and the letter of an event.
     Event {
         /// The rule.
@@ -130,6 +137,9 @@ fn in_words(refused: Refused, asked: Asked<'_>) -> Option<String> {
         return board::words(refused, files, deed);
     }
     let place = usize::try_from(refused.place).ok()?;
+    if let Asked::Numbers { letters, grade } = asked {
+        return numbers(refused.refusal, place, letters, grade);
+    }
     match refused.refusal {
         Refusal::UnknownLetter => return unknown_letter(refused, asked),
         Refusal::WordLength => return Some(word_length(refused, asked)),
@@ -152,6 +162,7 @@ fn in_words(refused: Refused, asked: Asked<'_>) -> Option<String> {
         }
         Refusal::LettersDiffer => return two_rules::letters_differ(asked),
         Refusal::TooManyPairs => return two_rules::too_many_pairs(asked),
+        Refusal::TooManyClasses => return Some(too_many_classes(asked)),
         Refusal::BufferTooShort | Refusal::TooManyMatrices => return None,
         // Byte 0 of a file is a count: the entry is the one that was handed over beside it.
         Refusal::EntryOutOfRange if place == 0 => {
@@ -181,8 +192,30 @@ fn in_words(refused: Refused, asked: Asked<'_>) -> Option<String> {
         | Asked::Rounds { rule, .. }
         | Asked::Kind { rule, .. }
         | Asked::Successors { rule, .. } => rule::words(refused.refusal, place, rule),
-        Asked::Board { .. } => None,
+        Asked::Board { .. } | Asked::Numbers { .. } => None,
     }
+}
+
+/// What is wrong with the numbers that a rule would be made of.
+fn numbers(refusal: Refusal, place: usize, letters: usize, grade: usize) -> Option<String> {
+    match refusal {
+        Refusal::CountOutOfRange => Some(format!("{letters} letters, not 1 to 16")),
+        Refusal::EntryOutOfRange => Some(format!("the grade is {grade}, not 0 to 3")),
+        Refusal::UnknownLetter => Some(format!(
+            "the set has letter {place}: the rule has {}",
+            count(letters, "letter")
+        )),
+        _ => None,
+    }
+}
+
+/// Which rule would have too many elements.
+fn too_many_classes(asked: Asked<'_>) -> String {
+    let formula = match asked {
+        Asked::TwoRules { .. } => "until",
+        _ => "next",
+    };
+    format!("the rule of `{formula}` would have more than 64 elements")
 }
 
 /// Two lassos that show that a rule is weak.

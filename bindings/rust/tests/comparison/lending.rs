@@ -15,7 +15,7 @@ pub struct Stale(Vec<u8>);
 
 impl Stale {
     pub fn new(random: &mut Random) -> Stale {
-        let words = (0..20_000).map(|_| random.next());
+        let words = (0..40_000).map(|_| random.next());
         Stale(words.flat_map(u64::to_le_bytes).collect())
     }
 

@@ -45,7 +45,7 @@ type Refusals = (&'static str, &'static [(u8, &'static [u8])]);
 
 /// Which refusals each call can answer, with their inputs: every number that applies to it.
 /// A rule's checks are 1 to 8; a second marks section has no table and no letters, so not 5 and 6.
-const REFUSALS: [Refusals; 25] = [
+const REFUSALS: [Refusals; 29] = [
     ("classes", &[(1, &[1, 2, 3, 4, 5, 6, 7, 8, 13])]),
     ("strong", &[(1, &[1, 2, 3, 4, 5, 6, 7, 8, 13])]),
     (
@@ -81,6 +81,16 @@ const REFUSALS: [Refusals; 25] = [
         "combine",
         &[
             (1, &[1, 2, 3, 4, 5, 6, 7, 8, 12, 13, 18, 19]),
+            (2, &[1, 2, 3, 4, 5, 6, 7, 8, 12]),
+        ],
+    ),
+    ("first_letter", &[(1, &[2, 3, 10, 13])]),
+    ("constant", &[(1, &[2, 3, 13])]),
+    ("next", &[(1, &[1, 2, 3, 4, 5, 6, 7, 8, 12, 13, 23])]),
+    (
+        "until",
+        &[
+            (1, &[1, 2, 3, 4, 5, 6, 7, 8, 12, 13, 18, 19, 23]),
             (2, &[1, 2, 3, 4, 5, 6, 7, 8, 12]),
         ],
     ),
@@ -131,7 +141,7 @@ const fn board(name: &'static [u8], first: &'static [u8]) -> [(u8, &'static [u8]
 }
 
 /// Outcomes that must occur at least so often.
-const LEAST: [(&str, &str, u64); 233] = [
+const LEAST: [(&str, &str, u64); 241] = [
     ("classes", "counts", 1000),
     ("strong", "weak", 100),
     ("strong", "strong, marks closed", 1000),
@@ -251,6 +261,14 @@ const LEAST: [(&str, &str, u64); 233] = [
     ("combine", "Without", 200),
     ("combine", "64 pairs", 1),
     ("combine", "with its complement", 20),
+    ("first_letter", "written", 100),
+    ("constant", "written", 100),
+    ("next", "written", 100),
+    ("until", "written", 50),
+    ("next", "another grade than the rule", 50),
+    ("until", "another grade than both rules", 5),
+    ("until", "another grade than the first", 50),
+    ("until", "another grade than the second", 50),
     ("confirm", "yes", 1000),
     ("confirm", "yes to what was written", 5000),
     ("confirm", "yes to 64 elements", 10),
@@ -382,7 +400,7 @@ pub fn faults(tally: &Tally) -> Vec<String> {
     }
     for (call, inputs) in REFUSALS {
         for input in 0..=7 {
-            for number in 1..=22 {
+            for number in 1..=23 {
                 let here = |(i, numbers): &(u8, &[u8])| *i == input && numbers.contains(&number);
                 let applies = inputs.iter().any(here);
                 let occurred = tally.get(call, &refusal(number, input)) > 0;

@@ -249,6 +249,25 @@ fn of_header(arguments: &str) -> Vec<Argument> {
 }
 
 /// Two arguments of one type that change places are no fault to a compiler.
+/// The header, the Rust package and the Python package have one version.
+#[test]
+fn one_version() {
+    let root = std::path::Path::new(env!("CARGO_MANIFEST_DIR")).join("../..");
+    let version = env!("CARGO_PKG_VERSION");
+    let named = [
+        ("include/duknavet.h", "#define DUKNAVET_VERSION"),
+        ("bindings/python/pyproject.toml", "version ="),
+        ("bindings/python/backend/duknavet_backend.py", "VERSION ="),
+        ("bindings/python/duknavet/__init__.py", "__version__ ="),
+    ];
+    for (path, name) in named {
+        let text = std::fs::read_to_string(root.join(path)).expect("a file");
+        let versions = text.lines().filter_map(|line| line.strip_prefix(name));
+        let versions: Vec<&str> = versions.map(str::trim).collect();
+        assert_eq!(versions, [format!("\"{version}\"")], "{path}");
+    }
+}
+
 #[test]
 fn arguments_are_declared_as_they_are_exported() {
     let repository = Repository::here();

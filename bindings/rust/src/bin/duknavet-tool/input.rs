@@ -104,7 +104,7 @@ impl Source {
 /// The refusal of a call with two files, told of the file that it lies in; what stands between two rules is told of neither.
 pub fn refused_by_input(first: &Source, second: &Source, explained: &Explained) -> Failure {
     match (explained.refused.refusal, explained.refused.input) {
-        (Refusal::LettersDiffer | Refusal::TooManyPairs, _) => {
+        (Refusal::LettersDiffer | Refusal::TooManyPairs | Refusal::TooManyClasses, _) => {
             Failure::Refused(explained.to_string())
         }
         (_, 2) => second.refused(explained),

@@ -73,7 +73,7 @@ impl Comparison {
     }
 }
 
-fn half(known: &Known) -> Half<'_> {
+pub fn half(known: &Known) -> Half<'_> {
     Half {
         morphism: known.morphism(),
         marking: &known.marking,

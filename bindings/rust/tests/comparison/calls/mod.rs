@@ -13,6 +13,7 @@ mod prints;
 mod reductions;
 mod rounds;
 mod states;
+mod temporal;
 
 use crate::definitions::checks::Refusal;
 use crate::definitions::order;
@@ -35,6 +36,7 @@ pub use points::POINTS_SIZES;
 pub use reductions::REDUCE_SIZES;
 pub use rounds::ROUNDS_SIZES;
 pub use states::{KIND_SIZES, SUCCESSORS_SIZES};
+pub use temporal::{Numbers, NEXT_SIZES, UNTIL_SIZES};
 
 pub struct Comparison {
     pub random: Random,

@@ -11,7 +11,7 @@ pub struct Half<'a> {
 }
 
 /// The pairs that non-empty words have for values, each with its first word, in the order of these words; None if there are more than 64.
-fn pairs(first: &Morphism, second: &Morphism) -> Option<Vec<((u8, u8), Vec<u8>)>> {
+pub fn pairs(first: &Morphism, second: &Morphism) -> Option<Vec<((u8, u8), Vec<u8>)>> {
     let mut found: Vec<((u8, u8), Vec<u8>)> = Vec::new();
     let mut words: Vec<Vec<u8>> = vec![Vec::new()];
     let mut next = 0;

@@ -17,3 +17,4 @@ pub mod rule_automaton;
 pub mod runs;
 pub mod settling;
 pub mod splits;
+pub mod temporal;

@@ -187,7 +187,7 @@ fn any_call(c: &mut Comparison, subject: &Subject, second: &[u8]) {
 }
 
 /// How many calls get a rule.
-const CALLS: usize = 17;
+const CALLS: usize = 19;
 
 /// A call by number, with further inputs that may be faulty too, and buffers that may be short.
 fn call(c: &mut Comparison, which: usize, subject: &Subject, second: &[u8]) {
@@ -285,6 +285,19 @@ fn call(c: &mut Comparison, which: usize, subject: &Subject, second: &[u8]) {
                 false => (&whole, subject),
             };
             c.combine(pair, Operation::Either, sizes);
+        }
+        16 => {
+            let sizes = sizes(c, short, NEXT_SIZES);
+            c.next(subject, sizes);
+        }
+        17 => {
+            let sizes = sizes(c, short, UNTIL_SIZES);
+            let whole = Subject::new(vec![1, 0, 1, 0, 0, 0]);
+            let pair = match c.random.once_in(2) {
+                true => (subject, &whole),
+                false => (&whole, subject),
+            };
+            c.until(pair, sizes);
         }
         14 => {
             let sizes = sizes(c, short, CONFIRM_SIZES);

@@ -11,4 +11,5 @@ pub mod prints;
 pub mod rounds;
 pub mod rules;
 pub mod states;
+pub mod temporal;
 pub mod words;
