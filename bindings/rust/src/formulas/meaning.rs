@@ -210,7 +210,8 @@ impl fmt::Display for Shown<'_> {
         match formula {
             Formula::Letters(set) => {
                 let letters = (0..16u8).filter(|letter| set >> letter & 1 == 1);
-                let names: Vec<String> = letters.map(|letter| alphabet.names.show(letter)).collect();
+                let names: Vec<String> =
+                    letters.map(|letter| alphabet.names.show(letter)).collect();
                 match names.len() {
                     1 => f.write_str(&names[0]),
                     _ => write!(f, "{{{}}}", names.join(", ")),

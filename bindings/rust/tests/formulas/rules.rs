@@ -77,13 +77,16 @@ fn rules_of_random_formulas_have_their_grades() {
             let (u, v) = (random.word(letters, 0), random.word(letters, 1));
             let expected = grades(&own, &u, &v)[0];
             let told = owned::member(&made.rule, &u, &v).expect("a rule and a lasso");
-            assert_eq!(told.grade, usize::from(expected), "{own:?} at {u:?} {v:?}");
+            assert_eq!(told.grade, expected, "{own:?} at {u:?} {v:?}");
             seen[usize::from(expected)] += 1;
             lassos += 1;
         }
     }
     println!("{rules} rules, {lassos} lassos, grades {seen:?}");
-    assert!(rules > 850 && seen.iter().all(|count| *count > 100), "{rules} {seen:?}");
+    assert!(
+        rules > 850 && seen.iter().all(|count| *count > 100),
+        "{rules} {seen:?}"
+    );
 }
 
 #[test]
@@ -102,7 +105,10 @@ fn laws_hold_byte_for_byte() {
             ),
             (
                 until.clone(),
-                Formula::Either(boxed(&g), Box::new(Formula::Both(boxed(&f), Box::new(next)))),
+                Formula::Either(
+                    boxed(&g),
+                    Box::new(Formula::Both(boxed(&f), Box::new(next))),
+                ),
             ),
             (
                 Formula::Release(boxed(&f), boxed(&g)),
@@ -115,7 +121,10 @@ fn laws_hold_byte_for_byte() {
                     Box::new(Formula::Next(boxed(&g))),
                 ),
             ),
-            (f.clone(), Formula::Either(boxed(&f), Box::new(Formula::Both(boxed(&f), boxed(&g))))),
+            (
+                f.clone(),
+                Formula::Either(boxed(&f), Box::new(Formula::Both(boxed(&f), boxed(&g)))),
+            ),
         ];
         for (left, right) in pairs {
             let (Some(one), Some(other)) = (rule(&left, 2), rule(&right, 2)) else {
@@ -138,7 +147,10 @@ fn rules_of_usual_formulas() {
     let sizes: Vec<usize> = made.steps.iter().map(|step| step.elements).collect();
     assert_eq!(sizes, [2, 2, 2]);
     let constant = rule(&formula("a U (a || !a)", &alphabet), 2).expect("a rule");
-    assert_eq!(constant.steps.last().and_then(|step| step.constant), Some(3));
+    assert_eq!(
+        constant.steps.last().and_then(|step| step.constant),
+        Some(3)
+    );
 }
 
 /// The sizes of the specification patterns' rules over propositions: everywhere, before, after, between, after until.
@@ -147,8 +159,16 @@ fn patterns_have_their_sizes() {
     let names = ["p", "q", "r", "s"];
     let sizes = |pattern: &str, used: &[&str]| -> Vec<u8> {
         let alphabet = propositions(used);
-        let scopes = ["", " before(r)", " after(q)", " between(q, r)", " after_until(q, r)"];
-        scopes.map(|scope| of(&format!("{pattern}{scope}"), &alphabet)[0]).to_vec()
+        let scopes = [
+            "",
+            " before(r)",
+            " after(q)",
+            " between(q, r)",
+            " after_until(q, r)",
+        ];
+        scopes
+            .map(|scope| of(&format!("{pattern}{scope}"), &alphabet)[0])
+            .to_vec()
     };
     let three = &names[..3];
     assert_eq!(sizes("absence(p)", three), [2, 4, 5, 12, 6]);

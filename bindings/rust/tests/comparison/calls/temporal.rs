@@ -35,8 +35,7 @@ impl Comparison {
             Some(foreign) => Err((10, 1, foreign as u64)),
             None => Ok(temporal::first_letter(letters, set, grade as u8)),
         });
-        let of =
-            |u: &[u8], v: &[u8]| temporal::first_letter_grade(set, grade.min(3) as u8, u, v);
+        let of = |u: &[u8], v: &[u8]| temporal::first_letter_grade(set, grade.min(3) as u8, u, v);
         self.made_of_numbers("first_letter", numbers, &out, (answer, expected), of);
     }
 

@@ -5,7 +5,9 @@ use crate::command::{Answer, Choice, Command, Failure};
 use crate::form::{self, Beyond, TO};
 use crate::{input, output};
 use duknavet::files::Rule;
-use duknavet::formulas::{make, Alphabet, Document, Formula, Made, NoProgram, NotMade, Program, Shown};
+use duknavet::formulas::{
+    make, Alphabet, Document, Formula, Made, NoProgram, NotMade, Program, Shown,
+};
 use duknavet::text::Names;
 use std::path::Path;
 
@@ -87,7 +89,10 @@ fn alphabet(arguments: &Arguments) -> Result<Alphabet, Failure> {
         [Some(names), None, None] => {
             let names = listed(names);
             if names.len() > 16 {
-                return Err(fault(format!("{} letters, but rules have at most 16", names.len())));
+                return Err(fault(format!(
+                    "{} letters, but rules have at most 16",
+                    names.len()
+                )));
             }
             let count = names.len();
             Ok(Alphabet::new(Names::letters(&names).map_err(fault)?, count))
@@ -95,14 +100,18 @@ fn alphabet(arguments: &Arguments) -> Result<Alphabet, Failure> {
         [None, Some(names), None] => {
             let names = listed(names);
             let count = 1 << names.len().min(8);
-            Ok(Alphabet::new(Names::propositions(&names).map_err(fault)?, count))
+            Ok(Alphabet::new(
+                Names::propositions(&names).map_err(fault)?,
+                count,
+            ))
         }
         [None, None, Some(_)] => {
             let file = arguments.file("rule").unwrap_or_default();
             let source = input::rule(file)?;
-            duknavet::owned::check(&source.bytes).map_err(|explained| source.refused(&explained))?;
+            duknavet::owned::check(&source.bytes)
+                .map_err(|explained| source.refused(&explained))?;
             let rule = Rule::take_apart(&source.bytes);
-            let letters = rule.map_or(1, |rule| rule.letters.len());
+            let letters = rule.map_or(1, |rule| rule.images.len());
             Ok(Alphabet::new(source.names.clone(), letters))
         }
         _ => Err(arguments.usage("one of --letters, --ap and --rule is given")),
