@@ -884,7 +884,10 @@ fn numbers_of_a_first_letter_refused() {
     }
     assert_eq!(of_first_letter(16, 1 << 20, 4), refused(3, 1, 0));
     assert_eq!(of_constant(16, 256), refused(3, 1, 0));
-    assert_eq!(of_first_letter(16, 1 << 16 | 1 << 20, 3), refused(10, 1, 16));
+    assert_eq!(
+        of_first_letter(16, 1 << 16 | 1 << 20, 3),
+        refused(10, 1, 16)
+    );
     assert_eq!(of_first_letter(2, 1 << 63 | 1, 3), refused(10, 1, 63));
     let said = |answer: Result<Vec<u8>, Explained>| answer.expect_err("a refusal").to_string();
     let words = "17 letters, not 1 to 16 (refusal 2, input 1, place 0)";
@@ -915,7 +918,10 @@ fn four_grades_of_a_lasso() {
     assert_eq!(grade_of(&made, &[0], &[1]), 2);
     assert_eq!(grade_of(&made, &[0, 2], &[1]), 0);
     assert_eq!(grade_of(&made, &[1, 0, 2], &[1]), 2);
-    assert_eq!(grade_of(&of_next(&second).expect("strong"), &[], &[2, 1]), 2);
+    assert_eq!(
+        grade_of(&of_next(&second).expect("strong"), &[], &[2, 1]),
+        2
+    );
 }
 
 #[test]
@@ -935,7 +941,11 @@ fn next_and_until_of_three_grades() {
     ];
     for (u, v, expected) in cases {
         let rules = [&W_GRADED[..], &next, &until, &back];
-        assert_eq!(rules.map(|rule| grade_of(rule, u, v)), expected, "{u:?} {v:?}");
+        assert_eq!(
+            rules.map(|rule| grade_of(rule, u, v)),
+            expected,
+            "{u:?} {v:?}"
+        );
     }
     assert_eq!(strength(&until), Ok(Strength::Strong));
     assert_eq!(strength(&next), Ok(Strength::Strong));
@@ -964,7 +974,10 @@ fn next_of_sums_modulo_3() {
 fn next_and_until_refused() {
     assert_eq!(of_next(&Z), refused(12, 1, 0));
     assert_eq!(of_next(&W[..12]), refused(1, 1, 12));
-    assert_eq!(of_next(&by_first_letter(&[0; 7])).map(|rule| rule[0]), Ok(56));
+    assert_eq!(
+        of_next(&by_first_letter(&[0; 7])).map(|rule| rule[0]),
+        Ok(56)
+    );
     assert_eq!(of_next(&by_first_letter(&[0; 8])), refused(23, 1, 0));
     let one_letter = of_constant(1, 3).expect("numbers");
     assert_eq!(of_until(&W, &one_letter), refused(18, 1, 0));
@@ -979,10 +992,12 @@ fn next_and_until_refused() {
     let second = by_first_letter(&[0, 0, 0, 0, 0, 0, 0, 0, 0, 0, 0, 1, 2, 3, 1, 0]);
     assert_eq!(of_until(&first, &second), refused(23, 1, 0));
     let said = owned::until(&first, &second).expect_err("a refusal");
-    let words = "the rule of `until` would have more than 64 elements (refusal 23, input 1, place 0)";
+    let words =
+        "the rule of `until` would have more than 64 elements (refusal 23, input 1, place 0)";
     assert_eq!(said.to_string(), words);
     let said = owned::next(&by_first_letter(&[0; 8])).expect_err("a refusal");
-    let words = "the rule of `next` would have more than 64 elements (refusal 23, input 1, place 0)";
+    let words =
+        "the rule of `next` would have more than 64 elements (refusal 23, input 1, place 0)";
     assert_eq!(said.to_string(), words);
 }
 

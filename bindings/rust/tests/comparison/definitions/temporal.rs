@@ -83,10 +83,7 @@ fn table<C: PartialEq>(
 }
 
 /// The rule with every linked pair marked whose lassos have a grade of 1 or more.
-fn marked(
-    (morphism, words): (Morphism, Vec<Vec<u8>>),
-    grade: impl Fn(&[u8], &[u8]) -> u8,
-) -> Rule {
+fn marked((morphism, words): (Morphism, Vec<Vec<u8>>), grade: impl Fn(&[u8], &[u8]) -> u8) -> Rule {
     let graded = morphism.linked_pairs().into_iter().map(|pair| Mark {
         pair,
         grade: grade(&words[pair.0 as usize], &words[pair.1 as usize]),
