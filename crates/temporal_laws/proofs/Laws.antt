@@ -2,16 +2,15 @@
 use Prim.Native.Nat.{ℕ, zero, suc, _+_, _-_, _≤_, _<_}
 use native.Mathlib.Omega.{arith}
 use mathlib.Core.Path.{_≡_, refl, sym, ap, subst, _∙_}
-use mathlib.Core.Logic.{_↔_, _⊎_, inl, inr, ⊎-elim}
+use mathlib.Core.Logic.{_↔_, inl, inr, ⊎-elim}
 use mathlib.Core.List.{List}
-use lib.ListN.{length}
 use Rattle.theory.specs.Words.{Lasso, endless}
-use Rattle.temporal.specs.Temporal.{RestAt, UntilAt}
+use Rattle.temporal.specs.Temporal.{RestAt}
 use Rattle.temporal.specs.Formulas.{Formula, negation, both, either, next, until, always, HoldsFrom, HoldsUntil, Means}
 use Rattle.temporal.proofs.Rests.{has-rest, rest-here}
-use Rattle.temporal.proofs.Untils.{UntilWithin, until-within}
+use Rattle.temporal.proofs.Untils.{until-within}
 use Rattle.temporal.proofs.Derived.{means-dec, holds-rest, always-means, release-means, weak-until-means}
-use Rattle.temporal_laws.specs.Laws.{DecidedWithin, SameAt, ClosedUnder, FormulaLaws}
+use Rattle.temporal_laws.specs.Laws.{SameAt, ClosedUnder, FormulaLaws}
 
 -- ---- a step along the endless word
 

@@ -119,7 +119,7 @@ impl Formula {
             Tree::One(sign, part) => {
                 let part = Box::new(Formula::within_room(part, alphabet));
                 match sign {
-                    Unary::Not => Formula::negated(part),
+                    Unary::Not => Formula::negated(*part, alphabet),
                     Unary::Next => Formula::Next(part),
                     Unary::Eventually => Formula::Eventually(part),
                     Unary::Always => Formula::Always(part),
@@ -127,7 +127,7 @@ impl Formula {
             }
             Tree::Two(sign, first, second) => {
                 let read = |part: &Tree| Formula::within_room(part, alphabet);
-                Formula::joined(*sign, read(first), read(second))
+                Formula::joined(*sign, read(first), read(second), alphabet)
             }
         }
     }
@@ -141,16 +141,17 @@ impl Formula {
         }
     }
 
-    fn negated(part: Box<Formula>) -> Formula {
-        match *part {
+    fn negated(part: Formula, alphabet: &Alphabet) -> Formula {
+        match part {
             Formula::Not(inner) => *inner,
             Formula::Constant(grade) => Formula::Constant(3 - grade),
+            Formula::Letters(set) => Formula::set(!set & alphabet.all(), alphabet),
             part => Formula::Not(Box::new(part)),
         }
     }
 
-    fn joined(sign: Binary, first: Formula, second: Formula) -> Formula {
-        let not = |part: Formula| Formula::negated(Box::new(part));
+    fn joined(sign: Binary, first: Formula, second: Formula, alphabet: &Alphabet) -> Formula {
+        let not = |part: Formula| Formula::negated(part, alphabet);
         let both = |a: Formula, b: Formula| Formula::Both(Box::new(a), Box::new(b));
         let either = |a: Formula, b: Formula| Formula::Either(Box::new(a), Box::new(b));
         match sign {

@@ -34,7 +34,7 @@ fn share(half: usize) -> Tally {
     timed("large rules", &mut |c| parts::large::run(c));
     timed("states", &mut |c| parts::states::run(c, 300));
     timed("two rules", &mut |c| parts::combinations::run(c, 400));
-    timed("temporal rules", &mut |c| parts::temporal::run(c, 150));
+    timed("temporal rules", &mut |c| parts::temporal::run(c, 500));
     timed("confirmations", &mut |c| {
         parts::confirmations::run(c, 300, half)
     });

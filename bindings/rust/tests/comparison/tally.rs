@@ -141,7 +141,7 @@ const fn board(name: &'static [u8], first: &'static [u8]) -> [(u8, &'static [u8]
 }
 
 /// Outcomes that must occur at least so often.
-const LEAST: [(&str, &str, u64); 241] = [
+const LEAST: [(&str, &str, u64); 242] = [
     ("classes", "counts", 1000),
     ("strong", "weak", 100),
     ("strong", "strong, marks closed", 1000),
@@ -266,7 +266,8 @@ const LEAST: [(&str, &str, u64); 241] = [
     ("next", "written", 100),
     ("until", "written", 50),
     ("next", "another grade than the rule", 50),
-    ("until", "another grade than both rules", 5),
+    ("until", "another grade than both rules", 20),
+    ("until", "17 elements or more", 5),
     ("until", "another grade than the first", 50),
     ("until", "another grade than the second", 50),
     ("confirm", "yes", 1000),

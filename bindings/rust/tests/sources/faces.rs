@@ -248,7 +248,6 @@ fn of_header(arguments: &str) -> Vec<Argument> {
     arguments.collect()
 }
 
-/// Two arguments of one type that change places are no fault to a compiler.
 /// The header, the Rust package and the Python package have one version.
 #[test]
 fn one_version() {
@@ -268,6 +267,7 @@ fn one_version() {
     }
 }
 
+/// Two arguments of one type that change places are no fault to a compiler.
 #[test]
 fn arguments_are_declared_as_they_are_exported() {
     let repository = Repository::here();

@@ -28,11 +28,13 @@ const FLOORS_OF_BOARD: [&str; 7] = [
 ];
 
 /// The seven more for the calls for C and Rust, whose promises say how an answer is packed, and how a board stands in bytes.
-const FLOORS_OF_EXPORTS: [&str; 13] = [
+const FLOORS_OF_EXPORTS: [&str; 15] = [
     "theory",
+    "temporal",
     "buchi",
     "formats",
     "promises",
+    "temporal_promises",
     "finite",
     "answer",
     "board_promises",
@@ -45,11 +47,14 @@ const FLOORS_OF_EXPORTS: [&str; 13] = [
 ];
 
 /// Those for the theorems, with what holds after many calls of the board, by value and in bytes.
-const FLOORS_OF_THEOREMS: [&str; 15] = [
+const FLOORS_OF_THEOREMS: [&str; 18] = [
     "theory",
+    "temporal",
+    "temporal_laws",
     "buchi",
     "formats",
     "promises",
+    "temporal_promises",
     "finite",
     "answer",
     "board_promises",

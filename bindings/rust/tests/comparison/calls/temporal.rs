@@ -87,12 +87,11 @@ impl Comparison {
         let written = out.written(answer.length).to_vec();
         assert_eq!(written, expected.bytes(), "next of {inputs:?}");
         let known = rule.known();
-        let (u, v) = self.grades("next", &written, |u, v| {
-            temporal::next_grade(&half(known), u, v)
-        });
-        let of = |u: &[u8], v: &[u8]| grade(known.morphism(), &known.marking, u, v);
-        if of(&u, &v) != temporal::next_grade(&half(known), &u, &v) {
-            self.tally.count("next", "another grade than the rule");
+        let of = |u: &[u8], v: &[u8]| temporal::next_grade(&half(known), u, v);
+        for (u, v) in self.grades("next", &written, of) {
+            if of(&u, &v) != grade(known.morphism(), &known.marking, &u, &v) {
+                self.tally.count("next", "another grade than the rule");
+            }
         }
         Some(written)
     }
@@ -127,16 +126,20 @@ impl Comparison {
         assert_eq!(written, expected.bytes(), "until of {inputs:?}");
         let (one, two) = (half(first.known()), half(second.known()));
         let of = |u: &[u8], v: &[u8]| temporal::until_grade(&one, &two, u, v);
-        let (u, v) = self.grades("until", &written, of);
-        let own = of(&u, &v);
-        let grades = [&one, &two].map(|rule| grade(rule.morphism, rule.marking, &u, &v));
-        let others = [
-            (own != grades[0], "another grade than the first"),
-            (own != grades[1], "another grade than the second"),
-            (!grades.contains(&own), "another grade than both rules"),
-        ];
-        for (_, outcome) in others.into_iter().filter(|(differs, _)| *differs) {
-            self.tally.count("until", outcome);
+        for (u, v) in self.grades("until", &written, of) {
+            let own = of(&u, &v);
+            let grades = [&one, &two].map(|rule| grade(rule.morphism, rule.marking, &u, &v));
+            let others = [
+                (own != grades[0], "another grade than the first"),
+                (own != grades[1], "another grade than the second"),
+                (!grades.contains(&own), "another grade than both rules"),
+            ];
+            for (_, outcome) in others.into_iter().filter(|(differs, _)| *differs) {
+                self.tally.count("until", outcome);
+            }
+        }
+        if expected.morphism.n > 16 {
+            self.tally.count("until", "17 elements or more");
         }
         Some(written)
     }
@@ -159,28 +162,28 @@ impl Comparison {
         })
     }
 
-    /// Some lassos have their grade by the rule that was written; the last of them.
+    /// Some lassos have their grade by the rule that was written; these lassos.
     fn grades(
         &mut self,
         call: &str,
         written: &[u8],
         of: impl Fn(&[u8], &[u8]) -> u8,
-    ) -> (Vec<u8>, Vec<u8>) {
+    ) -> Vec<(Vec<u8>, Vec<u8>)> {
         assert!(checks::rule(written).is_ok(), "a rule file");
         let rule = Subject::new(written.to_vec());
         let rule = rule.known();
         let letters = rule.morphism().letters();
-        let mut last = (Vec::new(), Vec::new());
+        let mut lassos = Vec::new();
         for _ in 0..4 {
             let lengths = (self.random.below(6), self.random.within(1, 6));
             let u = self.random.word(lengths.0, letters);
             let v = self.random.word(lengths.1, letters);
             let found = grade(rule.morphism(), &rule.marking, &u, &v);
             assert_eq!(found, of(&u, &v), "{call} of {u:?} {v:?}: {written:?}");
-            last = (u, v);
+            lassos.push((u, v));
         }
         self.tally.count(call, "written");
-        last
+        lassos
     }
 }
 

@@ -10,6 +10,9 @@ pub fn run(c: &mut Comparison, count: usize) {
     for _ in 0..2 * count {
         numbers(c);
     }
+    for letters in [2, 3] {
+        formulas(c, letters, count);
+    }
     for i in 0..count {
         let limit = if i % 10 == 0 { 7 } else { 4 };
         let (first, second) = (rule(c, limit), rule(c, limit));
@@ -35,6 +38,43 @@ pub fn run(c: &mut Comparison, count: usize) {
     for (m, n) in [(8, 9), (4, 5), (3, 9)] {
         let rules = [m, n].map(|n| Subject::new(morphisms::sums(n, &[1]).with(Vec::new()).bytes()));
         until(c, &rules[0], &rules[1]);
+    }
+}
+
+/// Rules made of rules: those of first letters at first, then what `next` and `until` make of some, reduced, so that grades depend on the places of
+/// the letters.
+fn formulas(c: &mut Comparison, letters: usize, count: usize) {
+    let mut pool: Vec<Subject> = Vec::new();
+    while pool.len() < 6 {
+        let grades: Vec<u8> = (0..letters).map(|_| c.random.below(4) as u8).collect();
+        pool.push(by_first_letter(&grades));
+    }
+    while pool.len() < 10 {
+        let own = rule(c, 4);
+        let strong = duknavet::owned::strong(&own.bytes) == Ok(duknavet::Strength::Strong);
+        if strong && own.known().morphism().letters() == letters {
+            pool.push(own);
+        }
+    }
+    for _ in 0..count {
+        let [one, two] = [(); 2].map(|()| c.random.below(pool.len()));
+        let made = match c.random.below(4) {
+            0 => next(c, &pool[one]),
+            _ => until(c, &pool[one], &pool[two]),
+        };
+        let Some(made) = made else {
+            continue;
+        };
+        let made = duknavet::owned::reduce(&made).expect("a strong rule");
+        // Those with many elements would soon be all that there is.
+        if (2..=8).contains(&made[0]) {
+            let place = c.random.within(6, 30).min(pool.len());
+            pool.truncate(30);
+            match pool.get_mut(place) {
+                Some(old) => *old = Subject::new(made),
+                None => pool.push(Subject::new(made)),
+            }
+        }
     }
 }
 
@@ -98,10 +138,10 @@ fn next(c: &mut Comparison, rule: &Subject) -> Option<Vec<u8>> {
     c.next(rule, sizes)
 }
 
-fn until(c: &mut Comparison, first: &Subject, second: &Subject) {
+fn until(c: &mut Comparison, first: &Subject, second: &Subject) -> Option<Vec<u8>> {
     let sizes = match c.random.once_in(40) {
         true => c.short(UNTIL_SIZES),
         false => c.enough(UNTIL_SIZES),
     };
-    c.until((first, second), sizes);
+    c.until((first, second), sizes)
 }
