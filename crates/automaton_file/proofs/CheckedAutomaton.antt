@@ -7,7 +7,7 @@ use lib.ListN.{length}
 use Rattle.answer.specs.Checks.{passed, FirstFailure}
 use Rattle.answer.proofs.Order.{passed-first, passed-last, passes-head, passes-tail}
 use Rattle.formats.specs.AutomatonFile.{transitionsOf, automatonEnd}
-use Rattle.formats.specs.AutomatonChecks.{layoutChecks, contentChecks, automatonChecks}
+use Rattle.formats.specs.AutomatonChecks.{automatonLayoutChecks, automatonContentChecks, automatonChecks}
 use Rattle.formats.proofs.GoodAutomaton.{GoodSections, GoodAutomaton}
 use Rattle.automaton_file.proofs.Passed.{good-sections}
 use Rattle.automaton_file.proofs.RepeatedOrder.{AllFresh, passed-fresh}
@@ -17,9 +17,9 @@ module _ (input : ℕ) (bytes : List ℕ) (all : FirstFailure (automatonChecks i
   unfolding automatonChecks
   sections-passed = good-sections input bytes (passed-first _ _ all)
 
-  content-passed : FirstFailure (contentChecks input bytes) passed
+  content-passed : FirstFailure (automatonContentChecks input bytes) passed
   unfolding automatonChecks
-  content-passed = passed-last (layoutChecks input bytes) _ all
+  content-passed = passed-last (automatonLayoutChecks input bytes) _ all
 
   all-fresh : AllFresh bytes (transitionsOf bytes)
   all-fresh = passed-fresh input (transitionsOf bytes) (passes-tail content-passed)

@@ -11,8 +11,8 @@ use Rattle.formats.specs.RuleChecks.{trailingCheck}
 use Rattle.rule_marks.specs.declared.Fault.{Fault}
 use Rattle.rule_marks.specs.declared.Fault.the-variants.{Nothing, Refused}
 use Rattle.rule_marks.specs.Faults.{FaultAnswer}
-use Rattle.formats.specs.AutomatonFile.{lettersAt, transitionsAt, transitionsOf, automatonEnd}
-use Rattle.formats.specs.AutomatonChecks.{repeatedChecks, contentChecks}
+use Rattle.formats.specs.AutomatonFile.{automatonLettersAt, transitionsAt, transitionsOf, automatonEnd}
+use Rattle.formats.specs.AutomatonChecks.{repeatedChecks, automatonContentChecks}
 use Rattle.formats.proofs.GoodAutomaton.{GoodSections}
 use Rattle.automaton_sections.specs.declared.Counts.{Counts}
 use Rattle.automaton_sections.specs.Sections.{LayoutPassed}
@@ -37,7 +37,7 @@ module _ (bytes : List ℕ) (counts : Counts) (p : LayoutPassed bytes counts) wh
 
   -- where the transitions' section stands
   pub transitions-place : TransitionsNeeds bytes (1 + m + 1) count
-  unfolding transitionsAt lettersAt
+  unfolding transitionsAt automatonLettersAt
   transitions-place = record { sections = sections; is-place = ap (λ (x : ℕ). 1 + x + 1) (p .counts-are .states-are); is-count = p .counts-are .transitions-are }
 
   -- and where it ends
@@ -53,16 +53,16 @@ module _ (bytes : List ℕ) (counts : Counts) (p : LayoutPassed bytes counts) wh
     rest-long = omega (arith, ap length e, length-drop (1 + m + 1 + (2 + 3 * count)) bytes, end-is, end-in)
 
     -- bytes follow
-    pub trailing : 0 < length rest → (input : ℕ) → FirstFailure (contentChecks input bytes) (refused TrailingBytes input (1 + m + 1 + (2 + 3 * count)))
+    pub trailing : 0 < length rest → (input : ℕ) → FirstFailure (automatonContentChecks input bytes) (refused TrailingBytes input (1 + m + 1 + (2 + 3 * count)))
     trailing h input =
         first-fails (trailingCheck input (automatonEnd bytes) bytes) (record { longer = omega (arith, rest-long); is-place = end-is })
 
     follows-none : length rest ≤ 0 → (input : ℕ) {v : Verdict} → FirstFailure (repeatedChecks input bytes 0 (transitionsOf bytes)) v
-        → FirstFailure (contentChecks input bytes) v
+        → FirstFailure (automatonContentChecks input bytes) v
     follows-none h input f = first-passes (record { nowhere = λ place t. omega (arith, rest-long, t .longer) }) f
 
     -- no byte follows, and the transitions decide
     pub transitions-decide : length rest ≤ 0 → (answer : Fault) → FaultAnswer (λ input. repeatedChecks input bytes 0 (transitionsOf bytes)) answer
-        → FaultAnswer (λ input. contentChecks input bytes) answer
+        → FaultAnswer (λ input. automatonContentChecks input bytes) answer
     transitions-decide h Nothing f = λ input. follows-none h input (f input)
     transitions-decide h (Refused r place) f = λ input. follows-none h input (f input)

@@ -13,7 +13,7 @@ use mir.Facts.{eqb-yes, yes-eqb}
 use Rattle.finite.proofs.Tests.{T-and, T-and-left, T-and-right, T-dec, T-true, T-false}
 use Rattle.finite.specs.Search.{anyBelow}
 use Rattle.finite.proofs.Search.{any-zero, any-add-one, any-intro, any-elim}
-use Rattle.formats.specs.AutomatonFile.{statesOf, lettersOf, transitionsOf, fromOf, letterOf, toOf, isTransition, hasTransition}
+use Rattle.formats.specs.AutomatonFile.{statesOf, automatonLettersOf, transitionsOf, fromOf, letterOf, toOf, isTransition, hasTransition}
 use Rattle.formats.proofs.GoodAutomaton.{GoodSections}
 use Rattle.scratch.specs.Map.{transitionTableSize}
 use Rattle.automaton_file.specs.Answers.{tripleIndex, indexOf, BlankRoom, TransitionsLaid, oneIf}
@@ -95,7 +95,7 @@ module _ (bytes : List ℕ) where
   laid-all {m} {k} {size} {count} {table} e l = subst (λ (c : ℕ). TransitionsLaid (amongFirst bytes c) m k size table) e l
 
   module _ (good : GoodSections bytes) (i : ℕ) (h : i < transitionsOf bytes) {size : ℕ} {now : List ℕ}
-      (l : TransitionsLaid (amongFirst bytes i) (statesOf bytes) (lettersOf bytes) size now) where
+      (l : TransitionsLaid (amongFirst bytes i) (statesOf bytes) (automatonLettersOf bytes) size now) where
     abbrev pᵢ : ℕ
     pᵢ = fromOf bytes i
 
@@ -137,7 +137,7 @@ module _ (bytes : List ℕ) where
           omega arith;
     }
 
-    laid-at : (p a q : ℕ) → p < statesOf bytes → a < lettersOf bytes → q < statesOf bytes → Dec (indexOf bytes i ≡ tripleIndex p a q)
+    laid-at : (p a q : ℕ) → p < statesOf bytes → a < automatonLettersOf bytes → q < statesOf bytes → Dec (indexOf bytes i ≡ tripleIndex p a q)
         → indexOf bytes i < length now → getD (set now (indexOf bytes i) 1) (tripleIndex p a q) 0 ≡ oneIf (amongFirst bytes (i + 1) p a q)
     laid-at p a q hp ha hq (yes e) b =
         let d = index-apart pᵢ aᵢ qᵢ p a q (omega (arith, good .letter-below i h, good .letters-small))
@@ -154,7 +154,7 @@ module _ (bytes : List ℕ) where
 
     -- the i-th transition is laid out
     pub laid-next : indexOf bytes i < length now
-        → TransitionsLaid (amongFirst bytes (i + 1)) (statesOf bytes) (lettersOf bytes) size (set now (indexOf bytes i) 1)
+        → TransitionsLaid (amongFirst bytes (i + 1)) (statesOf bytes) (automatonLettersOf bytes) size (set now (indexOf bytes i) 1)
     laid-next b = record {
       same-length = length-set now (indexOf bytes i) 1 ∙ l .same-length;
       transition = λ p a q hp ha hq. laid-at p a q hp ha hq (ℕ-discrete (indexOf bytes i) (tripleIndex p a q)) b;

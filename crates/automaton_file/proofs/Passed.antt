@@ -6,18 +6,18 @@ use native.Mathlib.Omega.{arith}
 use native.Mathlib.Nat.{zero-add}
 use lib.ListN.{getD}
 use Rattle.answer.specs.Checks.{passed, FirstFailure}
-use Rattle.formats.specs.AutomatonFile.{statesOf, kindAt, lettersOf, transitionsAt, transitionsOf, transitionAt, fromOf, letterOf, toOf, automatonEnd, tripleBound, transitionWidth}
-use Rattle.formats.specs.AutomatonChecks.{layoutChecks}
+use Rattle.formats.specs.AutomatonFile.{statesOf, kindAt, automatonLettersOf, transitionsAt, transitionsOf, transitionAt, fromOf, letterOf, toOf, automatonEnd, tripleBound, transitionWidth}
+use Rattle.formats.specs.AutomatonChecks.{automatonLayoutChecks}
 use Rattle.formats.proofs.GoodAutomaton.{GoodSections}
 use Rattle.formats.proofs.AutomatonSections.{states-good, letters-good, transitions-good}
 use Rattle.automaton_sections.proofs.TripleBytes.{bound-from, bound-letter, bound-to}
 
-module _ (input : ℕ) (bytes : List ℕ) (all : FirstFailure (layoutChecks input bytes) passed) where
+module _ (input : ℕ) (bytes : List ℕ) (all : FirstFailure (automatonLayoutChecks input bytes) passed) where
   abbrev m : ℕ
   m = statesOf bytes
 
   abbrev k : ℕ
-  k = lettersOf bytes
+  k = automatonLettersOf bytes
 
   -- a byte of the triples is below its bound
   triple-below : {at bound : ℕ} (i : ℕ) → i < transitionWidth * transitionsOf bytes → transitionsAt bytes + (2 + i) ≡ at → tripleBound m k i ≡ bound → getD bytes at 0 < bound
@@ -26,7 +26,7 @@ module _ (input : ℕ) (bytes : List ℕ) (all : FirstFailure (layoutChecks inpu
       subst (λ (x : ℕ). getD bytes at 0 < x) b (subst (λ (x : ℕ). getD bytes x 0 < tripleBound m k i) e (transitions-good input bytes all .entries-good i h .below))
 
   pub good-sections : GoodSections bytes
-  unfolding kindAt lettersOf transitionsOf transitionAt fromOf letterOf toOf automatonEnd
+  unfolding kindAt automatonLettersOf transitionsOf transitionAt fromOf letterOf toOf automatonEnd
   good-sections = record {
     states-some = states-good input bytes all .above;
     states-small = states-good input bytes all .within;

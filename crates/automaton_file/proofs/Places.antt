@@ -7,7 +7,7 @@ use native.Mathlib.Omega.{arith}
 use lib.ListN.{length, getD, set}
 use Rattle.answer.specs.declared.Refusal.the-variants.{Duplicate}
 use Rattle.answer.specs.Checks.{passed, refused, FirstFailure}
-use Rattle.formats.specs.AutomatonFile.{statesOf, lettersOf, transitionsOf, transitionAt, fromOf, letterOf, toOf, hasTransition, automatonEnd}
+use Rattle.formats.specs.AutomatonFile.{statesOf, automatonLettersOf, transitionsOf, transitionAt, fromOf, letterOf, toOf, hasTransition, automatonEnd}
 use Rattle.formats.specs.AutomatonChecks.{repeatedChecks}
 use Rattle.scratch.specs.Map.{transitionTableSize}
 use Rattle.automaton_file.specs.Answers.{indexOf, TransitionsNeeds, TransitionsLaid}
@@ -46,7 +46,7 @@ module _ {bytes : List ℕ} {at count : ℕ} (t : TransitionsNeeds bytes at coun
         subst (λ (x : ℕ). FirstFailure (repeatedChecks input bytes 0 (transitionsOf bytes)) (refused Duplicate input x)) (sym place-is)
         (repeated-first input (transitionsOf bytes) i in-count all s)
 
-    module _ {s : ℕ} (e : s ≡ indexOf bytes i) {size : ℕ} {now : List ℕ} (l : TransitionsLaid (amongFirst bytes i) (statesOf bytes) (lettersOf bytes) size now) where
+    module _ {s : ℕ} (e : s ≡ indexOf bytes i) {size : ℕ} {now : List ℕ} (l : TransitionsLaid (amongFirst bytes i) (statesOf bytes) (automatonLettersOf bytes) size now) where
       pub in-table : transitionTableSize ≤ size → s < length now
       in-table r = subst (λ (x : ℕ). x < length now) (sym e) (index-in bytes (t .sections) i in-count l r)
 
@@ -56,9 +56,9 @@ module _ {bytes : List ℕ} {at count : ℕ} (t : TransitionsNeeds bytes at coun
       pub new-here : getD now s 0 ≡ 0 → Fresh bytes i
       new-here z = index-new bytes (t .sections) i in-count l (subst (λ (x : ℕ). getD now x 0 ≡ 0) e z)
 
-      pub laid-here : s < length now → TransitionsLaid (amongFirst bytes (i + 1)) (statesOf bytes) (lettersOf bytes) size (set now s 1)
+      pub laid-here : s < length now → TransitionsLaid (amongFirst bytes (i + 1)) (statesOf bytes) (automatonLettersOf bytes) size (set now s 1)
       laid-here h′ =
-          subst (λ (x : ℕ). TransitionsLaid (amongFirst bytes (i + 1)) (statesOf bytes) (lettersOf bytes) size (set now x 1)) (sym e)
+          subst (λ (x : ℕ). TransitionsLaid (amongFirst bytes (i + 1)) (statesOf bytes) (automatonLettersOf bytes) size (set now x 1)) (sym e)
           (laid-next bytes (t .sections) i in-count l (subst (λ (x : ℕ). x < length now) e h′))
 
   module _ {i : ℕ} (above : count ≤ i) (below : i ≤ count) where

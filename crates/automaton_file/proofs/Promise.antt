@@ -16,8 +16,8 @@ use Rattle.rule_marks.specs.declared.Fault.the-variants.{Nothing, Refused as Fa
 use Rattle.sections.specs.Answers.{PartZeroed}
 use Rattle.formats.specs.Calls.{afterCall}
 use Rattle.rule_check.proofs.Promise.{zeros-after}
-use Rattle.formats.specs.AutomatonFile.{statesOf, lettersOf, hasTransition}
-use Rattle.formats.specs.AutomatonChecks.{layoutChecks, contentChecks, automatonChecks}
+use Rattle.formats.specs.AutomatonFile.{statesOf, automatonLettersOf, hasTransition}
+use Rattle.formats.specs.AutomatonChecks.{automatonLayoutChecks, automatonContentChecks, automatonChecks}
 use Rattle.automaton_sections.specs.declared.Counts.{Counts}
 use Rattle.automaton_sections.specs.declared.Layout.{Layout}
 use Rattle.automaton_sections.specs.declared.Layout.the-variants.{Read, Refused as Layout-refused}
@@ -38,39 +38,39 @@ module _ (bytes : List ℕ) (answer : Layout) (known : LayoutAnswer bytes answer
   pub layout-said : {counts : Counts} → answer ≡ Read counts → LayoutPassed bytes counts
   layout-said e = subst (LayoutAnswer bytes) e known
 
-  pub layout-refused : {r : Refusal} {place : ℕ} → answer ≡ Layout-refused r place → (input : ℕ) → FirstFailure (layoutChecks input bytes) (refused r input place)
+  pub layout-refused : {r : Refusal} {place : ℕ} → answer ≡ Layout-refused r place → (input : ℕ) → FirstFailure (automatonLayoutChecks input bytes) (refused r input place)
   layout-refused e = subst (LayoutAnswer bytes) e known
 
 module _ (input : ℕ) (bytes entry : List ℕ) (h : scratchSize ≤ length entry) where
   -- a section refuses
   pub layout-promise : {exit : List ℕ} {r : Refusal} {place : ℕ} → exit ≡ replicate (length entry) 0
-      → ((input : ℕ) → FirstFailure (layoutChecks input bytes) (refused r input place)) → ReadPromise input bytes entry exit (Refused r input place)
+      → ((input : ℕ) → FirstFailure (automatonLayoutChecks input bytes) (refused r input place)) → ReadPromise input bytes entry exit (Refused r input place)
   unfolding automatonChecks
   layout-promise z f = record { refusal = buffer-long h (refused-before _ _ (f input)); scratch = z ∙ zeros-after entry h }
 
   module _ {counts : Counts} (p : LayoutPassed bytes counts) where
     -- what follows the sections refuses
     pub content-promise : {exit : List ℕ} {r : Refusal} {place : ℕ} → exit ≡ replicate (length entry) 0
-        → ((input : ℕ) → FirstFailure (contentChecks input bytes) (refused r input place)) → ReadPromise input bytes entry exit (Refused r input place)
+        → ((input : ℕ) → FirstFailure (automatonContentChecks input bytes) (refused r input place)) → ReadPromise input bytes entry exit (Refused r input place)
     unfolding automatonChecks
     content-promise z f = record { refusal = buffer-long h (passed-before _ _ (p .refusal input) (f input)); scratch = z ∙ zeros-after entry h }
 
     -- every check passes
-    pub automaton-promise : {size : ℕ} {exit : List ℕ} → size ≡ length entry → ((input : ℕ) → FirstFailure (contentChecks input bytes) passed)
-        → TransitionsLaid (hasTransition bytes) (statesOf bytes) (lettersOf bytes) size exit
+    pub automaton-promise : {size : ℕ} {exit : List ℕ} → size ≡ length entry → ((input : ℕ) → FirstFailure (automatonContentChecks input bytes) passed)
+        → TransitionsLaid (hasTransition bytes) (statesOf bytes) (automatonLettersOf bytes) size exit
         → ReadPromise input bytes entry exit (Automaton (counts .states) (counts .letters) (counts .transitions))
     unfolding automatonChecks
     automaton-promise {exit = exit} z f l = record {
       refusal = buffer-long h (passed-before _ _ (p .refusal input) (f input));
       scratch = record {
         counts-are = p .counts-are;
-        laid = subst (λ (n : ℕ). TransitionsLaid (hasTransition bytes) (statesOf bytes) (lettersOf bytes) n exit) z l;
+        laid = subst (λ (n : ℕ). TransitionsLaid (hasTransition bytes) (statesOf bytes) (automatonLettersOf bytes) n exit) z l;
       };
     }
 
 -- what the checks after the sections leave, known by their answer
 module _ (bytes entry exit : List ℕ) (answer : Fault) (known : LaidAnswer bytes entry exit answer) where
-  pub laid-said : answer ≡ Nothing → TransitionsLaid (hasTransition bytes) (statesOf bytes) (lettersOf bytes) (length entry) exit
+  pub laid-said : answer ≡ Nothing → TransitionsLaid (hasTransition bytes) (statesOf bytes) (automatonLettersOf bytes) (length entry) exit
   laid-said e = subst (LaidAnswer bytes entry exit) e known
 
   pub kept-said : {r : Refusal} {place : ℕ} → answer ≡ Fault-refused r place → length exit ≡ length entry

@@ -11,7 +11,7 @@ use Rattle.answer.specs.Checks.{Verdict, passed, refused, FirstFailure}
 use Rattle.answer.proofs.Order.{first-passes, first-fails, none-left, passes-head, passes-tail}
 use Rattle.finite.proofs.Numbers.{le-or-lt}
 use Rattle.formats.specs.AutomatonFile.{transitionAt, fromOf, letterOf, toOf}
-use Rattle.formats.specs.AutomatonChecks.{RepeatedAt, repeatedChecks}
+use Rattle.formats.specs.AutomatonChecks.{RepeatedTransitionAt, repeatedChecks}
 
 -- the i-th and the j-th transition are the same triple
 pub record SameTransition (bytes : List ℕ) (i j : ℕ) : Type 0 where
@@ -78,7 +78,7 @@ module _ {bytes : List ℕ} where
       let some-left : count - i ≡ suc (count - suc i) = omega arith in
       rest-decides input count i (omega arith) g
       (rw some-left
-      (first-fails (record { refusal = Duplicate; input = input; Fails = RepeatedAt bytes i })
+      (first-fails (record { refusal = Duplicate; input = input; Fails = RepeatedTransitionAt bytes i })
       (record {
         earlier = s .earlier;
         before = s .before;

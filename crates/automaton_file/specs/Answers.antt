@@ -9,7 +9,7 @@ use Rattle.rule_marks.specs.declared.Fault.{Fault}
 use Rattle.rule_marks.specs.declared.Fault.the-variants.{Nothing, Refused as Fault-refused}
 use Rattle.formats.specs.Calls.{afterCall}
 use Rattle.scratch.specs.Map.{transitionTableSize}
-use Rattle.formats.specs.AutomatonFile.{statesOf, lettersOf, transitionsAt, transitionsOf, fromOf, letterOf, toOf, hasTransition}
+use Rattle.formats.specs.AutomatonFile.{statesOf, automatonLettersOf, transitionsAt, transitionsOf, fromOf, letterOf, toOf, hasTransition}
 use Rattle.formats.specs.AutomatonChecks.{readChecks}
 use Rattle.formats.proofs.GoodAutomaton.{GoodSections}
 use Rattle.automaton_file.specs.declared.AutomatonRead.{AutomatonRead}
@@ -47,7 +47,7 @@ pub record TransitionsLaid (present : ℕ → ℕ → ℕ → Bool) (m k size : 
 
 -- the transitions of a file are laid out; or, where a check fails, nothing is said of the bytes but their number
 abbrev pub LaidAnswer : List ℕ → List ℕ → List ℕ → Fault → Type 0
-LaidAnswer bytes entry exit Nothing = TransitionsLaid (hasTransition bytes) (statesOf bytes) (lettersOf bytes) (length entry) exit
+LaidAnswer bytes entry exit Nothing = TransitionsLaid (hasTransition bytes) (statesOf bytes) (automatonLettersOf bytes) (length entry) exit
 LaidAnswer bytes entry exit (Fault-refused refusal place) = length exit ≡ length entry
 
 -- document 01's number, input and place of an answer: those of its verdict
@@ -58,7 +58,7 @@ verdictOf (Read-refused refusal input place) = refused refusal input place
 -- an automaton that was read: its counts, and scratch holds its transitions
 pub record AutomatonLaid (bytes : List ℕ) (states letters transitions : ℕ) (entry exit : List ℕ) : Type 0 where
   pub counts-are : CountsAre bytes states letters transitions
-  pub laid : TransitionsLaid (hasTransition bytes) (statesOf bytes) (lettersOf bytes) (length entry) exit
+  pub laid : TransitionsLaid (hasTransition bytes) (statesOf bytes) (automatonLettersOf bytes) (length entry) exit
 
 abbrev pub ScratchAfter : List ℕ → List ℕ → List ℕ → AutomatonRead → Type 0
 ScratchAfter bytes entry exit (Automaton states letters transitions) = AutomatonLaid bytes states letters transitions entry exit

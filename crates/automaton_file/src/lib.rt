@@ -14,7 +14,7 @@ ghost use mathlib.Core.Path.{_≡_};
 ghost use Prim.Native.Nat.{_<_};
 ghost use Rattle.rule_marks.specs.Faults.{FaultAnswer};
 ghost use Rattle.formats.specs.AutomatonFile.{transitionsOf};
-ghost use Rattle.formats.specs.AutomatonChecks.{repeatedChecks, contentChecks};
+ghost use Rattle.formats.specs.AutomatonChecks.{repeatedChecks, automatonContentChecks};
 ghost use Rattle.automaton_sections.specs.Sections.{LayoutPassed};
 ghost use Rattle.automaton_file.specs.Answers.{indexOf, TransitionsNeeds, BlankRoom, LaidAnswer, ReadPromise};
 
@@ -56,7 +56,7 @@ fn repeated_fault(bytes: &[u8], at: usize, count: usize, table: &mut [u8]) -> Fa
 fn content_fault(bytes: &[u8], counts: Counts, scratch: &mut [u8]) -> Fault
     requires { ⌜ LayoutPassed (now bytes) counts ⌝ }
     requires { ⌜ BlankRoom (now scratch) ⌝ }
-    ensures refusal { λ r. ⌜ FaultAnswer (λ input. contentChecks input (now (bytes .entry))) r ⌝ }
+    ensures refusal { λ r. ⌜ FaultAnswer (λ input. automatonContentChecks input (now (bytes .entry))) r ⌝ }
     ensures laid { λ r. ⌜ LaidAnswer (now (bytes .entry)) (now (scratch .entry)) (now (scratch .exit)) r ⌝ }
 {
     let m = counts.states;

@@ -12,7 +12,7 @@ use Rattle.buchi.specs.Automata.{Automaton}
 use Rattle.buchi.specs.Matrices.{SameEntries}
 use Rattle.buchi.proofs.WordMatrices.{letter-matrix}
 use Rattle.buchi.proofs.Products.{same-trans}
-use Rattle.automaton_matrices.specs.Bytes.{finalAt, stepAt, MarkingAt, automatonAt, LetterNeeds, EntryNeeds, letterEntry, IsLetter}
+use Rattle.automaton_matrices.specs.Bytes.{finalAt, stepAt, AutomatonAt, automatonAt, LetterNeeds, EntryNeeds, letterEntry, IsLetter}
 use Rattle.automaton_products.proofs.Rows.{RowsOf, rows-same, rows-shape}
 
 -- ---- one entry
@@ -68,7 +68,7 @@ entry-place k hp hq =
 -- ---- the matrix
 
 -- in any bytes some automaton stands
-pub stands-at : {kinds steps : List ℕ} {n k : ℕ} → n ≤ 6 → k ≤ 16 → n ≤ length kinds → 576 ≤ length steps → MarkingAt (automatonAt kinds n k steps) kinds steps
+pub stands-at : {kinds steps : List ℕ} {n k : ℕ} → n ≤ 6 → k ≤ 16 → n ≤ length kinds → 576 ≤ length steps → AutomatonAt (automatonAt kinds n k steps) kinds steps
 unfolding automatonAt
 stands-at few letters kinds-long steps-long = record {
   few-states = few;
@@ -81,7 +81,7 @@ stands-at few letters kinds-long steps-long = record {
 }
 
 -- an automaton that stands in the bytes has these entries
-pub stands-letter : {t : Automaton} {kinds steps : List ℕ} → MarkingAt t kinds steps → (x : ℕ) → x < t .letters
+pub stands-letter : {t : Automaton} {kinds steps : List ℕ} → AutomatonAt t kinds steps → (x : ℕ) → x < t .letters
     → SameEntries (t .states) (letter-matrix t x) (letterEntry kinds steps x)
 unfolding letter-matrix letterEntry
 stands-letter {t} {kinds} {steps} k x h = record {
@@ -126,7 +126,7 @@ module _ {steps steps′ : List ℕ} (k : SameSteps steps steps′) where
   }
 
   -- and an automaton that stands in the one stands in the other
-  pub stands-kept : {t : Automaton} {kinds : List ℕ} → MarkingAt t kinds steps → MarkingAt t kinds steps′
+  pub stands-kept : {t : Automaton} {kinds : List ℕ} → AutomatonAt t kinds steps → AutomatonAt t kinds steps′
   stands-kept {t} {kinds} s =
       let few = s .few-states in
       let letters = s .few-letters in

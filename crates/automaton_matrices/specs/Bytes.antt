@@ -25,7 +25,7 @@ unfoldable pub stepAt : List ℕ → ℕ → ℕ → ℕ → Bool
 stepAt steps p x q = ltb 0 (getD steps (p * 96 + (x * 6 + q)) 0)
 
 -- an automaton of at most six states and sixteen letters stands in bytes
-pub record MarkingAt (automaton : Automaton) (kinds steps : List ℕ) : Type 0 where
+pub record AutomatonAt (automaton : Automaton) (kinds steps : List ℕ) : Type 0 where
   pub few-states : automaton .states ≤ 6
   pub few-letters : automaton .letters ≤ 16
   pub kinds-long : automaton .states ≤ length kinds
@@ -62,7 +62,7 @@ letterEntry kinds steps x p q = cond (stepAt steps p x q) (cond (finalAt kinds p
 pub record IsLetter (kinds : List ℕ) (n : ℕ) (steps : List ℕ) (x : ℕ) (m : List (List ℕ)) : Type 0 where
   pub shape : MatrixShape n m
   pub same : SameEntries n (letterEntry kinds steps x) (entryIn m)
-  pub is-letter : (automaton : Automaton) → MarkingAt automaton kinds steps → automaton .states ≡ n → x < automaton .letters
+  pub is-letter : (automaton : Automaton) → AutomatonAt automaton kinds steps → automaton .states ≡ n → x < automaton .letters
       → SameEntries n (letter-matrix automaton x) (entryIn m)
 
 -- the entries of matrix i of a list that begins at a byte: 64 bytes a matrix, the entry (p, q) at p · 6 + q

@@ -10,7 +10,7 @@ use Rattle.buchi.specs.Matrices.{Matrix, SameEntries, OtherEntry, product}
 use Rattle.buchi.specs.Rule.{MoreMatrices}
 use Rattle.buchi.proofs.MatrixLists.{ClosedList, FoundInOrder}
 use Rattle.automaton_products.specs.Arrays.{StateEntries}
-use Rattle.automaton_matrices.specs.Bytes.{MarkingAt, matrixFrom, letterEntry}
+use Rattle.automaton_matrices.specs.Bytes.{AutomatonAt, matrixFrom, letterEntry}
 use Rattle.automaton_matrix_search.specs.declared.MatrixCount.{MatrixCount}
 use Rattle.automaton_matrix_search.specs.declared.MatrixCount.the-variants.{Listed, TooMany}
 use Rattle.scratch.specs.Bytes.{UnchangedOutside}
@@ -50,7 +50,7 @@ pub record ListNeeds (kinds : List ℕ) (n k : ℕ) (scratch : List ℕ) : Type 
 
 -- an automaton of n states and k letters stands in the bytes
 pub record StandsHere (automaton : Automaton) (kinds : List ℕ) (n k : ℕ) (scratch : List ℕ) : Type 0 where
-  pub stands : MarkingAt automaton kinds scratch
+  pub stands : AutomatonAt automaton kinds scratch
   pub states : automaton .states ≡ n
   pub letters : automaton .letters ≡ k
 

@@ -8,25 +8,25 @@ use native.Mathlib.Omega.{arith}
 use borrow.Author.Count.{below-more}
 use lib.ListN.{length, getD, set, replicate, length-set}
 use lib.Seq.{getD-set-same, getD-set-other}
-use Rattle.buchi.specs.Matrices.{through, greatest, product}
+use Rattle.buchi.specs.Matrices.{entriesThrough, greatest, product}
 use Rattle.automaton_products.specs.Arrays.{entryIn, RowOf, rowProduct}
 use Rattle.automaton_products.proofs.Rows.{zeros-at}
 
 -- ---- through two entries
 
-pub through-none-left : (x y : ℕ) → x ≡ 0 → 0 ≡ through x y
-unfolding through
+pub through-none-left : (x y : ℕ) → x ≡ 0 → 0 ≡ entriesThrough x y
+unfolding entriesThrough
 through-none-left zero y e = refl
 through-none-left (suc x) y e = absurd (omega arith)
 
-pub through-none-right : (x y : ℕ) → y ≡ 0 → 0 ≡ through x y
-unfolding through
+pub through-none-right : (x y : ℕ) → y ≡ 0 → 0 ≡ entriesThrough x y
+unfolding entriesThrough
 through-none-right zero y e = refl
 through-none-right (suc x) zero e = refl
 through-none-right (suc x) (suc y) e = absurd (omega arith)
 
-pub through-both : (x y : ℕ) {r : ℕ} → (x ≡ 0 → ⊥) → (y ≡ 0 → ⊥) → r ≡ max x y → r ≡ through x y
-unfolding through
+pub through-both : (x y : ℕ) {r : ℕ} → (x ≡ 0 → ⊥) → (y ≡ 0 → ⊥) → r ≡ max x y → r ≡ entriesThrough x y
+unfolding entriesThrough
 through-both zero y f g e = absurd (f refl)
 through-both (suc x) zero f g e = absurd (g refl)
 through-both (suc x) (suc y) f g e = e
@@ -34,7 +34,7 @@ through-both (suc x) (suc y) f g e = e
 -- ---- through one state more
 
 row-product-suc : (n : ℕ) (row : List ℕ) (right : List (List ℕ)) (q : ℕ)
-    → rowProduct (n + 1) row right q ≡ max (through (getD row n 0) (entryIn right n q)) (rowProduct n row right q)
+    → rowProduct (n + 1) row right q ≡ max (entriesThrough (getD row n 0) (entryIn right n q)) (rowProduct n row right q)
 unfolding rowProduct greatest
 row-product-suc n row right q = rw add-one
 
@@ -65,7 +65,7 @@ module _ {n : ℕ} {row : List ℕ} {right : List (List ℕ)} where
       same : (q : ℕ) → q < n → getD out q 0 ≡ rowProduct (r + 1) row right q
       same q h =
           let s = row-product-suc r row right q in
-          let t : 0 ≡ through (getD row r 0) (entryIn right r q) = through-none-left (getD row r 0) (entryIn right r q) e in
+          let t : 0 ≡ entriesThrough (getD row r 0) (entryIn right r q) = through-none-left (getD row r 0) (entryIn right r q) e in
           omega (arith, s, t, k .filled .entries q h)
 
   pub state-begun : {r : ℕ} {out : List ℕ} → RowBy n row right r out → RowThrough n row right r 0 out
@@ -74,7 +74,7 @@ module _ {n : ℕ} {row : List ℕ} {right : List (List ℕ)} where
       record { within = omega arith; six = f .six; more = λ c h. absurd (omega arith); rest = λ c g h. f .entries c h; zeros = f .zeros }
 
   pub state-more : {r q z v : ℕ} {out : List ℕ} → RowThrough n row right r q out → q < 6 → q < n
-      → z ≡ through (getD row r 0) (getD (getD right r []) q 0) → v ≡ max z (getD out q 0) → RowThrough n row right r (q + 1) (set out q v)
+      → z ≡ entriesThrough (getD row r 0) (getD (getD right r []) q 0) → v ≡ max z (getD out q 0) → RowThrough n row right r (q + 1) (set out q v)
   unfolding entryIn
   state-more {r} {q} {z} {v} {out} k few h f g =
       let l : q < length out = rw (k .six) few in

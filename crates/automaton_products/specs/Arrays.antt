@@ -3,7 +3,7 @@ use Prim.Native.Nat.{ℕ, _≤_, _<_}
 use mathlib.Core.Path.{_≡_}
 use mathlib.Core.List.{List, []}
 use lib.ListN.{length, getD}
-use Rattle.buchi.specs.Matrices.{Matrix, SameEntries, through, greatest, product}
+use Rattle.buchi.specs.Matrices.{Matrix, SameEntries, entriesThrough, greatest, product}
 
 -- the entries of six rows
 unfoldable pub entryIn : List (List ℕ) → Matrix
@@ -29,7 +29,7 @@ pub record RowOf (f : ℕ → ℕ) (n : ℕ) (row : List ℕ) : Type 0 where
 
 -- the row of a product, from that row of the left factor
 unfoldable pub rowProduct : ℕ → List ℕ → List (List ℕ) → ℕ → ℕ
-rowProduct n row right q = greatest n (λ r. through (getD row r 0) (entryIn right r q))
+rowProduct n row right q = greatest n (λ r. entriesThrough (getD row r 0) (entryIn right r q))
 
 -- m is the product of two matrices over n states
 pub record IsProduct (n : ℕ) (left right m : List (List ℕ)) : Type 0 where

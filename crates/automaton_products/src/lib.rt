@@ -2,7 +2,7 @@
 // with neither 0.
 ghost use mathlib.Core.Path.{_≡_};
 ghost use Prim.Native.Nat.{max, _≤_};
-ghost use Rattle.buchi.specs.Matrices.{through};
+ghost use Rattle.buchi.specs.Matrices.{entriesThrough};
 ghost use Rattle.automaton_products.specs.Arrays.{rowProduct, MatrixShape, RowOf, IsProduct};
 
 // The greater of two entries.
@@ -16,8 +16,8 @@ pub fn greater(x: u8, y: u8) -> u8
 }
 
 // The greater of two entries, 0 where one of them is 0.
-pub fn through(x: u8, y: u8) -> u8
-    ensures { λ r. ⌜ r ≡ through x y ⌝ }
+pub fn entriesThrough(x: u8, y: u8) -> u8
+    ensures { λ r. ⌜ r ≡ entriesThrough x y ⌝ }
 {
     if x == 0 {
         return 0;
@@ -39,7 +39,7 @@ pub fn product_row(n: usize, row: &[u8; 6], right: &[[u8; 6]; 6]) -> [u8; 6]
         if x != 0 {
             for q in 0..n {
                 let y = right[r][q];
-                let z = through(x, y);
+                let z = entriesThrough(x, y);
                 let best = out[q];
                 out[q] = greater(z, best);
             }

@@ -8,7 +8,7 @@ use sections::wide_count;
 ghost use Prim.Native.Nat.{_+_, _<_, _^_};
 ghost use lib.ListN.{length};
 ghost use Rattle.sections.specs.Answers.{SectionAnswer};
-ghost use Rattle.formats.specs.AutomatonFile.{statesSection, lettersSection, transitionsSection};
+ghost use Rattle.formats.specs.AutomatonFile.{statesSection, automatonLettersSection, transitionsSection};
 ghost use Rattle.automaton_sections.specs.Sections.{LayoutAnswer};
 
 // The states' section, at the front of the file: a kind is 0, 1, 2 or 3.
@@ -24,7 +24,7 @@ pub fn states_section(bytes: &[u8]) -> Counted
 // The letters' section, a count only, in the rest of the file from byte `at` on.
 pub fn letters_section(rest: &[u8], at: usize) -> Counted
     requires { ⌜ at + length (now rest) < 2 ^ 64 ⌝ }
-    ensures { λ r. ⌜ SectionAnswer lettersSection at (now (rest .entry)) r ⌝ }
+    ensures { λ r. ⌜ SectionAnswer automatonLettersSection at (now (rest .entry)) r ⌝ }
 {
     byte_count(rest, at, 16)
 }

@@ -7,8 +7,8 @@ use native.Mathlib.Omega.{arith}
 use lib.ListN.{length, getD, take, drop}
 use lib.Dec.{eqb, ltb}
 use Rattle.automaton_file.specs.Answers.{oneIf}
-use Rattle.formats.specs.AutomatonFile.{statesOf, kindAt, isInitial, isFinal, hasTransition, lettersAt, transitionsAt, automatonEnd}
-use Rattle.automaton_matrices.specs.Bytes.{initialAt, finalAt, stepAt, MarkingAt}
+use Rattle.formats.specs.AutomatonFile.{statesOf, kindAt, isInitial, isFinal, hasTransition, automatonLettersAt, transitionsAt, automatonEnd}
+use Rattle.automaton_matrices.specs.Bytes.{initialAt, finalAt, stepAt, AutomatonAt}
 use Rattle.automaton_matrix_search.specs.Lists.{ListNeeds, StandsHere}
 use Rattle.scratch.proofs.Parts.{part-length, part-byte}
 use Rattle.promises.specs.Automaton.{automatonOf}
@@ -32,7 +32,7 @@ module _ {bytes : List ℕ} {n k : ℕ} {out scratch : List ℕ} (r : ReadHere b
   kinds = take (length bytes - 1) (drop 1 bytes)
 
   long : 1 + statesOf bytes + 3 ≤ length bytes
-  unfolding automatonEnd transitionsAt lettersAt
+  unfolding automatonEnd transitionsAt automatonLettersAt
   long = omega (arith, r .sections .long)
 
   kinds-length : length kinds ≡ length bytes - 1
@@ -45,7 +45,7 @@ module _ {bytes : List ℕ} {n k : ℕ} {out scratch : List ℕ} (r : ReadHere b
   kinds-long : statesOf bytes ≤ length kinds
   kinds-long = omega (arith, long, kinds-length)
 
-  stands : MarkingAt (automatonOf bytes) kinds scratch
+  stands : AutomatonAt (automatonOf bytes) kinds scratch
   unfolding isInitial isFinal initialAt finalAt stepAt
   stands = record {
     few-states = r .sections .states-small;

@@ -25,10 +25,10 @@ use Rattle.board_promises.specs.declared.Board.{Board}
 use Rattle.board_promises.specs.declared.Notice.{Notice}
 use Rattle.board_promises.specs.declared.Notice.the-variants.{Done, Refused}
 use Rattle.board_promises.specs.declared.Posted.{Posted}
-use Rattle.board_promises.specs.Boards.{namesCount, filesSize, fileAt, presentAt, withLowest, withEntered, withLeft, movedBelow}
+use Rattle.board_promises.specs.Boards.{boardNamesCount, filesSize, fileAt, presentAt, withLowest, withEntered, withLeft, movedBelow}
 use Rattle.board_promises.specs.Checks.{buffersChecks, freeCheck, presentCheck, NotFreeAt, NotPresentAt, allChecks, leaveChecks}
-use Rattle.board_promises.specs.Promises.{noticeVerdict, HandsBack, filesAfterEnter, EnterPromise, LeavePromise, MarkPromise}
-use Rattle.board_promises.specs.Followers.{Whole}
+use Rattle.board_promises.specs.Promises.{noticeVerdict, BoardHandsBack, filesAfterEnter, EnterPromise, LeavePromise, BoardMarkPromise}
+use Rattle.board_promises.specs.Monitors.{Whole}
 use Rattle.board_promises.proofs.SmallFiles.{short-file}
 use Rattle.board_promises.proofs.Letters.{letters-pass, letters-refuse}
 use Rattle.board_promises.proofs.Places.{pasted-file, others-kept}
@@ -48,65 +48,65 @@ stays-refused checks more Done not f = absurd (not refl)
 stays-refused checks more (Refused refusal input place) not f = refused-before checks more f
 
 -- and hands the board back
-back-refused : (b next : Board) (files : List ℕ) (notice : Notice) → (notice ≡ Done → ⊥) → HandsBack b next files b notice
+back-refused : (b next : Board) (files : List ℕ) (notice : Notice) → (notice ≡ Done → ⊥) → BoardHandsBack b next files b notice
 back-refused b next files Done not = absurd (not refl)
 back-refused b next files (Refused refusal input place) not = refl
 
 -- the verdict and the board of a call that has passed over the buffers' checks
 pub record Decided (checks : List Check) (b next : Board) (files : List ℕ) (answer : Posted) : Type 0 where
   pub refusal : FirstFailure checks (noticeVerdict (answer .notice))
-  pub board : HandsBack b next files (answer .board) (answer .notice)
+  pub board : BoardHandsBack b next files (answer .board) (answer .notice)
 
 -- by the answer that was made
 decided-as : {checks : List Check} {b next : Board} {files : List ℕ} {answer made : Posted} → answer ≡ made → Decided checks b next files made → Decided checks b next files answer
 decided-as {checks} {b} {next} {files} e d = subst (Decided checks b next files) (sym e) d
 
-passed-pass : {b : Board} {files : List ℕ} {step : Step} {leaver : ℕ} {p : Pass} → PassAt b files step leaver namesCount p → p .notice ≡ Done → FirstFailure (allChecks b files) passed
+passed-pass : {b : Board} {files : List ℕ} {step : Step} {leaver : ℕ} {p : Pass} → PassAt b files step leaver boardNamesCount p → p .notice ≡ Done → FirstFailure (allChecks b files) passed
 passed-pass {b} {files} pass done = subst (λ (notice : Notice). FirstFailure (allChecks b files) (noticeVerdict notice)) done (pass .refusal)
 
 -- nothing is foreign to a pass without a step
-lowest-of : {b : Board} {files : List ℕ} {leaver : ℕ} {p : Pass} → PassAt b files Stay leaver namesCount p → p .notice ≡ Done → LowestBelow b files Stay leaver namesCount (p .lowest)
+lowest-of : {b : Board} {files : List ℕ} {leaver : ℕ} {p : Pass} → PassAt b files Stay leaver boardNamesCount p → p .notice ≡ Done → LowestBelow b files Stay leaver boardNamesCount (p .lowest)
 lowest-of {b} {files} {leaver} {p} pass done =
-    ⊎-elim (λ (k : AllKnown b files Stay leaver namesCount p). k .lowest) (λ (f : FirstForeign b files Stay namesCount (p .foreign)). absurd (f .foreign)) (pass .result done)
+    ⊎-elim (λ (k : AllKnown b files Stay leaver boardNamesCount p). k .lowest) (λ (f : FirstForeign b files Stay boardNamesCount (p .foreign)). absurd (f .foreign)) (pass .result done)
 
 module _ (b : Board) (files : List ℕ) where
   -- an event or a mark
-  module _ (whole : Whole b) (step : Step) {p : Pass} (pass : PassAt b files step namesCount namesCount p) where
-    known-passes : AllKnown b files step namesCount namesCount p → FirstFailure (stepChecks b files step) passed
+  module _ (whole : Whole b) (step : Step) {p : Pass} (pass : PassAt b files step boardNamesCount boardNamesCount p) where
+    known-passes : AllKnown b files step boardNamesCount boardNamesCount p → FirstFailure (stepChecks b files step) passed
     known-passes k = go step (λ i named there. k .known .known i named there)
       where
-        go : (s : Step) → ((i : ℕ) → i < namesCount → presentAt b i ≡ true → ForeignStep (lettersOf (fileAt files i)) s → ⊥) → FirstFailure (stepChecks b files s) passed
-        go (Event letter) known = letters-pass b files letter 0 namesCount (λ j low high there foreign. known j (omega arith) there foreign)
+        go : (s : Step) → ((i : ℕ) → i < boardNamesCount → presentAt b i ≡ true → ForeignStep (lettersOf (fileAt files i)) s → ⊥) → FirstFailure (stepChecks b files s) passed
+        go (Event letter) known = letters-pass b files letter 0 boardNamesCount (λ j low high there foreign. known j (omega arith) there foreign)
         go Mark known = none-left
         go Stay known = none-left
 
-    foreign-refuses : FirstForeign b files step namesCount (p .foreign) → FirstFailure (stepChecks b files step) (refused UnknownLetter (p .foreign) 0)
+    foreign-refuses : FirstForeign b files step boardNamesCount (p .foreign) → FirstFailure (stepChecks b files step) (refused UnknownLetter (p .foreign) 0)
     foreign-refuses f = go step (f .foreign) (λ i named there. f .earlier .known i named there)
       where
         go : (s : Step) → ForeignStep (lettersOf (fileAt files (p .foreign))) s → ((i : ℕ) → i < p .foreign → presentAt b i ≡ true → ForeignStep (lettersOf (fileAt files i)) s → ⊥)
             → FirstFailure (stepChecks b files s) (refused UnknownLetter (p .foreign) 0)
         go (Event letter) foreign earlier =
-            letters-refuse b files letter 0 namesCount (p .foreign) (omega arith) (omega (arith, f .named)) (f .there) foreign (λ j low high there own. earlier j high there own)
+            letters-refuse b files letter 0 boardNamesCount (p .foreign) (omega arith) (omega (arith, f .named)) (f .there) foreign (λ j low high there own. earlier j high there own)
         go Mark foreign earlier = absurd foreign
         go Stay foreign earlier = absurd foreign
 
-    pub step-decided : {r : Posted} → StepAnswer b p r → Decided (allChecks b files ++ stepChecks b files step) b (movedBelow files step b namesCount) files r
+    pub step-decided : {r : Posted} → StepAnswer b p r → Decided (allChecks b files ++ stepChecks b files step) b (movedBelow files step b boardNamesCount) files r
     step-decided (step-refuses not e) = decided-as e (record { refusal = stays-refused (allChecks b files) (stepChecks b files step) (p .notice) not (pass .refusal); board = back-refused b _ files (p .notice) not })
     step-decided (step-foreign done low e) =
         decided-as e (record {
           refusal = passed-before (allChecks b files) (stepChecks b files step) (passed-pass pass done)
-              (⊎-elim (λ (k : AllKnown b files step namesCount namesCount p). absurd (let z : ⊥ = omega (arith, k .unfound) in z)) (λ f. foreign-refuses f) (pass .result done));
+              (⊎-elim (λ (k : AllKnown b files step boardNamesCount boardNamesCount p). absurd (let z : ⊥ = omega (arith, k .unfound) in z)) (λ f. foreign-refuses f) (pass .result done));
           board = refl;
         })
     step-decided (step-done done high e) =
-        decided-as e (⊎-elim (λ (k : AllKnown b files step namesCount namesCount p). record {
+        decided-as e (⊎-elim (λ (k : AllKnown b files step boardNamesCount boardNamesCount p). record {
           refusal = passed-before (allChecks b files) (stepChecks b files step) (passed-pass pass done) (known-passes k);
           board = record { lowest = p .lowest; becomes = ap (λ (c : Board). withLowest c (p .lowest)) (k .moved); grade = lowest-moved whole (k .lowest) };
         })
         (λ f. absurd (let z : ⊥ = omega (arith, f .named) in z)) (pass .result done))
 
   -- leaving
-  pub leave-decided : {name : ℕ} {p : Pass} {r : Posted} → Whole b → name < namesCount → PassAt b files Stay name namesCount p
+  pub leave-decided : {name : ℕ} {p : Pass} {r : Posted} → Whole b → name < boardNamesCount → PassAt b files Stay name boardNamesCount p
       → PassAnswer b (withLowest (withLeft b name) (p .lowest)) p r → Decided (allChecks b files) b (withLeft b name) files r
   leave-decided {name} {p} {r} whole h pass (pass-refuses not e) = decided-as e (record { refusal = pass .refusal; board = back-refused b _ files (p .notice) not })
   leave-decided {name} {p} {r} whole h pass (pass-done done e) =
@@ -171,12 +171,12 @@ without (d ∷ before) after {c} {v} p f = go (first-case f) (without before aft
     go (decides-now r) more = subst (λ (w : Verdict). FirstFailure (d ∷ before ++ after) w) (sym (r .verdict)) (first-fails d (r .fails))
     go (hands-on q g) more = first-passes q (more g)
 
--- 3 of a fresh follower does not fail
+-- 3 of a fresh monitor does not fail
 fresh-passes : (input n : ℕ) → Passes (monitorValueCheck input n freshMonitor)
 fresh-passes input n = record { nowhere = λ place (f : MonitorValueOutOfRangeAt n freshMonitor place). ⊎-elim (λ v. v .not-none refl) (λ v. v .not-none refl) (f .stray) }
 
 -- entering: the names, then the file
-module _ {b : Board} {name : ℕ} {file files : List ℕ} {p : Pass} (pass : PassAt b files Stay namesCount namesCount p) where
+module _ {b : Board} {name : ℕ} {file files : List ℕ} {p : Pass} (pass : PassAt b files Stay boardNamesCount boardNamesCount p) where
   pub admit-refused : (p .notice ≡ Done → ⊥) → Admitted b name file files p
   admit-refused not = record { refusal = stays-refused (allChecks b files) _ (p .notice) not (pass .refusal); lowest = λ done. absurd (not done) }
 
@@ -212,7 +212,7 @@ module _ {b : Board} {name : ℕ} {file files : List ℕ} {p : Pass} (admitted :
   file-short : length file ≤ ruleSize
   file-short = short-file name file (passed-first _ _ (passed-last (allChecks b files) _ all-passed))
 
-  pub file-fits : name < namesCount → filesSize ≤ length files → ruleSize * name + length file ≤ length files
+  pub file-fits : name < boardNamesCount → filesSize ≤ length files → ruleSize * name + length file ≤ length files
   file-fits h room = omega (arith, file-short)
 
 -- a call that enters
@@ -260,7 +260,7 @@ module _ {b : Board} {name : ℕ} {file files entry exit : List ℕ} {r : Posted
 
 -- the calls' own promises
 module _ {b : Board} {files entry exit : List ℕ} {r : Posted} where
-  pub mark-call : CallPromise (buffersChecks files entry ++ (allChecks b files ++ [])) b (movedBelow files Mark b namesCount) files entry exit r → MarkPromise b files entry exit r
+  pub mark-call : CallPromise (buffersChecks files entry ++ (allChecks b files ++ [])) b (movedBelow files Mark b boardNamesCount) files entry exit r → BoardMarkPromise b files entry exit r
   mark-call p = record {
     refusal =
         subst (λ (checks : List Check). FirstFailure (buffersChecks files entry ++ checks) (noticeVerdict (r .notice))) (append-nil (allChecks b files)) (p .refusal);
@@ -276,8 +276,8 @@ pub leave-present : {b next : Board} {name : ℕ} {files : List ℕ} {r : Posted
     → Decided (presentCheck b name ∷ allChecks b files) b next files r
 leave-present {b} {next} {name} {files} a d = record { refusal = present-passed b files a (d .refusal); board = d .board }
 
--- the file that enters, asked with a fresh follower and a scratch of zeros
-pub admit-asked : {b : Board} {name : ℕ} {file files : List ℕ} {p r : Pass} {f : Monitor} {entry mid exit : List ℕ} → PassAt b files Stay namesCount namesCount p → p .notice ≡ Done
+-- the file that enters, asked with a fresh monitor and a scratch of zeros
+pub admit-asked : {b : Board} {name : ℕ} {file files : List ℕ} {p r : Pass} {f : Monitor} {entry mid exit : List ℕ} → PassAt b files Stay boardNamesCount boardNamesCount p → p .notice ≡ Done
     → f ≡ freshMonitor → Cleared entry → mid ≡ entry → (answer : Advanced) → AdvancePromise name file f Stay mid exit answer → EntryTold p answer r
     → Admitted b name file files r × (exit ≡ entry)
 admit-asked {name = name} {file} {entry = entry} {mid} {exit} pass done fresh clear same answer a t =

@@ -15,22 +15,22 @@ use Rattle.promises.specs.declared.Step.{Step}
 use Rattle.promises.specs.declared.Step.the-variants.{Stay}
 use Rattle.promises.specs.Monitor.{noValue, valueOf, freshMonitor}
 use Rattle.board_promises.specs.declared.Board.{Board}
-use Rattle.board_promises.specs.Boards.{namesCount, fileAt, presentAt, monitorAt, withEntered, withLeft, movedBelow, Counting, LowestGrade}
-use Rattle.board_promises.specs.Followers.{Whole, movedAt}
+use Rattle.board_promises.specs.Boards.{boardNamesCount, fileAt, presentAt, monitorAt, withEntered, withLeft, movedBelow, Counting, LowestGrade}
+use Rattle.board_promises.specs.Monitors.{Whole, movedAt}
 use Rattle.board_promises.proofs.Moved.{moved-flags, moved-monitor, set-here, set-elsewhere}
 use Rattle.board_pass.specs.Passes.{Counts, LowestBelow}
 
--- a follower with a grade, by its file
+-- a monitor with a grade, by its file
 abbrev Stands : List ℕ → Monitor → ℕ → Type 0
 Stands file f grade = LassosGraded (morphismOf file) (markingOf file) (valueOf (f .before)) (f .since) grade
 
 -- the names that count on the board that is made are those that counted in the pass
 pub lowest-made : {b next : Board} {files made : List ℕ} {step : Step} {leaver grade : ℕ}
-    → ((i : ℕ) → i < namesCount → presentAt next i ≡ true → (monitorAt next i .since ≡ noValue → ⊥)
+    → ((i : ℕ) → i < boardNamesCount → presentAt next i ≡ true → (monitorAt next i .since ≡ noValue → ⊥)
     → (presentAt b i ≡ true) × ((i ≡ leaver → ⊥) × ((monitorAt next i ≡ movedAt b files step i) × (fileAt made i ≡ fileAt files i))))
-    → ((i : ℕ) → i < namesCount → presentAt b i ≡ true → (i ≡ leaver → ⊥)
+    → ((i : ℕ) → i < boardNamesCount → presentAt b i ≡ true → (i ≡ leaver → ⊥)
     → (presentAt next i ≡ true) × ((monitorAt next i ≡ movedAt b files step i) × (fileAt made i ≡ fileAt files i)))
-    → LowestBelow b files step leaver namesCount grade → LowestGrade next made grade
+    → LowestBelow b files step leaver boardNamesCount grade → LowestGrade next made grade
 lowest-made {b} {next} {files} {made} {step} {leaver} {grade} there back l = record {
   lowest = λ i h c. l .lowest i h (c .named) (counts i h c);
   attained = ⊎-elim (λ e. inl e) (λ s. inr (record { name = s .name; counts = counting (s .name) grade (s .named) (s .counts) })) (l .attained);
@@ -47,7 +47,7 @@ lowest-made {b} {next} {files} {made} {step} {leaver} {grade} there back l = rec
           graded = subst (λ (f : Monitor). Stands (fileAt files i) f h) (k .1 .1 .0) (subst (λ (file : List ℕ). Stands file (monitorAt next i) h) (k .1 .1 .1) (c .graded));
         }
 
-    counting : (i h : ℕ) → i < namesCount → Counts b files step leaver i h → Counting next made i h
+    counting : (i h : ℕ) → i < boardNamesCount → Counts b files step leaver i h → Counting next made i h
     counting i h named c =
         let k = back i named (c .there) (c .stays) in
         record {
@@ -59,17 +59,17 @@ lowest-made {b} {next} {files} {made} {step} {leaver} {grade} there back l = rec
 
 module _ {b : Board} (whole : Whole b) {files : List ℕ} where
   -- after a step of all
-  pub lowest-moved : {step : Step} {grade : ℕ} → LowestBelow b files step namesCount namesCount grade → LowestGrade (movedBelow files step b namesCount) files grade
+  pub lowest-moved : {step : Step} {grade : ℕ} → LowestBelow b files step boardNamesCount boardNamesCount grade → LowestGrade (movedBelow files step b boardNamesCount) files grade
   lowest-moved {step} l =
       lowest-made
-      (λ i named present since. let p = flags-same i present in (p, ((λ e. omega arith), (moved-monitor files step whole namesCount i named named p, refl))))
-      (λ i named present stays. (subst (λ (flags : List Bool). getD flags i false ≡ true) (sym (moved-flags files step b namesCount)) present, (moved-monitor files step whole namesCount i named named present, refl))) l
+      (λ i named present since. let p = flags-same i present in (p, ((λ e. omega arith), (moved-monitor files step whole boardNamesCount i named named p, refl))))
+      (λ i named present stays. (subst (λ (flags : List Bool). getD flags i false ≡ true) (sym (moved-flags files step b boardNamesCount)) present, (moved-monitor files step whole boardNamesCount i named named present, refl))) l
     where
-      flags-same : (i : ℕ) → presentAt (movedBelow files step b namesCount) i ≡ true → presentAt b i ≡ true
-      flags-same i present = subst (λ (flags : List Bool). getD flags i false ≡ true) (moved-flags files step b namesCount) present
+      flags-same : (i : ℕ) → presentAt (movedBelow files step b boardNamesCount) i ≡ true → presentAt b i ≡ true
+      flags-same i present = subst (λ (flags : List Bool). getD flags i false ≡ true) (moved-flags files step b boardNamesCount) present
 
   -- without the leaver
-  pub lowest-left : {name grade : ℕ} → name < namesCount → LowestBelow b files Stay name namesCount grade → LowestGrade (withLeft b name) files grade
+  pub lowest-left : {name grade : ℕ} → name < boardNamesCount → LowestBelow b files Stay name boardNamesCount grade → LowestGrade (withLeft b name) files grade
   lowest-left {name} h l =
       lowest-made
       (λ i named present since. let other = not-leaver i present in (sym (getD-set-other (b .present) name i false false other) ∙ present, (other, (refl, refl))))
@@ -81,9 +81,9 @@ module _ {b : Board} (whole : Whole b) {files : List ℕ} where
           let z : _≡_ {A = ℕ} 0 1 = cc in
           omega arith
 
-  -- with a rule that entered under a name that was free; a fresh follower does not count
-  pub lowest-entered : {name grade : ℕ} {made : List ℕ} → name < namesCount → presentAt b name ≡ false → ((i : ℕ) → i < namesCount → (i ≡ name → ⊥) → fileAt made i ≡ fileAt files i)
-      → LowestBelow b files Stay namesCount namesCount grade → LowestGrade (withEntered b name) made grade
+  -- with a rule that entered under a name that was free; a fresh monitor does not count
+  pub lowest-entered : {name grade : ℕ} {made : List ℕ} → name < boardNamesCount → presentAt b name ≡ false → ((i : ℕ) → i < boardNamesCount → (i ≡ name → ⊥) → fileAt made i ≡ fileAt files i)
+      → LowestBelow b files Stay boardNamesCount boardNamesCount grade → LowestGrade (withEntered b name) made grade
   lowest-entered {name} {grade} {made} h free kept l =
       lowest-made
       (λ i named present since. let other = not-fresh i since in

@@ -1,5 +1,5 @@
-// The harbour board: up to eight strong rules that enter and leave while events go on, each with its follower, and the lowest grade that their
-// followers stand for. It stands above the library and sees only its public calls. The board goes in and comes back by value; the files are
+// The harbour board: up to eight strong rules that enter and leave while events go on, each with its monitor, and the lowest grade that their
+// monitors stand for. It stands above the library and sees only its public calls. The board goes in and comes back by value; the files are
 // lent, that of name i from byte 16,404·i on. Every call goes over all names once, with one library call for each that is present.
 use board_answers::Pass;
 use board_answers::after_leaving;
@@ -27,7 +27,7 @@ ghost use mathlib.Core.Path.{_≡_};
 ghost use Prim.Native.Nat.{_≤_};
 ghost use lib.ListN.{length};
 ghost use Rattle.board_promises.specs.Boards.{filesSize};
-ghost use Rattle.board_promises.specs.Promises.{EnterPromise, LeavePromise, EventPromise, MarkPromise};
+ghost use Rattle.board_promises.specs.Promises.{EnterPromise, LeavePromise, BoardEventPromise, BoardMarkPromise};
 ghost use Rattle.board_pass.specs.Passes.{Cleared};
 ghost use Rattle.board.specs.Calls.{StepPromise, Admitted};
 
@@ -44,13 +44,13 @@ fn move_all(board: Board, step: Step, files: &[u8], scratch: &mut [u8]) -> Poste
 }
 
 pub fn event(board: Board, letter: u8, files: &[u8], scratch: &mut [u8]) -> Posted
-    ensures { λ r. ⌜ EventPromise board letter (now (files .entry)) (now (scratch .entry)) (now (scratch .exit)) r ⌝ }
+    ensures { λ r. ⌜ BoardEventPromise board letter (now (files .entry)) (now (scratch .entry)) (now (scratch .exit)) r ⌝ }
 {
     move_all(board, Step::Event(letter), files, scratch)
 }
 
 pub fn mark(board: Board, files: &[u8], scratch: &mut [u8]) -> Posted
-    ensures { λ r. ⌜ MarkPromise board (now (files .entry)) (now (scratch .entry)) (now (scratch .exit)) r ⌝ }
+    ensures { λ r. ⌜ BoardMarkPromise board (now (files .entry)) (now (scratch .entry)) (now (scratch .exit)) r ⌝ }
 {
     move_all(board, Step::Mark, files, scratch)
 }
@@ -70,7 +70,7 @@ pub fn leave(board: Board, name: usize, files: &[u8], scratch: &mut [u8]) -> Pos
     after_leaving(board, name, pass)
 }
 
-// A pass that goes on to the file that enters: its own checks and its strength. A fresh follower stands for nothing, so that no grade comes
+// A pass that goes on to the file that enters: its own checks and its strength. A fresh monitor stands for nothing, so that no grade comes
 // of it.
 fn admit(board: Board, name: usize, file: &[u8], files: &[u8], scratch: &mut [u8]) -> Pass
     requires { ⌜ filesSize ≤ length (now files) ⌝ }

@@ -8,11 +8,11 @@ use Rattle.promises.specs.declared.Monitor.{Monitor}
 use Rattle.promises.specs.declared.Advanced.{Advanced}
 use Rattle.promises.specs.declared.Advanced.the-variants.{To, Refused}
 use Rattle.board_answers.specs.declared.Pass.{Pass}
-use Rattle.board_answers.specs.Answers.{Counted, FoundForeign, withRefusal, RefusalTold, Told}
+use Rattle.board_answers.specs.Answers.{GradeCounted, FoundForeign, withRefusal, RefusalTold, Told}
 
 module _ {answer : Advanced} (p r : Pass) where
   module _ (leaver i : ℕ) where
-    pub told-to : {g : Monitor} {grade turns : ℕ} → answer ≡ To g grade turns → Counted leaver i p g grade r → Told leaver i p answer r
+    pub told-to : {g : Monitor} {grade turns : ℕ} → answer ≡ To g grade turns → GradeCounted leaver i p g grade r → Told leaver i p answer r
     told-to e k = subst (λ (a : Advanced). Told leaver i p a r) (sym e) k
 
     pub told-refused : {g : Monitor} {refusal : Refusal} {input place : ℕ} → answer ≡ Refused g refusal input place → RefusalTold i p refusal input place r → Told leaver i p answer r

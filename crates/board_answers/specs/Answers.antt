@@ -13,7 +13,7 @@ use Rattle.board_promises.specs.declared.Board.{Board}
 use Rattle.board_promises.specs.declared.Notice.{Notice}
 use Rattle.board_promises.specs.declared.Notice.the-variants.{Done, Refused}
 use Rattle.board_promises.specs.declared.Posted.{Posted}
-use Rattle.board_promises.specs.Boards.{namesCount, withMonitor, withLowest}
+use Rattle.board_promises.specs.Boards.{boardNamesCount, withMonitor, withLowest}
 use Rattle.board_answers.specs.declared.Pass.{Pass}
 
 -- a notice is of a refusal, or not
@@ -33,7 +33,7 @@ pub record LowestWith (leaver i lowest grade r : ℕ) : Type 0 where
   pub staying : (i ≡ leaver → ⊥) → Lesser lowest grade r
 
 -- what a library call's answer for a name makes of a pass
-pub record Counted (leaver i : ℕ) (p : Pass) (g : Monitor) (grade : ℕ) (r : Pass) : Type 0 where
+pub record GradeCounted (leaver i : ℕ) (p : Pass) (g : Monitor) (grade : ℕ) (r : Pass) : Type 0 where
   pub done : r .notice ≡ Done
   pub moved : r .next ≡ withMonitor (p .next) i g
   pub lowest : LowestWith leaver i (p .lowest) grade (r .lowest)
@@ -56,7 +56,7 @@ pub record RefusalTold (i : ℕ) (p : Pass) (refusal : Refusal) (input place : �
   pub other : (numberOf refusal ≡ numberOf UnknownLetter → ⊥) → r ≡ withRefusal p refusal input place
 
 abbrev pub Told : ℕ → ℕ → Pass → Advanced → Pass → Type 0
-Told leaver i p (To g grade turns) r = Counted leaver i p g grade r
+Told leaver i p (To g grade turns) r = GradeCounted leaver i p g grade r
 Told leaver i p (Refused-answer g refusal input place) r = RefusalTold i p refusal input place r
 
 -- what the library's answer for the file that enters makes of a pass
@@ -72,5 +72,5 @@ pub data PassAnswer (b next : Board) (p : Pass) (r : Posted) : Type 0 where
 -- and one that found the step foreign is refused after everybody's checks
 pub data StepAnswer (b : Board) (p : Pass) (r : Posted) : Type 0 where
   step-refuses : (p .notice ≡ Done → ⊥) → r ≡ record { board = b; notice = p .notice } → StepAnswer b p r
-  step-foreign : p .notice ≡ Done → p .foreign < namesCount → r ≡ record { board = b; notice = Refused UnknownLetter (p .foreign) 0 } → StepAnswer b p r
-  step-done : p .notice ≡ Done → namesCount ≤ p .foreign → r ≡ record { board = withLowest (p .next) (p .lowest); notice = Done } → StepAnswer b p r
+  step-foreign : p .notice ≡ Done → p .foreign < boardNamesCount → r ≡ record { board = b; notice = Refused UnknownLetter (p .foreign) 0 } → StepAnswer b p r
+  step-done : p .notice ≡ Done → boardNamesCount ≤ p .foreign → r ≡ record { board = withLowest (p .next) (p .lowest); notice = Done } → StepAnswer b p r

@@ -8,10 +8,10 @@ use rules::Refusal;
 use rules::number;
 ghost use mathlib.Core.Path.{_≡_};
 ghost use Prim.Native.Nat.{_<_};
-ghost use Rattle.board_promises.specs.Boards.{namesCount, withLowest, withLeft};
+ghost use Rattle.board_promises.specs.Boards.{boardNamesCount, withLowest, withLeft};
 ghost use Rattle.board_answers.specs.Answers.{RefusesAnswer, Lesser, LowestWith, withRefusal, RefusalTold, Told, EntryTold, PassAnswer, StepAnswer};
 
-// How far a pass over the names has come: the followers moved so far, the lowest grade so far, the lowest name that the step is foreign to, 8
+// How far a pass over the names has come: the monitors moved so far, the lowest grade so far, the lowest name that the step is foreign to, 8
 // where there is none, and the first refusal.
 pub struct Pass {
     pub next: Board,
@@ -88,7 +88,7 @@ fn told_refusal(i: usize, pass: Pass, refusal: Refusal, input: usize, place: usi
 
 // What the library's answer for a name makes of a pass.
 pub fn told(leaver: usize, i: usize, pass: Pass, answer: Advanced) -> Pass
-    requires { ⌜ i < namesCount ⌝ }
+    requires { ⌜ i < boardNamesCount ⌝ }
     ensures { λ r. ⌜ Told leaver i pass answer r ⌝ }
 {
     let mut next = pass.next;
@@ -170,7 +170,7 @@ pub fn after_step(board: Board, pass: Pass) -> Posted
 
 // A board without the name that leaves, whose grade the pass has not counted.
 pub fn after_leaving(board: Board, name: usize, pass: Pass) -> Posted
-    requires { ⌜ name < namesCount ⌝ }
+    requires { ⌜ name < boardNamesCount ⌝ }
     ensures { λ r. ⌜ PassAnswer board (withLowest (withLeft board name) (pass .lowest)) pass r ⌝ }
 {
     let notice = pass.notice;

@@ -17,7 +17,7 @@ use Rattle.promises.specs.Histories.{Action, sinceWord, beforeWord}
 use Rattle.promises.specs.Advance.{noGrade}
 use Rattle.promises.proofs.MonitorValues.{value-none, value-element}
 use Rattle.board_promises.specs.declared.Board.{Board}
-use Rattle.board_promises.specs.Boards.{namesCount, monitorAt, Counting, SomeCounting}
+use Rattle.board_promises.specs.Boards.{boardNamesCount, monitorAt, Counting, SomeCounting}
 use Rattle.board_histories.specs.Histories.{Deed, Standing, nobody, stands, standing, CountsAnew, GradeAnew}
 use Rattle.board_histories.proofs.Standing.{Present, Holds, holds-nobody, holds-rule, BoardAgrees, not-both}
 
@@ -91,7 +91,7 @@ module _ {b : Board} {files : List ℕ} {log : List Deed} (a : BoardAgrees b fil
   }
 
   -- a rule that has heard an event since its last mark has a grade, so that the board's is not none
-  pub grade-heard : {i : ℕ} {file : List ℕ} {history : List Action} → i < namesCount → standing log i ≡ stands file history → 0 < length (sinceWord history) → b .lowest < noGrade
+  pub grade-heard : {i : ℕ} {file : List ℕ} {history : List Action} → i < boardNamesCount → standing log i ≡ stands file history → 0 < length (sinceWord history) → b .lowest < noGrade
   grade-heard {i} {file} {history} h e some =
       let p : Present b files i file history = present-of (subst (Holds b files i) e (a .names .holds i h)) in
       let l : Lasso (lettersOf file) (beforeWord history) (sinceWord history) =

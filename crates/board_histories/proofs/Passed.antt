@@ -19,16 +19,16 @@ use Rattle.promises.specs.Moves.{loneLetterCheck}
 use Rattle.board_promises.specs.declared.Board.{Board}
 use Rattle.board_promises.specs.declared.Notice.{Notice}
 use Rattle.board_promises.specs.declared.Notice.the-variants.{Done}
-use Rattle.board_promises.specs.Boards.{namesCount, filesSize, fileAt, presentAt}
-use Rattle.board_promises.specs.Checks.{buffersChecks, freeCheck, allChecks, letterChecks, lettersChecks, enterChecks, eventChecks}
-use Rattle.board_promises.specs.Promises.{noticeVerdict, BoardBecomes, HandsBack}
+use Rattle.board_promises.specs.Boards.{boardNamesCount, filesSize, fileAt, presentAt}
+use Rattle.board_promises.specs.Checks.{buffersChecks, freeCheck, allChecks, letterChecks, lettersChecks, enterChecks, boardEventChecks}
+use Rattle.board_promises.specs.Promises.{noticeVerdict, BoardBecomes, BoardHandsBack}
 
 -- the answer of a call that was not refused
 pub done-passed : {checks : List Check} {notice : Notice} → notice ≡ Done → FirstFailure checks (noticeVerdict notice) → FirstFailure checks passed
 done-passed {checks} done f = subst (λ (n : Notice). FirstFailure checks (noticeVerdict n)) done f
 
-pub done-board : (b next : Board) (files : List ℕ) (board : Board) {notice : Notice} → notice ≡ Done → HandsBack b next files board notice → BoardBecomes next files board
-done-board b next files board done h = subst (HandsBack b next files board) done h
+pub done-board : (b next : Board) (files : List ℕ) (board : Board) {notice : Notice} → notice ≡ Done → BoardHandsBack b next files board notice → BoardBecomes next files board
+done-board b next files board done h = subst (BoardHandsBack b next files board) done h
 
 -- a rule that enters
 module _ (b : Board) (name : ℕ) (file files entry : List ℕ) (all : FirstFailure (enterChecks b name file files entry) passed) where
@@ -41,8 +41,8 @@ module _ (b : Board) (name : ℕ) (file files entry : List ℕ) (all : FirstFail
   pub enter-room : filesSize ≤ length files
   enter-room = let not : length files < filesSize → ⊥ = λ h. passes-head all .nowhere 0 (record { short = h; is-place = refl }) in omega arith
 
-  pub enter-named : name < namesCount
-  enter-named = let not : namesCount ≤ name → ⊥ = λ h. passes-head behind-buffers .nowhere 0 (record { not-free = inl h; is-place = refl }) in omega arith
+  pub enter-named : name < boardNamesCount
+  enter-named = let not : boardNamesCount ≤ name → ⊥ = λ h. passes-head behind-buffers .nowhere 0 (record { not-free = inl h; is-place = refl }) in omega arith
 
   pub enter-checked : FirstFailure (ruleChecks name file) passed
   enter-checked = passed-first (ruleChecks name file) _ own-checks
@@ -75,7 +75,7 @@ module _ (b : Board) (files : List ℕ) (letter : ℕ) where
       (λ (e : i ≡ j). name-letter j (subst (λ (k : ℕ). FirstFailure (letterChecks b files letter k) passed) e (passed-first (letterChecks b files letter i) _ f)) there)
       (λ other. row-letter (suc i) count (passed-last (letterChecks b files letter i) _ f) j (omega arith) (omega arith) there)
 
-  pub event-letter : {entry : List ℕ} → FirstFailure (eventChecks b letter files entry) passed
-      → (i : ℕ) → i < namesCount → presentAt b i ≡ true → letter < lettersOf (fileAt files i)
+  pub event-letter : {entry : List ℕ} → FirstFailure (boardEventChecks b letter files entry) passed
+      → (i : ℕ) → i < boardNamesCount → presentAt b i ≡ true → letter < lettersOf (fileAt files i)
   event-letter {entry} all i named there =
-      row-letter 0 namesCount (passed-last (allChecks b files) _ (passed-last (buffersChecks files entry) _ all)) i (omega arith) (omega arith) there
+      row-letter 0 boardNamesCount (passed-last (allChecks b files) _ (passed-last (buffersChecks files entry) _ all)) i (omega arith) (omega arith) there

@@ -12,9 +12,9 @@ use Rattle.promises.specs.declared.Monitor.{Monitor}
 use Rattle.promises.specs.Monitor.{noValue, valueOf}
 use Rattle.promises.specs.Histories.{Action, Follows}
 use Rattle.board_promises.specs.declared.Board.{Board}
-use Rattle.board_promises.specs.Boards.{namesCount, fileAt, presentAt, monitorAt, withLowest, Counting, SomeCounting, LowestGrade}
+use Rattle.board_promises.specs.Boards.{boardNamesCount, fileAt, presentAt, monitorAt, withLowest, Counting, SomeCounting, LowestGrade}
 use Rattle.board_promises.specs.Promises.{BoardBecomes}
-use Rattle.board_promises.specs.Followers.{Whole}
+use Rattle.board_promises.specs.Monitors.{Whole}
 use Rattle.board_histories.specs.Histories.{Deed, Standing, nobody, stands, standing}
 
 -- a strong rule is present with its file, and its monitor has the values of the history
@@ -32,7 +32,7 @@ pub data Holds (b : Board) (files : List ℕ) (i : ℕ) : Standing → Type 0 wh
 
 pub record NamesAgree (b : Board) (files : List ℕ) (log : List Deed) : Type 0 where
   pub whole : Whole b
-  pub holds : (i : ℕ) → i < namesCount → Holds b files i (standing log i)
+  pub holds : (i : ℕ) → i < boardNamesCount → Holds b files i (standing log i)
 
 -- with the lowest grade
 pub record BoardAgrees (b : Board) (files : List ℕ) (log : List Deed) : Type 0 where
@@ -76,7 +76,7 @@ module _ {b : Board} {files : List ℕ} {b′ : Board} {files′ : List ℕ} whe
   }
 
 -- where that is so of all names, the lowest grade is the same
-pub same-lowest : {b : Board} {files : List ℕ} {b′ : Board} {files′ : List ℕ} {grade : ℕ} → ((i : ℕ) → i < namesCount → SameName b files b′ files′ i)
+pub same-lowest : {b : Board} {files : List ℕ} {b′ : Board} {files′ : List ℕ} {grade : ℕ} → ((i : ℕ) → i < boardNamesCount → SameName b files b′ files′ i)
     → LowestGrade b files grade → LowestGrade b′ files′ grade
 same-lowest {b} {files} {b′} {files′} {grade} same l = record {
   lowest = λ i h c. l .lowest i h (back c);

@@ -22,8 +22,8 @@ use Rattle.promises.specs.Histories.{Action, event, mark, Follows}
 use Rattle.promises.proofs.Histories.{fresh-follows, after-event, after-mark}
 use Rattle.board_promises.specs.declared.Board.{Board}
 use Rattle.board_promises.specs.declared.Notice.the-variants.{Done}
-use Rattle.board_promises.specs.Boards.{namesCount, emptyBoard, fileAt, presentAt, monitorAt, withEntered, withLeft, movedBelow, Counting}
-use Rattle.board_promises.specs.Checks.{enterChecks, eventChecks}
+use Rattle.board_promises.specs.Boards.{boardNamesCount, emptyBoard, fileAt, presentAt, monitorAt, withEntered, withLeft, movedBelow, Counting}
+use Rattle.board_promises.specs.Checks.{enterChecks, boardEventChecks}
 use Rattle.board_promises.specs.Promises.{filesAfterEnter}
 use Rattle.board_promises.proofs.SmallFiles.{whole-file, short-file}
 use Rattle.board_promises.proofs.Slots.{file-placed}
@@ -41,8 +41,8 @@ empty-agrees files = record {
   lowest = record { lowest = λ i h c. absurd (none i h c); attained = inl refl; none = λ e i h c. none i h c };
 }
   where
-    absent : (i : ℕ) → i < namesCount → presentAt emptyBoard i ≡ false
-    absent i h = getD-replicate namesCount i false false h
+    absent : (i : ℕ) → i < boardNamesCount → presentAt emptyBoard i ≡ false
+    absent i h = getD-replicate boardNamesCount i false false h
 
     none : (i h : ℕ) → Counting emptyBoard files i h → ⊥
     none i h c = not-both emptyBoard i (c .there) (absent i (c .named))
@@ -56,7 +56,7 @@ at-name P {x} {y} {i} {name} here elsewhere =
 module _ {b : Board} {files : List ℕ} {log : List Deed} (s : NamesAgree b files log) where
   -- a rule enters, with a fresh monitor
   module _ (name : ℕ) (file entry : List ℕ) (all : FirstFailure (enterChecks b name file files entry) passed) where
-    named : name < namesCount
+    named : name < boardNamesCount
     named = enter-named b name file files entry all
 
     short : length file ≤ ruleSize
@@ -107,12 +107,12 @@ module _ {b : Board} {files : List ℕ} {log : List Deed} (s : NamesAgree b file
 
   -- an event or a mark goes to all present
   module _ (step : Step) (action : Action)
-      (follows : (i : ℕ) → i < namesCount → (file : List ℕ) (history : List Action) → Present b files i file history
+      (follows : (i : ℕ) → i < boardNamesCount → (file : List ℕ) (history : List Action) → Present b files i file history
       → Follows file (afterStep (morphismOf file) (monitorAt b i) step) (action ∷ history)) where
-    same-flag : (i : ℕ) → presentAt (movedBelow files step b namesCount) i ≡ presentAt b i
-    same-flag i = ap (λ (l : List Bool). getD l i false) (moved-flags files step b namesCount)
+    same-flag : (i : ℕ) → presentAt (movedBelow files step b boardNamesCount) i ≡ presentAt b i
+    same-flag i = ap (λ (l : List Bool). getD l i false) (moved-flags files step b boardNamesCount)
 
-    heard : (i : ℕ) → i < namesCount → {x : Standing} → Holds b files i x → Holds (movedBelow files step b namesCount) files i (hears action x)
+    heard : (i : ℕ) → i < boardNamesCount → {x : Standing} → Holds b files i x → Holds (movedBelow files step b boardNamesCount) files i (hears action x)
     unfolding hears
     heard i h (holds-nobody e) = holds-nobody (same-flag i ∙ e)
     heard i h (holds-rule {file} {history} p) = holds-rule (record {
@@ -121,20 +121,20 @@ module _ {b : Board} {files : List ℕ} {log : List Deed} (s : NamesAgree b file
       good = p .good;
       strong = p .strong;
       follows =
-          subst (λ (f : Monitor). Follows file f (action ∷ history)) (sym (moved-monitor files step (s .whole) namesCount i h h (p .there)))
+          subst (λ (f : Monitor). Follows file f (action ∷ history)) (sym (moved-monitor files step (s .whole) boardNamesCount i h h (p .there)))
           (subst (λ (bytes : List ℕ). Follows file (afterStep (morphismOf bytes) (monitorAt b i) step) (action ∷ history)) (sym (p .its-file)) (follows i h file history p));
     })
 
-    move-agrees : NamesAgree (movedBelow files step b namesCount) files (moved action ∷ log)
+    move-agrees : NamesAgree (movedBelow files step b boardNamesCount) files (moved action ∷ log)
     unfolding standing
-    move-agrees = record { whole = moved-whole files step b (s .whole) namesCount; holds = λ i h. heard i h (s .holds i h) }
+    move-agrees = record { whole = moved-whole files step b (s .whole) boardNamesCount; holds = λ i h. heard i h (s .holds i h) }
 
-  pub event-agrees : (letter : ℕ) (entry : List ℕ) → FirstFailure (eventChecks b letter files entry) passed
-      → NamesAgree (movedBelow files (Event letter) b namesCount) files (moved (event letter) ∷ log)
+  pub event-agrees : (letter : ℕ) (entry : List ℕ) → FirstFailure (boardEventChecks b letter files entry) passed
+      → NamesAgree (movedBelow files (Event letter) b boardNamesCount) files (moved (event letter) ∷ log)
   event-agrees letter entry all =
       move-agrees (Event letter) (event letter) (λ i h file history p.
       after-event file (p .good) (p .follows) letter
       (subst (λ (bytes : List ℕ). letter < lettersOf bytes) (p .its-file) (event-letter b files letter all i h (p .there))))
 
-  pub mark-agrees : NamesAgree (movedBelow files Mark b namesCount) files (moved mark ∷ log)
+  pub mark-agrees : NamesAgree (movedBelow files Mark b boardNamesCount) files (moved mark ∷ log)
   mark-agrees = move-agrees Mark mark (λ i h file history p. after-mark file (p .good) (p .follows))

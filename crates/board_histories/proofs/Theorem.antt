@@ -7,8 +7,8 @@ use Rattle.answer.specs.declared.Refusal.{Refusal}
 use Rattle.board_promises.specs.declared.Board.{Board}
 use Rattle.board_promises.specs.declared.Notice.{Notice}
 use Rattle.board_promises.specs.declared.Notice.the-variants.{Done, Refused}
-use Rattle.board_promises.specs.Boards.{namesCount, withEntered}
-use Rattle.board_promises.specs.Promises.{HandsBack, filesAfterEnter}
+use Rattle.board_promises.specs.Boards.{boardNamesCount, withEntered}
+use Rattle.board_promises.specs.Promises.{BoardHandsBack, filesAfterEnter}
 use Rattle.board_histories.specs.Histories.{Deed, entered, FilesKept, BoardRun, begun, entered-by, left-by, event-by, mark-by, enter-refused, leave-refused, event-refused, mark-refused, written-elsewhere, BoardTheorem}
 use Rattle.board_histories.proofs.Passed.{done-passed, done-board}
 use Rattle.board_histories.proofs.Standing.{Holds, NamesAgree, BoardAgrees, SameName, same-holds, same-lowest, board-agrees}
@@ -17,9 +17,9 @@ use Rattle.board_histories.proofs.Anew.{present-of, grade-anew, grade-h
 
 -- a refused call hands the same board back
 refused-agrees : {b : Board} {files : List ℕ} {log : List Deed} (next : Board) (lent : List ℕ) {board : Board} {notice : Notice} {refusal : Refusal} {input place : ℕ}
-    → BoardAgrees b files log → notice ≡ Refused refusal input place → HandsBack b next lent board notice → BoardAgrees board files log
+    → BoardAgrees b files log → notice ≡ Refused refusal input place → BoardHandsBack b next lent board notice → BoardAgrees board files log
 refused-agrees {b} {files} {log} next lent {board} a refused h =
-    subst (λ (c : Board). BoardAgrees c files log) (sym (subst (HandsBack b next lent board) refused h)) a
+    subst (λ (c : Board). BoardAgrees c files log) (sym (subst (BoardHandsBack b next lent board) refused h)) a
 
 -- other bytes were written
 kept-agrees : {b : Board} {files files′ : List ℕ} {log : List Deed} → FilesKept b files files′ → BoardAgrees b files log → BoardAgrees b files′ log
@@ -28,7 +28,7 @@ kept-agrees {b} {files} {files′} k a = record {
   lowest = same-lowest same (a .lowest);
 }
   where
-    same : (i : ℕ) → i < namesCount → SameName b files b files′ i
+    same : (i : ℕ) → i < boardNamesCount → SameName b files b files′ i
     same i h = record { flags = refl; monitors = refl; same-file = k .kept i h }
 
 -- a board that calls have led to agrees with their deeds

@@ -15,8 +15,8 @@ use Rattle.promises.specs.Advance.{noGrade}
 use Rattle.board_promises.specs.declared.Board.{Board}
 use Rattle.board_promises.specs.declared.Notice.the-variants.{Done, Refused}
 use Rattle.board_promises.specs.declared.Posted.{Posted}
-use Rattle.board_promises.specs.Boards.{namesCount, emptyBoard, fileAt, presentAt}
-use Rattle.board_promises.specs.Promises.{EnterPromise, LeavePromise, EventPromise, MarkPromise}
+use Rattle.board_promises.specs.Boards.{boardNamesCount, emptyBoard, fileAt, presentAt}
+use Rattle.board_promises.specs.Promises.{EnterPromise, LeavePromise, BoardEventPromise, BoardMarkPromise}
 
 -- a call that was not refused
 pub data Deed : Type 0 where
@@ -44,7 +44,7 @@ standing (moved action ∷ log) i = hears action (standing log i)
 -- the name counts with a grade: a rule stands there that has heard an event since its last mark, and the lasso of its letters before and since
 -- that mark has the grade by its file
 pub record CountsAnew (log : List Deed) (i grade : ℕ) : Type 0 where
-  pub named : i < namesCount
+  pub named : i < boardNamesCount
   pub file : List ℕ
   pub history : List Action
   pub stands-there : standing log i ≡ stands file history
@@ -63,7 +63,7 @@ pub record GradeAnew (log : List Deed) (grade : ℕ) : Type 0 where
 
 -- "while nobody else writes those bytes": the files of those present are read as they were, and every other byte of the buffer may be any
 pub record FilesKept (b : Board) (files files′ : List ℕ) : Type 0 where
-  pub kept : (i : ℕ) → i < namesCount → presentAt b i ≡ true → fileAt files′ i ≡ fileAt files i
+  pub kept : (i : ℕ) → i < boardNamesCount → presentAt b i ≡ true → fileAt files′ i ≡ fileAt files i
 
 -- a board and files that calls have led to, by what the calls promise, with the deeds. "From an empty board, handed on unaltered, and while nobody else
 -- writes those bytes", "refused ones left out": a refused call may have been lent any other bytes
@@ -74,24 +74,24 @@ pub data BoardRun : Board → List ℕ → List Deed → Type 0 where
   left-by : {b : Board} {name : ℕ} {files entry exit : List ℕ} {log : List Deed} {answer : Posted}
       → BoardRun b files log → LeavePromise b name files entry exit answer → answer .notice ≡ Done → BoardRun (answer .board) files (left name ∷ log)
   event-by : {b : Board} {letter : ℕ} {files entry exit : List ℕ} {log : List Deed} {answer : Posted}
-      → BoardRun b files log → EventPromise b letter files entry exit answer → answer .notice ≡ Done → BoardRun (answer .board) files (moved (event letter) ∷ log)
+      → BoardRun b files log → BoardEventPromise b letter files entry exit answer → answer .notice ≡ Done → BoardRun (answer .board) files (moved (event letter) ∷ log)
   mark-by : {b : Board} {files entry exit : List ℕ} {log : List Deed} {answer : Posted}
-      → BoardRun b files log → MarkPromise b files entry exit answer → answer .notice ≡ Done → BoardRun (answer .board) files (moved mark ∷ log)
+      → BoardRun b files log → BoardMarkPromise b files entry exit answer → answer .notice ≡ Done → BoardRun (answer .board) files (moved mark ∷ log)
   enter-refused : {b : Board} {name : ℕ} {file files lent lent′ entry exit : List ℕ} {log : List Deed} {answer : Posted} {refusal : Refusal} {input place : ℕ}
       → BoardRun b files log → EnterPromise b name file lent lent′ entry exit answer → answer .notice ≡ Refused refusal input place → BoardRun (answer .board) files log
   leave-refused : {b : Board} {name : ℕ} {files lent entry exit : List ℕ} {log : List Deed} {answer : Posted} {refusal : Refusal} {input place : ℕ}
       → BoardRun b files log → LeavePromise b name lent entry exit answer → answer .notice ≡ Refused refusal input place → BoardRun (answer .board) files log
   event-refused : {b : Board} {letter : ℕ} {files lent entry exit : List ℕ} {log : List Deed} {answer : Posted} {refusal : Refusal} {input place : ℕ}
-      → BoardRun b files log → EventPromise b letter lent entry exit answer → answer .notice ≡ Refused refusal input place → BoardRun (answer .board) files log
+      → BoardRun b files log → BoardEventPromise b letter lent entry exit answer → answer .notice ≡ Refused refusal input place → BoardRun (answer .board) files log
   mark-refused : {b : Board} {files lent entry exit : List ℕ} {log : List Deed} {answer : Posted} {refusal : Refusal} {input place : ℕ}
-      → BoardRun b files log → MarkPromise b lent entry exit answer → answer .notice ≡ Refused refusal input place → BoardRun (answer .board) files log
+      → BoardRun b files log → BoardMarkPromise b lent entry exit answer → answer .notice ≡ Refused refusal input place → BoardRun (answer .board) files log
   written-elsewhere : {b : Board} {files files′ : List ℕ} {log : List Deed} → BoardRun b files log → FilesKept b files files′ → BoardRun b files′ log
 
 -- "after every step it equals the grade worked out anew"; the file that a name entered with is the one that stands there; and the grade is none only
 -- where no rule has heard an event since its last mark: each that has has a grade
 pub record BoardTheorem : Type 0 where
   pub grade : (b : Board) (files : List ℕ) (log : List Deed) → BoardRun b files log → GradeAnew log (b .lowest)
-  pub file-stands : (b : Board) (files : List ℕ) (log : List Deed) → BoardRun b files log → (i : ℕ) → i < namesCount → (file : List ℕ) (history : List Action)
+  pub file-stands : (b : Board) (files : List ℕ) (log : List Deed) → BoardRun b files log → (i : ℕ) → i < boardNamesCount → (file : List ℕ) (history : List Action)
       → standing log i ≡ stands file history → fileAt files i ≡ file
-  pub heard : (b : Board) (files : List ℕ) (log : List Deed) → BoardRun b files log → (i : ℕ) → i < namesCount → (file : List ℕ) (history : List Action)
+  pub heard : (b : Board) (files : List ℕ) (log : List Deed) → BoardRun b files log → (i : ℕ) → i < boardNamesCount → (file : List ℕ) (history : List Action)
       → standing log i ≡ stands file history → 0 < length (sinceWord history) → b .lowest < noGrade

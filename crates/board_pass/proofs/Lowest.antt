@@ -14,7 +14,7 @@ use Rattle.promises.specs.Monitor.{noValue, valueOf}
 use Rattle.promises.specs.Advance.{noGrade, MonitorGrade}
 use Rattle.board_promises.specs.declared.Board.{Board}
 use Rattle.board_promises.specs.Boards.{fileAt, presentAt}
-use Rattle.board_promises.specs.Followers.{movedAt}
+use Rattle.board_promises.specs.Monitors.{movedAt}
 use Rattle.board_answers.specs.Answers.{Lesser, LowestWith}
 use Rattle.board_pass.specs.Passes.{Counts, SomeCounts, LowestBelow}
 
@@ -62,7 +62,7 @@ module _ {b : Board} {files : List ℕ} {step : Step} {leaver : ℕ} where
       none = λ e i h named c. omega (arith, lesser .second);
     }
 
-    -- one with the grade that its follower stands for; the leaver's does not count, nor one whose since is none
+    -- one with the grade that its monitor stands for; the leaver's does not count, nor one whose since is none
     pub lowest-with : {grade r : ℕ} → presentAt b count ≡ true
         → ((g : ℕ) → LassosGraded (morphismOf (fileAt files count)) (markingOf (fileAt files count)) (valueOf (movedAt b files step count .before)) (movedAt b files step count .since) g → g ≤ 3)
         → MonitorGrade (fileAt files count) (movedAt b files step count) grade → LowestWith leaver count low grade r → LowestBelow b files step leaver (count + 1) r

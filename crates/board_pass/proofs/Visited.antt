@@ -25,15 +25,15 @@ use Rattle.promises.proofs.NoLetters.{standing-none}
 use Rattle.board_promises.specs.declared.Board.{Board}
 use Rattle.board_promises.specs.declared.Notice.{Notice}
 use Rattle.board_promises.specs.declared.Notice.the-variants.{Done, Refused as Refused-notice}
-use Rattle.board_promises.specs.Boards.{namesCount, fileAt, presentAt, monitorAt, withMonitor, movedBelow}
+use Rattle.board_promises.specs.Boards.{boardNamesCount, fileAt, presentAt, monitorAt, withMonitor, movedBelow}
 use Rattle.board_promises.specs.Checks.{nameChecks, namesChecks}
 use Rattle.board_promises.specs.Promises.{noticeVerdict}
-use Rattle.board_promises.specs.Followers.{movedAt}
+use Rattle.board_promises.specs.Monitors.{movedAt}
 use Rattle.board_promises.proofs.NameRows.{one-more, present-decides, absent-checks}
 use Rattle.board_promises.proofs.SmallFiles.{grade-small}
 use Rattle.board_promises.proofs.Moved.{moved-none, moved-absent, moved-present}
 use Rattle.board_answers.specs.declared.Pass.{Pass}
-use Rattle.board_answers.specs.Answers.{Counted, FoundForeign, RefusalTold, Told}
+use Rattle.board_answers.specs.Answers.{GradeCounted, FoundForeign, RefusalTold, Told}
 use Rattle.board_answers.proofs.Notices.{not-done}
 use Rattle.board_pass.specs.Passes.{Cleared, NoneForeign, FirstForeign, AllKnown, PassAt}
 use Rattle.board_pass.proofs.ClearedScratch.{after-long, call-leaves}
@@ -87,7 +87,7 @@ module _ (b : Board) (files : List ℕ) (step : Step) (leaver : ℕ) {i : ℕ} {
     one-decides f = one-more b files i (passed-before _ _ earlier-passed (present-decides b files i there f))
 
     -- moved and graded
-    module _ {r : Pass} {g : Monitor} {grade : ℕ} (counted : Counted leaver i p g grade r)
+    module _ {r : Pass} {g : Monitor} {grade : ℕ} (counted : GradeCounted leaver i p g grade r)
         (own : FirstFailure (ruleChecks i (fileAt files i) ++ standingChecks i (fileAt files i) (monitorAt b i)) passed)
         (known : ForeignStep (lettersOf (fileAt files i)) step → ⊥) (moved : g ≡ movedAt b files step i) (graded : MonitorGrade (fileAt files i) g grade) where
       pass-counted : PassAt b files step leaver (i + 1) r
@@ -109,7 +109,7 @@ module _ (b : Board) (files : List ℕ) (step : Step) (leaver : ℕ) {i : ℕ} {
 
     -- foreign
     module _ {r : Pass} (found : FoundForeign i p r) (own : FirstFailure (ruleChecks i (fileAt files i) ++ standingChecks i (fileAt files i) (monitorAt b i)) passed)
-        (foreign : ForeignStep (lettersOf (fileAt files i)) step) (named : i < namesCount) where
+        (foreign : ForeignStep (lettersOf (fileAt files i)) step) (named : i < boardNamesCount) where
       is-last : AllKnown b files step leaver i p → r .foreign ≡ i
       is-last k = ⊎-elim (λ (e : r .foreign ≡ p .foreign). omega (arith, k .unfound, found .foreign .second)) (λ (e : r .foreign ≡ i). e) (found .foreign .either)
 
@@ -126,7 +126,7 @@ module _ (b : Board) (files : List ℕ) (step : Step) (leaver : ℕ) {i : ℕ} {
       }
 
     -- refused: by one of its own checks, or by the step's, whose number none of those has
-    module _ {r : Pass} {number : Refusal} {input place : ℕ} (named : i < namesCount) (t : RefusalTold i p number input place r) where
+    module _ {r : Pass} {number : Refusal} {input place : ℕ} (named : i < boardNamesCount) (t : RefusalTold i p number input place r) where
       own-refused : FirstFailure (ruleChecks i (fileAt files i) ++ standingChecks i (fileAt files i) (monitorAt b i)) (refused number input place)
           → PassAt b files step leaver (i + 1) r
       own-refused f =
@@ -146,7 +146,7 @@ module _ (b : Board) (files : List ℕ) (step : Step) (leaver : ℕ) {i : ℕ} {
           let found = step-refused i (lettersOf (fileAt files i)) step f in
           pass-foreign (t .foreign (found .0)) own (found .1) named
 
-    pub pass-told : {entry exit : List ℕ} {r : Pass} → i < namesCount → scratchSize ≤ length entry → (answer : Advanced)
+    pub pass-told : {entry exit : List ℕ} {r : Pass} → i < boardNamesCount → scratchSize ≤ length entry → (answer : Advanced)
         → AdvancePromise i (fileAt files i) (monitorAt b i) step entry exit answer → Told leaver i p answer r → PassAt b files step leaver (i + 1) r
     pass-told named room (To g grade turns) a t =
         let all = after-long room (a .refusal) in
@@ -157,7 +157,7 @@ module _ (b : Board) (files : List ℕ) (step : Step) (leaver : ℕ) {i : ℕ} {
         pass-refuses named t (first-of (ruleChecks i (fileAt files i) ++ standingChecks i (fileAt files i) (monitorAt b i)) _ (after-long room (a .refusal)))
 
     -- the scratch that the call is lent is zeros, and stays so
-    pub pass-asked : {file : List ℕ} {f : Monitor} {entry exit : List ℕ} {r : Pass} → file ≡ fileAt files i → f ≡ monitorAt b i → i < namesCount → Cleared entry → (answer : Advanced)
+    pub pass-asked : {file : List ℕ} {f : Monitor} {entry exit : List ℕ} {r : Pass} → file ≡ fileAt files i → f ≡ monitorAt b i → i < boardNamesCount → Cleared entry → (answer : Advanced)
         → AdvancePromise i file f step entry exit answer → Told leaver i p answer r → PassAt b files step leaver (i + 1) r × (exit ≡ entry)
     pass-asked {f = f} {entry} {exit} ef em named clear answer a t = (
       pass-told named (clear .room) answer
@@ -166,7 +166,7 @@ module _ (b : Board) (files : List ℕ) (step : Step) (leaver : ℕ) {i : ℕ} {
     )
 
 -- a pass that begins, and one that has come to the end
-pub pass-begun : (b : Board) (files : List ℕ) (step : Step) (leaver : ℕ) → PassAt b files step leaver 0 (record { next = b; lowest = noGrade; foreign = namesCount; notice = Done })
+pub pass-begun : (b : Board) (files : List ℕ) (step : Step) (leaver : ℕ) → PassAt b files step leaver 0 (record { next = b; lowest = noGrade; foreign = boardNamesCount; notice = Done })
 unfolding namesChecks
 pass-begun b files step leaver = record {
   refusal = none-left;
@@ -178,5 +178,5 @@ pass-begun b files step leaver = record {
   });
 }
 
-pub pass-ended : {b : Board} {files : List ℕ} {step : Step} {leaver i : ℕ} {p : Pass} → PassAt b files step leaver i p → namesCount ≤ i → i ≤ namesCount → PassAt b files step leaver namesCount p
-pass-ended {b} {files} {step} {leaver} {i} {p} pass low high = subst (λ (n : ℕ). PassAt b files step leaver n p) (let z : i ≡ namesCount = omega arith in z) pass
+pub pass-ended : {b : Board} {files : List ℕ} {step : Step} {leaver i : ℕ} {p : Pass} → PassAt b files step leaver i p → boardNamesCount ≤ i → i ≤ boardNamesCount → PassAt b files step leaver boardNamesCount p
+pass-ended {b} {files} {step} {leaver} {i} {p} pass low high = subst (λ (n : ℕ). PassAt b files step leaver n p) (let z : i ≡ boardNamesCount = omega arith in z) pass

@@ -14,8 +14,8 @@ use Rattle.promises.specs.Monitor.{noValue, valueOf}
 use Rattle.promises.specs.Advance.{ForeignStep, noGrade}
 use Rattle.board_promises.specs.declared.Board.{Board}
 use Rattle.board_promises.specs.declared.Notice.the-variants.{Done}
-use Rattle.board_promises.specs.Boards.{namesCount, fileAt, presentAt, movedBelow}
-use Rattle.board_promises.specs.Followers.{movedAt}
+use Rattle.board_promises.specs.Boards.{boardNamesCount, fileAt, presentAt, movedBelow}
+use Rattle.board_promises.specs.Monitors.{movedAt}
 use Rattle.board_promises.specs.Checks.{namesChecks}
 use Rattle.board_promises.specs.Promises.{noticeVerdict}
 use Rattle.board_answers.specs.declared.Pass.{Pass}
@@ -57,7 +57,7 @@ pub record FirstForeign (b : Board) (files : List ℕ) (step : Step) (count i : 
 
 -- a pass that has found the step foreign to none
 pub record AllKnown (b : Board) (files : List ℕ) (step : Step) (leaver count : ℕ) (p : Pass) : Type 0 where
-  pub unfound : p .foreign ≡ namesCount
+  pub unfound : p .foreign ≡ boardNamesCount
   pub known : NoneForeign b files step count
   pub moved : p .next ≡ movedBelow files step b count
   pub lowest : LowestBelow b files step leaver count (p .lowest)

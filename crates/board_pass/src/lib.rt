@@ -14,12 +14,12 @@ use rules::file_part;
 ghost use mathlib.Core.Path.{_≡_};
 ghost use Prim.Native.Nat.{_+_, _≤_, _<_};
 ghost use lib.ListN.{length};
-ghost use Rattle.board_promises.specs.Boards.{namesCount, filesSize, fileAt};
+ghost use Rattle.board_promises.specs.Boards.{boardNamesCount, filesSize, fileAt};
 ghost use Rattle.board_pass.specs.Passes.{Cleared, PassAt};
 
 // The file of a name.
 fn file_of(files: &[u8], i: usize) -> &[u8]
-    requires { ⌜ i < namesCount ⌝ }
+    requires { ⌜ i < boardNamesCount ⌝ }
     requires { ⌜ filesSize ≤ length (now files) ⌝ }
     ensures { λ r. ⌜ now r ≡ fileAt (now (files .entry)) i ⌝ }
 {
@@ -38,7 +38,7 @@ fn visit(
     files: &[u8],
     scratch: &mut [u8],
 ) -> Pass
-    requires { ⌜ i < namesCount ⌝ }
+    requires { ⌜ i < boardNamesCount ⌝ }
     requires { ⌜ filesSize ≤ length (now files) ⌝ }
     requires { ⌜ Cleared (now scratch) ⌝ }
     requires { ⌜ PassAt board (now files) step leaver i pass ⌝ }
@@ -61,7 +61,7 @@ fn visit(
 pub fn visit_all(board: Board, step: Step, leaver: usize, files: &[u8], scratch: &mut [u8]) -> Pass
     requires { ⌜ filesSize ≤ length (now files) ⌝ }
     requires { ⌜ Cleared (now scratch) ⌝ }
-    ensures pass { λ r. ⌜ PassAt board (now (files .entry)) step leaver namesCount r ⌝ }
+    ensures pass { λ r. ⌜ PassAt board (now (files .entry)) step leaver boardNamesCount r ⌝ }
     ensures scratch { λ r. ⌜ now (scratch .exit) ≡ now (scratch .entry) ⌝ }
 {
     let mut pass = Pass {

@@ -1,4 +1,4 @@
--- The board after a step of the first names: who is present stays, and each of those has the follower that the step makes. Assumes nothing.
+-- The board after a step of the first names: who is present stays, and each of those has the monitor that the step makes. Assumes nothing.
 use Prim.Native.Nat.{ℕ, zero, suc, _+_, _<_}
 use mathlib.Core.Path.{_≡_, refl, sym, ap, ap₂, _∙_}
 use mathlib.Core.Bool.{Bool, true, false, cond}
@@ -14,7 +14,7 @@ use Rattle.promises.specs.declared.Step.{Step}
 use Rattle.promises.specs.Monitor.{noValue}
 use Rattle.board_promises.specs.declared.Board.{Board}
 use Rattle.board_promises.specs.Boards.{presentAt, monitorAt, withMonitor, movedBelow}
-use Rattle.board_promises.specs.Followers.{Whole, movedAt}
+use Rattle.board_promises.specs.Monitors.{Whole, movedAt}
 
 module _ (files : List ℕ) (step : Step) (b : Board) where
   -- by whether the name is present
@@ -55,7 +55,7 @@ module _ (files : List ℕ) (step : Step) (b : Board) where
     sinces = part-kept (λ (c : Board). length (c .since)) (λ c i f. length-set (c .since) i (f .since)) count ∙ w .sinces;
   }
 
--- a follower, by its values
+-- a monitor, by its values
 monitor-is : {f g : Monitor} → f .before ≡ g .before → f .since ≡ g .since → f ≡ g
 monitor-is {f} {g} p q = ap₂ monitor p q
   where
@@ -70,7 +70,7 @@ pub monitor-read : {b : Board} → Whole b → {i : ℕ} → i < 8 → record { 
 monitor-read {b} w {i} h =
     monitor-is (default-any (b .before) i noValue 0 (omega (arith, w .befores))) (default-any (b .since) i noValue 0 (omega (arith, w .sinces)))
 
--- the follower that a name is given, and those of the others
+-- the monitor that a name is given, and those of the others
 pub set-here : {b : Board} → Whole b → {i : ℕ} → i < 8 → (f : Monitor) → monitorAt (withMonitor b i f) i ≡ f
 set-here {b} w {i} h f =
     monitor-is {f = monitorAt (withMonitor b i f) i} {g = f} (getD-set-same (b .before) i (f .before) noValue (omega (arith, w .befores)))

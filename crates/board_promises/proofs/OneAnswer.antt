@@ -20,10 +20,10 @@ use Rattle.board_promises.specs.declared.Board.{Board}
 use Rattle.board_promises.specs.declared.Notice.{Notice}
 use Rattle.board_promises.specs.declared.Notice.the-variants.{Done, Refused}
 use Rattle.board_promises.specs.declared.Posted.{Posted}
-use Rattle.board_promises.specs.Boards.{namesCount, fileAt, presentAt, monitorAt, withLowest, withEntered, withLeft, movedBelow, LowestGrade}
-use Rattle.board_promises.specs.Checks.{NotFreeAt, NotPresentAt, nameChecks, namesChecks, letterChecks, lettersChecks, enterChecks, leaveChecks, eventChecks, markChecks}
+use Rattle.board_promises.specs.Boards.{boardNamesCount, fileAt, presentAt, monitorAt, withLowest, withEntered, withLeft, movedBelow, LowestGrade}
+use Rattle.board_promises.specs.Checks.{NotFreeAt, NotPresentAt, nameChecks, namesChecks, letterChecks, lettersChecks, enterChecks, leaveChecks, boardEventChecks, boardMarkChecks}
 use Rattle.board_promises.specs.OneAnswers.{BoardOneAnswers}
-use Rattle.board_promises.specs.Promises.{noticeVerdict, HandsBack, filesAfterEnter, EnterPromise, LeavePromise, EventPromise, MarkPromise}
+use Rattle.board_promises.specs.Promises.{noticeVerdict, BoardHandsBack, filesAfterEnter, EnterPromise, LeavePromise, BoardEventPromise, BoardMarkPromise}
 
 -- each check of the calls fails at one place at most
 module _ (b : Board) (files : List ℕ) where
@@ -59,18 +59,18 @@ module _ (b : Board) (files : List ℕ) where
     enter-single : (name : ℕ) (file : List ℕ) → AllSingle (enterChecks b name file files scratch)
     enter-single name file =
         buffer-single (buffer-single (single-cons (single-at (λ place (a : NotFreeAt b name place). a .is-place))
-        (single-append (names-single 0 namesCount)
+        (single-append (names-single 0 boardNamesCount)
         (single-append (rule-single name file) (single-cons (single-at (λ place (a : WeakAt _ place). a .is-place)) single-nil)))))
 
     leave-single : (name : ℕ) → AllSingle (leaveChecks b name files scratch)
     leave-single name =
-        buffer-single (buffer-single (single-cons (single-at (λ place (a : NotPresentAt b name place). a .is-place)) (names-single 0 namesCount)))
+        buffer-single (buffer-single (single-cons (single-at (λ place (a : NotPresentAt b name place). a .is-place)) (names-single 0 boardNamesCount)))
 
-    event-single : (letter : ℕ) → AllSingle (eventChecks b letter files scratch)
-    event-single letter = buffer-single (buffer-single (single-append (names-single 0 namesCount) (letters-single letter 0 namesCount)))
+    event-single : (letter : ℕ) → AllSingle (boardEventChecks b letter files scratch)
+    event-single letter = buffer-single (buffer-single (single-append (names-single 0 boardNamesCount) (letters-single letter 0 boardNamesCount)))
 
-    mark-single : AllSingle (markChecks b files scratch)
-    mark-single = buffer-single (buffer-single (names-single 0 namesCount))
+    mark-single : AllSingle (boardMarkChecks b files scratch)
+    mark-single = buffer-single (buffer-single (names-single 0 boardNamesCount))
 
 -- a board has one lowest grade
 one-lowest : {b : Board} {files : List ℕ} {g h : ℕ} → LowestGrade b files g → LowestGrade b files h → g ≡ h
@@ -91,14 +91,14 @@ posted b n = record { board = b; notice = n }
 
 -- and hand back one board
 module _ (b next : Board) (files : List ℕ) where
-  same-board : (board board′ : Board) (n : Notice) → HandsBack b next files board n → HandsBack b next files board′ n → board ≡ board′
+  same-board : (board board′ : Board) (n : Notice) → BoardHandsBack b next files board n → BoardHandsBack b next files board′ n → board ≡ board′
   same-board board board′ Done p q = p .becomes ∙ ap (withLowest next) (one-lowest (p .grade) (q .grade)) ∙ sym (q .becomes)
   same-board board board′ (Refused refusal input place) p q = p ∙ sym q
 
-  same-answer : (r r′ : Posted) → r .notice ≡ r′ .notice → HandsBack b next files (r .board) (r .notice) → HandsBack b next files (r′ .board) (r′ .notice) → r ≡ r′
+  same-answer : (r r′ : Posted) → r .notice ≡ r′ .notice → BoardHandsBack b next files (r .board) (r .notice) → BoardHandsBack b next files (r′ .board) (r′ .notice) → r ≡ r′
   unfolding posted
   same-answer r r′ e p q =
-      ap₂ posted (same-board (r .board) (r′ .board) (r .notice) p (subst (HandsBack b next files (r′ .board)) (sym e) q)) e
+      ap₂ posted (same-board (r .board) (r′ .board) (r .notice) p (subst (BoardHandsBack b next files (r′ .board)) (sym e) q)) e
 
 module _ {b : Board} {files entry exit exit′ : List ℕ} {r r′ : Posted} where
   module _ {name : ℕ} (p : LeavePromise b name files entry exit r) (q : LeavePromise b name files entry exit′ r′) where
@@ -108,16 +108,16 @@ module _ {b : Board} {files entry exit exit′ : List ℕ} {r r′ : Posted} whe
     pub one-leave-scratch : exit ≡ exit′
     one-leave-scratch = p .scratch ∙ sym (q .scratch)
 
-  module _ {letter : ℕ} (p : EventPromise b letter files entry exit r) (q : EventPromise b letter files entry exit′ r′) where
+  module _ {letter : ℕ} (p : BoardEventPromise b letter files entry exit r) (q : BoardEventPromise b letter files entry exit′ r′) where
     pub one-event : r ≡ r′
-    one-event = same-answer b (movedBelow files (Event letter) b namesCount) files r r′ (same-notice (r .notice) (r′ .notice) (one-verdict (event-single b files entry letter) (p .refusal) (q .refusal))) (p .board) (q .board)
+    one-event = same-answer b (movedBelow files (Event letter) b boardNamesCount) files r r′ (same-notice (r .notice) (r′ .notice) (one-verdict (event-single b files entry letter) (p .refusal) (q .refusal))) (p .board) (q .board)
 
     pub one-event-scratch : exit ≡ exit′
     one-event-scratch = p .scratch ∙ sym (q .scratch)
 
-  module _ (p : MarkPromise b files entry exit r) (q : MarkPromise b files entry exit′ r′) where
+  module _ (p : BoardMarkPromise b files entry exit r) (q : BoardMarkPromise b files entry exit′ r′) where
     pub one-mark : r ≡ r′
-    one-mark = same-answer b (movedBelow files Mark b namesCount) files r r′ (same-notice (r .notice) (r′ .notice) (one-verdict (mark-single b files entry) (p .refusal) (q .refusal))) (p .board) (q .board)
+    one-mark = same-answer b (movedBelow files Mark b boardNamesCount) files r r′ (same-notice (r .notice) (r′ .notice) (one-verdict (mark-single b files entry) (p .refusal) (q .refusal))) (p .board) (q .board)
 
     pub one-mark-scratch : exit ≡ exit′
     one-mark-scratch = p .scratch ∙ sym (q .scratch)
@@ -132,7 +132,7 @@ module _ {b : Board} {files entry exit exit′ : List ℕ} {r r′ : Posted} whe
     pub one-enter : r ≡ r′
     one-enter =
         same-answer b (withEntered b name) files-exit r r′ enter-notice (p .board)
-        (subst (λ (made : List ℕ). HandsBack b (withEntered b name) made (r′ .board) (r′ .notice)) (sym one-enter-files) (q .board))
+        (subst (λ (made : List ℕ). BoardHandsBack b (withEntered b name) made (r′ .board) (r′ .notice)) (sym one-enter-files) (q .board))
 
     pub one-enter-scratch : exit ≡ exit′
     one-enter-scratch = p .scratch ∙ sym (q .scratch)

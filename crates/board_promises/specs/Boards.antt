@@ -1,4 +1,4 @@
--- The harbour board: who is present, each one's follower, the lowest grade; where the files stand; what the calls make of a board. Document 02,
+-- The harbour board: who is present, each one's monitor, the lowest grade; where the files stand; what the calls make of a board. Document 02,
 -- Job 14. Assumes nothing.
 use Prim.Native.Nat.{ℕ, zero, suc, _*_, _≤_, _<_}
 use mathlib.Core.Path.{_≡_}
@@ -17,8 +17,8 @@ use Rattle.promises.specs.FilePart.{filePart}
 use Rattle.board_promises.specs.declared.Board.{Board}
 
 -- "up to eight strong rules", "under a free name 0 to 7"
-abbrev pub namesCount : ℕ
-namesCount = 8
+abbrev pub boardNamesCount : ℕ
+boardNamesCount = 8
 
 -- "The files stand in a lent 131,232 bytes"
 abbrev pub filesSize : ℕ
@@ -36,15 +36,15 @@ fileAt files i = filePart (slotOf files i)
 abbrev pub presentAt : Board → ℕ → Bool
 presentAt b i = getD (b .present) i false
 
--- the follower of a name
+-- the monitor of a name
 abbrev pub monitorAt : Board → ℕ → Monitor
 monitorAt b i = record { before = getD (b .before) i noValue; since = getD (b .since) i noValue }
 
 -- "an empty board": nobody is present, no grade
 abbrev pub emptyBoard : Board
-emptyBoard = record { present = replicate namesCount false; before = replicate namesCount noValue; since = replicate namesCount noValue; lowest = noGrade }
+emptyBoard = record { present = replicate boardNamesCount false; before = replicate boardNamesCount noValue; since = replicate boardNamesCount noValue; lowest = noGrade }
 
--- a board with another follower of a name, with a name present or not, and with another lowest grade
+-- a board with another monitor of a name, with a name present or not, and with another lowest grade
 abbrev pub withMonitor : Board → ℕ → Monitor → Board
 withMonitor b i f = record { present = b .present; before = set (b .before) i (f .before); since = set (b .since) i (f .since); lowest = b .lowest }
 
@@ -58,7 +58,7 @@ withLowest b grade = record { present = b .present; before = b .before; since = 
 abbrev pub withEntered : Board → ℕ → Board
 withEntered b name = withPresent (withMonitor b name freshMonitor) name true
 
--- "leaving frees the name"; its follower stays where it is, and nobody looks at it
+-- "leaving frees the name"; its monitor stays where it is, and nobody looks at it
 abbrev pub withLeft : Board → ℕ → Board
 withLeft b name = withPresent b name false
 
@@ -69,9 +69,9 @@ movedBelow files step b (suc i) =
     let c = movedBelow files step b i in
     cond (presentAt b i) (withMonitor c i (afterStep (morphismOf (fileAt files i)) (monitorAt b i) step)) c
 
--- a name that counts, with its grade: it is present, its since is not none, and the lassos with its follower's values have the grade
+-- a name that counts, with its grade: it is present, its since is not none, and the lassos with its monitor's values have the grade
 pub record Counting (b : Board) (files : List ℕ) (i grade : ℕ) : Type 0 where
-  pub named : i < namesCount
+  pub named : i < boardNamesCount
   pub there : presentAt b i ≡ true
   pub with-since : monitorAt b i .since ≡ noValue → ⊥
   pub graded : LassosGraded (morphismOf (fileAt files i)) (markingOf (fileAt files i)) (valueOf (monitorAt b i .before)) (monitorAt b i .since) grade

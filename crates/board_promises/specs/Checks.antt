@@ -12,7 +12,7 @@ use Rattle.promises.specs.Weak.{weakCheck}
 use Rattle.promises.specs.Moves.{loneLetterCheck}
 use Rattle.promises.specs.Advance.{standingChecks}
 use Rattle.board_promises.specs.declared.Board.{Board}
-use Rattle.board_promises.specs.Boards.{namesCount, filesSize, fileAt, presentAt, monitorAt}
+use Rattle.board_promises.specs.Boards.{boardNamesCount, filesSize, fileAt, presentAt, monitorAt}
 
 -- "First 13", of both buffers
 abbrev pub buffersChecks : List ℕ → List ℕ → List Check
@@ -20,7 +20,7 @@ buffersChecks files scratch = bufferCheck filesSize files ∷ bufferCheck scratc
 
 -- "21, entering under a name above 7 or taken"; place 0
 pub record NotFreeAt (b : Board) (name place : ℕ) : Type 0 where
-  pub not-free : (namesCount ≤ name) ⊎ (presentAt b name ≡ true)
+  pub not-free : (boardNamesCount ≤ name) ⊎ (presentAt b name ≡ true)
   pub is-place : place ≡ 0
 
 abbrev pub freeCheck : Board → ℕ → Check
@@ -28,13 +28,13 @@ freeCheck b name = record { refusal = NameNotFree; input = 1; Fails = NotFreeAt 
 
 -- "22, leaving a name not there"; place 0
 pub record NotPresentAt (b : Board) (name place : ℕ) : Type 0 where
-  pub not-there : (namesCount ≤ name) ⊎ (presentAt b name ≡ false)
+  pub not-there : (boardNamesCount ≤ name) ⊎ (presentAt b name ≡ false)
   pub is-place : place ≡ 0
 
 abbrev pub presentCheck : Board → ℕ → Check
 presentCheck b name = record { refusal = NameNotPresent; input = 1; Fails = NotPresentAt b name }
 
--- a name that is present: its file, its follower (3), its strength (12), "with the rule's name as input and a place counted from its file's
+-- a name that is present: its file, its monitor (3), its strength (12), "with the rule's name as input and a place counted from its file's
 -- start"
 abbrev pub nameChecks : Board → List ℕ → ℕ → List Check
 nameChecks b files i = cond (presentAt b i) (ruleChecks i (fileAt files i) ++ standingChecks i (fileAt files i) (monitorAt b i)) []
@@ -45,7 +45,7 @@ namesChecks b files i zero = []
 namesChecks b files i (suc count) = nameChecks b files i ++ namesChecks b files (suc i) count
 
 abbrev pub allChecks : Board → List ℕ → List Check
-allChecks b files = namesChecks b files 0 namesCount
+allChecks b files = namesChecks b files 0 boardNamesCount
 
 -- "An event foreign to a rule is refused by 10 .., with its name as input, the lowest if several"
 abbrev pub letterChecks : Board → List ℕ → ℕ → ℕ → List Check
@@ -64,8 +64,8 @@ abbrev pub leaveChecks : Board → ℕ → List ℕ → List ℕ → List Check
 leaveChecks b name files scratch = buffersChecks files scratch ++ presentCheck b name ∷ allChecks b files
 
 -- "refused by 10 after those checks"
-abbrev pub eventChecks : Board → ℕ → List ℕ → List ℕ → List Check
-eventChecks b letter files scratch = buffersChecks files scratch ++ (allChecks b files ++ lettersChecks b files letter 0 namesCount)
+abbrev pub boardEventChecks : Board → ℕ → List ℕ → List ℕ → List Check
+boardEventChecks b letter files scratch = buffersChecks files scratch ++ (allChecks b files ++ lettersChecks b files letter 0 boardNamesCount)
 
-abbrev pub markChecks : Board → List ℕ → List ℕ → List Check
-markChecks b files scratch = buffersChecks files scratch ++ allChecks b files
+abbrev pub boardMarkChecks : Board → List ℕ → List ℕ → List Check
+boardMarkChecks b files scratch = buffersChecks files scratch ++ allChecks b files

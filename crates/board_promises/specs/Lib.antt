@@ -1,5 +1,5 @@
 pub mod Boards
-pub mod Followers
+pub mod Monitors
 pub mod Checks
 pub mod Promises
 pub mod OneAnswers

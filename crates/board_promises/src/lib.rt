@@ -4,7 +4,7 @@ use answer::Refusal;
 // The bytes that the files stand in, as specs/Boards has them.
 pub const FILES_SIZE: usize = 131232;
 
-// Who is present, the two values of each one's follower, and the lowest grade among those whose since is not none, or 4.
+// Who is present, the two values of each one's monitor, and the lowest grade among those whose since is not none, or 4.
 pub struct Board {
     pub present: [bool; 8],
     pub before: [usize; 8],

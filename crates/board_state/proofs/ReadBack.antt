@@ -9,8 +9,8 @@ use native.Mathlib.Nat.{mod-eq-of-lt}
 use lib.ListN.{getD}
 use lib.Dec.{eqb}
 use Rattle.board_promises.specs.declared.Board.{Board}
-use Rattle.board_promises.specs.Boards.{namesCount, emptyBoard}
-use Rattle.board_state.specs.State.{presentByte, beforeByte, sinceByte, boardOf, flagByte, stateOf, stateWith, ByteBoard}
+use Rattle.board_promises.specs.Boards.{boardNamesCount, emptyBoard}
+use Rattle.board_state.specs.State.{presentByte, beforeByte, sinceByte, boardOf, flagByte, boardStateOf, stateWith, ByteBoard}
 use Rattle.board_state.proofs.Filled.{each-at, filled-all}
 use Rattle.board_state.proofs.Stores.{flag-at, before-at, since-at}
 
@@ -18,31 +18,31 @@ flag-read : (there : Bool) → not (eqb (flagByte there) 0) ≡ there
 flag-read true = refl
 flag-read false = refl
 
-pub board-read : (b : Board) → ByteBoard b → boardOf (stateOf b) ≡ b
+pub board-read : (b : Board) → ByteBoard b → boardOf (boardStateOf b) ≡ b
 board-read b p = λ i. record { present = present i; before = before i; since = since i; lowest = lowest i }
   where
-    present : boardOf (stateOf b) .present ≡ b .present
+    present : boardOf (boardStateOf b) .present ≡ b .present
     present =
-        sym (filled-all (presentByte (stateOf b)) false {i = namesCount} (record {
+        sym (filled-all (presentByte (boardStateOf b)) false {i = boardNamesCount} (record {
           whole = p .whole .flags;
           done = λ j h. sym (ap (λ (byte : ℕ). not (eqb byte 0)) (flag-at b j h) ∙ flag-read (getD (b .present) j false));
         }) (omega arith))
 
-    before : boardOf (stateOf b) .before ≡ b .before
+    before : boardOf (boardStateOf b) .before ≡ b .before
     before =
-        sym (filled-all (beforeByte (stateOf b)) 0 {i = namesCount} (record {
+        sym (filled-all (beforeByte (boardStateOf b)) 0 {i = boardNamesCount} (record {
           whole = p .whole .befores;
           done = λ j h. sym (before-at b j h ∙ mod-eq-of-lt (p .before-small j h));
         }) (omega arith))
 
-    since : boardOf (stateOf b) .since ≡ b .since
+    since : boardOf (boardStateOf b) .since ≡ b .since
     since =
-        sym (filled-all (sinceByte (stateOf b)) 0 {i = namesCount} (record {
+        sym (filled-all (sinceByte (boardStateOf b)) 0 {i = boardNamesCount} (record {
           whole = p .whole .sinces;
           done = λ j h. sym (since-at b j h ∙ mod-eq-of-lt (p .since-small j h));
         }) (omega arith))
 
-    lowest : boardOf (stateOf b) .lowest ≡ b .lowest
+    lowest : boardOf (boardStateOf b) .lowest ≡ b .lowest
     lowest = mod-eq-of-lt (p .lowest-small)
 
 -- from the front of longer bytes too

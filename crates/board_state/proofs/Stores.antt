@@ -9,20 +9,20 @@ use lib.ListN.{length, getD, set, drop, length-set, length-append, length-drop, 
 use lib.Seq.{getD-set-same, getD-set-other, getD-append-add, getD-drop, ext-getD}
 use Rattle.finite.proofs.Numbers.{Compared, lesser, level, greater, compared}
 use Rattle.board_promises.specs.declared.Board.{Board}
-use Rattle.board_promises.specs.Boards.{namesCount}
-use Rattle.board_state.specs.State.{stateSize, flagByte, stateOf, stateWith}
+use Rattle.board_promises.specs.Boards.{boardNamesCount}
+use Rattle.board_state.specs.State.{stateSize, flagByte, boardStateOf, stateWith}
 use Rattle.board_state.proofs.Filled.{each-below}
 
 -- the bytes of a name
 module _ (b : Board) where
-  pub flag-at : (i : ℕ) → i < namesCount → getD (stateOf b) (3 * i) 0 ≡ flagByte (getD (b .present) i false)
-  flag-at = each-below (λ (i : ℕ). getD (stateOf b) (3 * i) 0 ≡ flagByte (getD (b .present) i false)) refl refl refl refl refl refl refl refl
+  pub flag-at : (i : ℕ) → i < boardNamesCount → getD (boardStateOf b) (3 * i) 0 ≡ flagByte (getD (b .present) i false)
+  flag-at = each-below (λ (i : ℕ). getD (boardStateOf b) (3 * i) 0 ≡ flagByte (getD (b .present) i false)) refl refl refl refl refl refl refl refl
 
-  pub before-at : (i : ℕ) → i < namesCount → getD (stateOf b) (3 * i + 1) 0 ≡ getD (b .before) i 0 % 256
-  before-at = each-below (λ (i : ℕ). getD (stateOf b) (3 * i + 1) 0 ≡ getD (b .before) i 0 % 256) refl refl refl refl refl refl refl refl
+  pub before-at : (i : ℕ) → i < boardNamesCount → getD (boardStateOf b) (3 * i + 1) 0 ≡ getD (b .before) i 0 % 256
+  before-at = each-below (λ (i : ℕ). getD (boardStateOf b) (3 * i + 1) 0 ≡ getD (b .before) i 0 % 256) refl refl refl refl refl refl refl refl
 
-  pub since-at : (i : ℕ) → i < namesCount → getD (stateOf b) (3 * i + 2) 0 ≡ getD (b .since) i 0 % 256
-  since-at = each-below (λ (i : ℕ). getD (stateOf b) (3 * i + 2) 0 ≡ getD (b .since) i 0 % 256) refl refl refl refl refl refl refl refl
+  pub since-at : (i : ℕ) → i < boardNamesCount → getD (boardStateOf b) (3 * i + 2) 0 ≡ getD (b .since) i 0 % 256
+  since-at = each-below (λ (i : ℕ). getD (boardStateOf b) (3 * i + 2) 0 ≡ getD (b .since) i 0 % 256) refl refl refl refl refl refl refl refl
 
 -- three stores in a row
 module _ (s : List ℕ) (k x y z : ℕ) where
@@ -79,14 +79,14 @@ place i j = from-first (compared j (3 * i))
 -- the bytes of the first names are written, the others stay
 pub record Written (b : Board) (state₀ state : List ℕ) (count : ℕ) : Type 0 where
   pub same-length : length state ≡ length state₀
-  pub front : (j : ℕ) → j < 3 * count → getD state j 0 ≡ getD (stateOf b) j 0
+  pub front : (j : ℕ) → j < 3 * count → getD state j 0 ≡ getD (boardStateOf b) j 0
   pub rest : (j : ℕ) → 3 * count ≤ j → getD state j 0 ≡ getD state₀ j 0
 
 pub written-none : (b : Board) (state : List ℕ) → Written b state state 0
 written-none b state = record { same-length = refl; front = λ j h. absurd (omega arith); rest = λ j h. refl }
 
 module _ {b : Board} {state₀ state : List ℕ} {i : ℕ} (w : Written b state₀ state i) (room : stateSize ≤ length state₀) where
-  pub written-more : {x y z : ℕ} → i < namesCount → x ≡ flagByte (getD (b .present) i false) → y ≡ getD (b .before) i 0 % 256 → z ≡ getD (b .since) i 0 % 256
+  pub written-more : {x y z : ℕ} → i < boardNamesCount → x ≡ flagByte (getD (b .present) i false) → y ≡ getD (b .before) i 0 % 256 → z ≡ getD (b .since) i 0 % 256
       → Written b state₀ (three state (3 * i) x y z) (i + 1)
   written-more {x} {y} {z} h ex ey ez =
       record {
@@ -98,38 +98,38 @@ module _ {b : Board} {state₀ state : List ℕ} {i : ℕ} (w : Written b state�
       fits : 3 * i + 2 < length state
       fits = omega (arith, w .same-length)
 
-      at : (j : ℕ) → Place i j → j < 3 * (i + 1) → getD (three state (3 * i) x y z) j 0 ≡ getD (stateOf b) j 0
+      at : (j : ℕ) → Place i j → j < 3 * (i + 1) → getD (three state (3 * i) x y z) j 0 ≡ getD (boardStateOf b) j 0
       at j (earlier l) less = three-other state (3 * i) x y z j (λ e. omega arith) (λ e. omega arith) (λ e. omega arith) ∙ w .front j l
       at j (first e) less =
           ap (λ (k : ℕ). getD (three state (3 * i) x y z) k 0) e ∙ three-first state (3 * i) x y z fits ∙ ex ∙ sym (flag-at b i h)
-          ∙ ap (λ (k : ℕ). getD (stateOf b) k 0) (sym e)
+          ∙ ap (λ (k : ℕ). getD (boardStateOf b) k 0) (sym e)
       at j (second e) less =
           ap (λ (k : ℕ). getD (three state (3 * i) x y z) k 0) e ∙ three-second state (3 * i) x y z fits ∙ ey ∙ sym (before-at b i h)
-          ∙ ap (λ (k : ℕ). getD (stateOf b) k 0) (sym e)
+          ∙ ap (λ (k : ℕ). getD (boardStateOf b) k 0) (sym e)
       at j (third e) less =
           ap (λ (k : ℕ). getD (three state (3 * i) x y z) k 0) e ∙ three-third state (3 * i) x y z fits ∙ ez ∙ sym (since-at b i h)
-          ∙ ap (λ (k : ℕ). getD (stateOf b) k 0) (sym e)
+          ∙ ap (λ (k : ℕ). getD (boardStateOf b) k 0) (sym e)
       at j (later l) less = absurd (omega arith)
 
   -- with the lowest grade behind them
-  pub written-all : {z : ℕ} → i ≡ namesCount → z ≡ b .lowest % 256 → set state 24 z ≡ stateWith state₀ b
+  pub written-all : {z : ℕ} → i ≡ boardNamesCount → z ≡ b .lowest % 256 → set state 24 z ≡ stateWith state₀ b
   written-all {z} e ez = ext-getD 0 (set state 24 z) (stateWith state₀ b) lengths (λ j less. at j (compared j 24))
     where
       lengths : length (set state 24 z) ≡ length (stateWith state₀ b)
       lengths =
           length-set state 24 z ∙ w .same-length ∙ sym (add-sub-of-le room)
-          ∙ sym (length-append (stateOf b) (drop stateSize state₀) ∙ ap (λ (k : ℕ). 25 + k) (length-drop stateSize state₀))
+          ∙ sym (length-append (boardStateOf b) (drop stateSize state₀) ∙ ap (λ (k : ℕ). 25 + k) (length-drop stateSize state₀))
 
       reach : (j : ℕ) → 24 < j → 25 + (j - 25) ≡ j
       reach j l = add-sub-of-le (let h : 25 ≤ j = l in h)
 
       at : (j : ℕ) → Compared j 24 → getD (set state 24 z) j 0 ≡ getD (stateWith state₀ b) j 0
       at j (lesser l) =
-          getD-set-other state 24 j z 0 (λ same. omega arith) ∙ w .front j (omega arith) ∙ sym (List·getD-append (stateOf b) (drop stateSize state₀) 0 j (omega arith))
+          getD-set-other state 24 j z 0 (λ same. omega arith) ∙ w .front j (omega arith) ∙ sym (List·getD-append (boardStateOf b) (drop stateSize state₀) 0 j (omega arith))
       at j (level same) =
           ap (λ (k : ℕ). getD (set state 24 z) k 0) same ∙ getD-set-same state 24 z 0 (omega (arith, w .same-length)) ∙ ez
           ∙ ap (λ (k : ℕ). getD (stateWith state₀ b) k 0) (sym same)
       at j (greater l) =
           getD-set-other state 24 j z 0 (λ same. omega arith) ∙ w .rest j (omega arith) ∙ ap (λ (k : ℕ). getD state₀ k 0) (sym (reach j l))
-          ∙ sym (getD-drop 25 state₀ (j - 25) 0) ∙ sym (getD-append-add (stateOf b) (drop stateSize state₀) (j - 25) 0)
+          ∙ sym (getD-drop 25 state₀ (j - 25) 0) ∙ sym (getD-append-add (boardStateOf b) (drop stateSize state₀) (j - 25) 0)
           ∙ ap (λ (k : ℕ). getD (stateWith state₀ b) k 0) (reach j l)

@@ -8,8 +8,8 @@ use lib.Dec.{eqb}
 use Rattle.board_promises.specs.declared.Board.{Board}
 use Rattle.board_promises.specs.declared.Notice.{Notice}
 use Rattle.board_promises.specs.declared.Notice.the-variants.{Done, Refused}
-use Rattle.board_promises.specs.Boards.{namesCount}
-use Rattle.board_promises.specs.Followers.{Whole}
+use Rattle.board_promises.specs.Boards.{boardNamesCount}
+use Rattle.board_promises.specs.Monitors.{Whole}
 
 -- three bytes for each of eight names, and one
 abbrev pub stateSize : ℕ
@@ -40,14 +40,14 @@ flagByte there = cond there 1 0
 abbrev pub bytesOfName : Board → ℕ → List ℕ → List ℕ
 bytesOfName b i rest = flagByte (getD (b .present) i false) ∷ getD (b .before) i 0 % 256 ∷ getD (b .since) i 0 % 256 ∷ rest
 
-abbrev pub stateOf : Board → List ℕ
-stateOf b =
+abbrev pub boardStateOf : Board → List ℕ
+boardStateOf b =
     bytesOfName b 0 (bytesOfName b 1 (bytesOfName b 2 (bytesOfName b 3
     (bytesOfName b 4 (bytesOfName b 5 (bytesOfName b 6 (bytesOfName b 7 (b .lowest % 256 ∷ []))))))))
 
 -- the lent bytes with a board at their front; the others stay
 abbrev pub stateWith : List ℕ → Board → List ℕ
-stateWith state b = stateOf b ++ drop stateSize state
+stateWith state b = boardStateOf b ++ drop stateSize state
 
 -- the lent bytes after a call: a refused one leaves them
 abbrev pub stateAfter : List ℕ → Board → Notice → List ℕ
@@ -57,6 +57,6 @@ stateAfter state b (Refused refusal input place) = state
 -- the boards that bytes can hold: eight entries in each array, every value below 256
 pub record ByteBoard (b : Board) : Type 0 where
   pub whole : Whole b
-  pub before-small : (i : ℕ) → i < namesCount → getD (b .before) i 0 < 256
-  pub since-small : (i : ℕ) → i < namesCount → getD (b .since) i 0 < 256
+  pub before-small : (i : ℕ) → i < boardNamesCount → getD (b .before) i 0 < 256
+  pub since-small : (i : ℕ) → i < boardNamesCount → getD (b .since) i 0 < 256
   pub lowest-small : b .lowest < 256

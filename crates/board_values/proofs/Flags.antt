@@ -5,11 +5,11 @@ use mathlib.Core.Bool.{Bool, true, false}
 use mathlib.Core.Logic.{inr, ⊎-elim}
 use native.Mathlib.Omega.{arith}
 use Rattle.board_promises.specs.declared.Board.{Board}
-use Rattle.board_promises.specs.Boards.{namesCount, presentAt}
+use Rattle.board_promises.specs.Boards.{boardNamesCount, presentAt}
 use Rattle.board_values.specs.Presence.{PresentAnswer}
 
 -- a flag that was read
-pub present-read : (b : Board) (name : ℕ) → name < namesCount → (flag : Bool) → presentAt b name ≡ flag → PresentAnswer b name flag
+pub present-read : (b : Board) (name : ℕ) → name < boardNamesCount → (flag : Bool) → presentAt b name ≡ flag → PresentAnswer b name flag
 present-read b name h true e = (h, e)
 present-read b name h false e = inr e
 
@@ -22,5 +22,5 @@ module _ (b : Board) (name : ℕ) (flag : Bool) where
   said-absent a e = subst (PresentAnswer b name) e a
 
 -- one of the eight names that is not present
-pub absent-of : (b : Board) (name : ℕ) → name < namesCount → PresentAnswer b name false → presentAt b name ≡ false
+pub absent-of : (b : Board) (name : ℕ) → name < boardNamesCount → PresentAnswer b name false → presentAt b name ≡ false
 absent-of b name h a = ⊎-elim (λ l. absurd (let z : ⊥ = omega arith in z)) (λ (e : presentAt b name ≡ false). e) a

@@ -4,11 +4,11 @@ use mathlib.Core.Path.{_≡_, subst}
 use mathlib.Core.Bool.{Bool, true, false, not}
 use mathlib.Core.Logic.{inr}
 use Rattle.board_promises.specs.declared.Board.{Board}
-use Rattle.board_promises.specs.Boards.{namesCount, presentAt}
+use Rattle.board_promises.specs.Boards.{boardNamesCount, presentAt}
 use Rattle.board_values.specs.Presence.{FreeAnswer}
 
 -- a flag that was read
-pub free-read : (b : Board) (name : ℕ) → name < namesCount → (flag : Bool) → presentAt b name ≡ flag → FreeAnswer b name (not flag)
+pub free-read : (b : Board) (name : ℕ) → name < boardNamesCount → (flag : Bool) → presentAt b name ≡ flag → FreeAnswer b name (not flag)
 free-read b name h true e = inr e
 free-read b name h false e = (h, e)
 

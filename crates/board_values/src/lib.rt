@@ -1,10 +1,10 @@
-// Boards by value: an empty one, who is present, the follower of a name, and a board that a rule has entered. It stands above the library and
+// Boards by value: an empty one, who is present, the monitor of a name, and a board that a rule has entered. It stands above the library and
 // sees only its public calls and the board's promises.
 use board_promises::Board;
 use rules::Monitor;
 ghost use mathlib.Core.Path.{_≡_};
 ghost use Prim.Native.Nat.{_<_};
-ghost use Rattle.board_promises.specs.Boards.{namesCount, emptyBoard, monitorAt, withLowest, withEntered};
+ghost use Rattle.board_promises.specs.Boards.{boardNamesCount, emptyBoard, monitorAt, withLowest, withEntered};
 ghost use Rattle.board_values.specs.Presence.{PresentAnswer, FreeAnswer};
 
 // A board where nobody is present.
@@ -41,9 +41,9 @@ pub fn free(board: Board, name: usize) -> bool
     false
 }
 
-// The follower of a name.
+// The monitor of a name.
 pub fn monitor_of(board: Board, i: usize) -> Monitor
-    requires { ⌜ i < namesCount ⌝ }
+    requires { ⌜ i < boardNamesCount ⌝ }
     ensures { λ r. ⌜ r ≡ monitorAt board i ⌝ }
 {
     let before = board.before;
@@ -54,9 +54,9 @@ pub fn monitor_of(board: Board, i: usize) -> Monitor
     }
 }
 
-// A board with a name present and a fresh follower under it.
+// A board with a name present and a fresh monitor under it.
 pub fn with_entered(board: Board, name: usize, lowest: usize) -> Board
-    requires { ⌜ name < namesCount ⌝ }
+    requires { ⌜ name < boardNamesCount ⌝ }
     ensures { λ r. ⌜ r ≡ withLowest (withEntered board name) lowest ⌝ }
 {
     let mut next = board;

@@ -7,7 +7,7 @@ use native.Mathlib.Nat.{not-suc-le-zero, le-antisymm, le-max-left, le-max-right,
 use native.Mathlib.Decide.{ℕ-discrete}
 use native.Mathlib.Omega.{arith}
 use Rattle.finite.proofs.Numbers.{below-cases, le-or-lt}
-use Rattle.buchi.specs.Matrices.{Matrix, SameEntries, OtherEntry, through, greatest, product}
+use Rattle.buchi.specs.Matrices.{Matrix, SameEntries, OtherEntry, entriesThrough, greatest, product}
 
 -- ---- what the entries reach
 
@@ -17,14 +17,14 @@ pub record Passes (g x y : ℕ) : Type 0 where
   pub right : 1 ≤ y
   pub either : (g ≤ x) ⊎ (g ≤ y)
 
-pub through-intro : {g x y : ℕ} → Passes g x y → g ≤ through x y
-unfolding through
+pub through-intro : {g x y : ℕ} → Passes g x y → g ≤ entriesThrough x y
+unfolding entriesThrough
 through-intro {x = zero} k = absurd (not-suc-le-zero (k .left))
 through-intro {x = suc x} {y = zero} k = absurd (not-suc-le-zero (k .right))
 through-intro {x = suc x} {y = suc y} k = ⊎-elim (λ h. omega arith) (λ h. omega arith) (k .either)
 
-pub through-elim : {g : ℕ} (x y : ℕ) → 1 ≤ g → g ≤ through x y → Passes g x y
-unfolding through
+pub through-elim : {g : ℕ} (x y : ℕ) → 1 ≤ g → g ≤ entriesThrough x y → Passes g x y
+unfolding entriesThrough
 through-elim zero y some h = absurd (omega arith)
 through-elim (suc x) zero some h = absurd (omega arith)
 through-elim {g} (suc x) (suc y) some h = record {
@@ -67,12 +67,12 @@ pub record Via (n : ℕ) (M N : Matrix) (p q g : ℕ) : Type 0 where
 module _ (n : ℕ) (M N : Matrix) (p q : ℕ) where
   pub product-intro : {g : ℕ} → Via n M N p q g → g ≤ product n M N p q
   unfolding product
-  product-intro k = greatest-intro n (λ r. through (M p r) (N r q)) (record { at = k .r; below = k .inside; enough = through-intro (k .passes) })
+  product-intro k = greatest-intro n (λ r. entriesThrough (M p r) (N r q)) (record { at = k .r; below = k .inside; enough = through-intro (k .passes) })
 
   pub product-elim : {g : ℕ} → 1 ≤ g → g ≤ product n M N p q → Via n M N p q g
   unfolding product
   product-elim some h =
-      let k = greatest-elim n (λ r. through (M p r) (N r q)) some h in
+      let k = greatest-elim n (λ r. entriesThrough (M p r) (N r q)) some h in
       record { r = k .at; inside = k .below; passes = through-elim (M p (k .at)) (N (k .at) q) some (k .enough) }
 
 -- numbers that reach the same numbers above 0

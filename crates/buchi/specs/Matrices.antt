@@ -31,10 +31,10 @@ pub record OtherEntry (n : ℕ) (M N : Matrix) : Type 0 where
   pub other : ¬ (M row column ≡ N row column)
 
 -- the greater of two entries, 0 where one of them is 0
-unfoldable pub through : ℕ → ℕ → ℕ
-through zero y = 0
-through (suc x) zero = 0
-through (suc x) (suc y) = max (suc x) (suc y)
+unfoldable pub entriesThrough : ℕ → ℕ → ℕ
+entriesThrough zero y = 0
+entriesThrough (suc x) zero = 0
+entriesThrough (suc x) (suc y) = max (suc x) (suc y)
 
 -- the greatest of f 0 .. f (n - 1), 0 where there is none
 unfoldable pub greatest : ℕ → (ℕ → ℕ) → ℕ
@@ -44,4 +44,4 @@ greatest (suc n) f = max (f n) (greatest n f)
 -- document 02: "A product of two matrices has at (p, q) the greatest entry among all pairs (p, r) and (r, q) with neither 0, or 0 if
 -- there is no such r."
 unfoldable pub product : ℕ → Matrix → Matrix → Matrix
-product n M N p q = greatest n (λ r. through (M p r) (N r q))
+product n M N p q = greatest n (λ r. entriesThrough (M p r) (N r q))

@@ -38,7 +38,7 @@ use Rattle.promises.specs.Rounds.{mostRounds}
 use Rattle.promises.specs.Reduce.{ruleOf}
 use Rattle.promises.specs.Confirm.{ReducesBy}
 use Rattle.promises.proofs.NotConfirmed.{other-letters, other-length}
-use Rattle.confirm_reduction.specs.Judging.{EachAlone, Judged}
+use Rattle.confirm_reduction.specs.Judging.{EachAlone, MapJudged}
 
 -- blocks of elements that stand together: each byte is its element exactly if each element is alone
 module _ {m : Morphism} {acc : ℕ → ℕ → ℕ} {i : ℕ} {l : List ℕ} (b : BlocksAt (m .size) (Together m acc i) l blocksBase) where
@@ -92,7 +92,7 @@ module _ {first second : List ℕ} {one two : Shape} {entry : List ℕ} (s : Str
     alone-smallest : not alone ≡ false → Smallest (ruleOf second (s .second-good .lawful))
     alone-smallest e = discrete-smallest (ruleOf second (s .second-good .lawful)) (second-grades s) (alone-discrete blocks (files-alone .holds (not-false _ e)))
 
-    pub not-alone : {map : List ℕ} → not alone ≡ true → Judged first second map entry settled false
+    pub not-alone : {map : List ℕ} → not alone ≡ true → MapJudged first second map entry settled false
     not-alone e = record {
       tells = told-no (λ p. files-alone .fails (not-true _ e)
           (discrete-alone blocks (smallest-discrete (ruleOf second (p .second-lawful)) (second-grades s) stable (p .reduced .smallest))));
@@ -101,13 +101,13 @@ module _ {first second : List ℕ} {one two : Shape} {entry : List ℕ} (s : Str
 
 module _ {first second : List ℕ} {one two : Shape} {entry : List ℕ} (map : List ℕ) (s : StrongFiles first second one two entry) where
   -- the counts
-  pub letters-differ : (one .letters ≡ two .letters → ⊥) → Judged first second map entry entry false
+  pub letters-differ : (one .letters ≡ two .letters → ⊥) → MapJudged first second map entry entry false
   letters-differ f = record {
     tells = told-no (other-letters (λ e. f (s .first-shape .letters ∙ e ∙ sym (s .second-shape .letters))));
     same-length = refl;
   }
 
-  pub length-differs : (length map ≡ one .elements → ⊥) → Judged first second map entry entry false
+  pub length-differs : (length map ≡ one .elements → ⊥) → MapJudged first second map entry entry false
   length-differs f = record { tells = told-no (other-length (λ e. f (e ∙ sym (s .first-shape .elements)))); same-length = refl }
 
   -- whether the bytes map the elements
@@ -118,7 +118,7 @@ module _ {first second : List ℕ} {one two : Shape} {entry : List ℕ} (map : L
         subst (λ (m : Morphism). Tells (MapsOnto (morphismOf first) m (λ s. getD map s 0)) mapped) (second-is-too s same)
         (subst (λ (m : Morphism). Tells (MapsOnto m (morphismAt second (two .elements) (one .letters)) (λ s. getD map s 0)) mapped) (first-is s) t)
 
-    pub not-mapped : not mapped ≡ true → Judged first second map entry entry false
+    pub not-mapped : not mapped ≡ true → MapJudged first second map entry entry false
     not-mapped e = record { tells = told-no (λ p. files-mapped .fails (not-true _ e) (p .reduced .maps)); same-length = refl }
 
     module _ (e : not mapped ≡ false) (l : length map ≡ one .elements) {settled : List ℕ} {refined : Refined}
@@ -163,5 +163,5 @@ module _ {first second : List ℕ} {one two : Shape} {entry : List ℕ} (map : L
               ∙ sym (second-grade s r _ _ (maps .inside x hx) (maps .inside z hz));
         }
 
-        pub judged : Judged first second map entry settled kept
+        pub judged : MapJudged first second map entry settled kept
         judged = record { tells = tells-same (kept-reduces, reduces-kept) files-kept; same-length = r .kept .same-length }

@@ -14,6 +14,6 @@ abbrev pub EachAlone : ℕ → List ℕ → Type 0
 EachAlone n scratch = EachBelow (λ s. getD scratch (blocksBase + s) 0 ≡ s) n
 
 -- whether the bytes reduce the first rule to the second; scratch keeps its length
-pub record Judged (first second map entry exit : List ℕ) (answer : Bool) : Type 0 where
+pub record MapJudged (first second map entry exit : List ℕ) (answer : Bool) : Type 0 where
   pub tells : Tells (ReducesBy first second map) answer
   pub same-length : length exit ≡ length entry

@@ -12,7 +12,7 @@ ghost use lib.ListN.{length};
 ghost use Rattle.finite.specs.Tells.{Tells};
 ghost use Rattle.formats.specs.RuleChecks.{scratchSize};
 ghost use Rattle.two_rules.specs.Deciding.{StrongFiles};
-ghost use Rattle.confirm_reduction.specs.Judging.{EachAlone, Judged};
+ghost use Rattle.confirm_reduction.specs.Judging.{EachAlone, MapJudged};
 
 // Whether each of the first n elements is alone in its block.
 fn each_alone(n: usize, scratch: &[u8]) -> bool
@@ -40,7 +40,7 @@ pub fn reduces(
     scratch: &mut [u8],
 ) -> bool
     requires { ⌜ StrongFiles (now first) (now second) one two (now scratch) ⌝ }
-    ensures { λ r. ⌜ Judged (now (first .entry)) (now (second .entry)) (now (map .entry)) (now (scratch .entry)) (now (scratch .exit)) r ⌝ }
+    ensures { λ r. ⌜ MapJudged (now (first .entry)) (now (second .entry)) (now (map .entry)) (now (scratch .entry)) (now (scratch .exit)) r ⌝ }
 {
     let first_letters = one.letters;
     let second_letters = two.letters;

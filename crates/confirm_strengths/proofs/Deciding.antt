@@ -13,7 +13,7 @@ use Rattle.two_rules.proofs.Calling.{first-file-weak, second-file-weak, strong-
 use Rattle.promises.specs.declared.Confirmation.the-variants.{Yes, No, Refused}
 use Rattle.promises.proofs.ConfirmOrder.{weak-fails, strong-passes}
 use Rattle.promises.proofs.NotConfirmed.{second-not-strong}
-use Rattle.confirm_reduction.specs.Judging.{Judged}
+use Rattle.confirm_reduction.specs.Judging.{MapJudged}
 use Rattle.confirm_strengths.specs.Steps.{FilesReady, CheckedPromise}
 
 module _ {first second : List ℕ} {one two : Shape} {scratch : List ℕ} (r : FilesReady first second one two scratch) {decided : List ℕ} (answer : Strengths)
@@ -41,7 +41,7 @@ module _ {first second : List ℕ} {one two : Shape} {scratch : List ℕ} (r : F
     pub strong-place : StrongFiles first second one two decided
     strong-place = strong-files first second (r .entry) (r .checked) d e
 
-    module _ {map exit : List ℕ} {reduced : Bool} (j : Judged first second map decided exit reduced) where
+    module _ {map exit : List ℕ} {reduced : Bool} (j : MapJudged first second map decided exit reduced) where
       pub said-yes : reduced ≡ true → CheckedPromise first second map scratch exit Yes
       said-yes q = record {
         refusal = strong-passes first (strong-place .strong .first-strong);

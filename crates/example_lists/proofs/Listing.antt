@@ -12,13 +12,13 @@ use lib.Dec.{ltb, eqb}
 use lib.ListN.{length, getD, replicate, replicate-append-replicate}
 use Rattle.example_parts.specs.Parts.{upTo, after, partOf}
 use Rattle.example_parts.specs.Digits.{decimalOf}
-use Rattle.example_lists.specs.Lists.{wordProduct, pairProduct, lettersOf, isMark, markBytes, entryBytes, entriesBytes, wordBytes, wordsBytes, listBytes, space, star, lastByte}
-use Rattle.example_lists.specs.Storing.{Stored, Listed}
+use Rattle.example_lists.specs.Lists.{wordProduct, listPairProduct, lettersInSet, isSetMark, setMarkBytes, entryBytes, entriesBytes, wordBytes, wordsBytes, listBytes, space, star, lastByte}
+use Rattle.example_lists.specs.Storing.{Stored, ListStored}
 use Rattle.example_lists.proofs.Storing.{stored-none, stored-more, stored-listed}
 
 -- two words of one of the first five letters
-pub pair-two : {x y : ℕ} → x ≤ 9 → y ≤ 9 → 2 * (6 + (x / 2 * 5 + y / 2)) + (x % 2 + y % 2) % 2 ≡ pairProduct x y
-unfolding pairProduct wordProduct
+pub pair-two : {x y : ℕ} → x ≤ 9 → y ≤ 9 → 2 * (6 + (x / 2 * 5 + y / 2)) + (x % 2 + y % 2) % 2 ≡ listPairProduct x y
+unfolding listPairProduct wordProduct
 pair-two {x} {y} h k = simp (lt-ltb (x / 2) 5 (let l : x / 2 < 5 = omega arith in l), lt-ltb (y / 2) 5 (let l : y / 2 < 5 = omega arith in l))
 
 -- other words
@@ -26,48 +26,48 @@ and-false : (a : Bool) {b : Bool} → b ≡ false → a && b ≡ false
 and-false true e = e
 and-false false e = refl
 
-pub pair-first-other : {x : ℕ} (y : ℕ) → 9 < x → 62 + (x % 2 + y % 2) % 2 ≡ pairProduct x y
-unfolding pairProduct wordProduct
+pub pair-first-other : {x : ℕ} (y : ℕ) → 9 < x → 62 + (x % 2 + y % 2) % 2 ≡ listPairProduct x y
+unfolding listPairProduct wordProduct
 pair-first-other {x} y h = simp (le-ltb (x / 2) 5 (let l : 5 ≤ x / 2 = omega arith in l))
 
-pub pair-second-other : (x : ℕ) {y : ℕ} → 9 < y → 62 + (x % 2 + y % 2) % 2 ≡ pairProduct x y
-unfolding pairProduct wordProduct
+pub pair-second-other : (x : ℕ) {y : ℕ} → 9 < y → 62 + (x % 2 + y % 2) % 2 ≡ listPairProduct x y
+unfolding listPairProduct wordProduct
 pair-second-other x {y} h =
     rw (and-false (ltb (x / 2) 5) (le-ltb (y / 2) 5 (let l : 5 ≤ y / 2 = omega arith in l)))
 
 -- how many letters, bit by bit
-pub letters-sum : (e : ℕ) → lettersOf 6 e ≡ e % 2 + e / 2 % 2 + e / 4 % 2 + e / 8 % 2 + e / 16 % 2 + e / 32 % 2
-unfolding lettersOf
+pub letters-sum : (e : ℕ) → lettersInSet 6 e ≡ e % 2 + e / 2 % 2 + e / 4 % 2 + e / 8 % 2 + e / 16 % 2 + e / 32 % 2
+unfolding lettersInSet
 letters-sum e = simp (div-div-eq-div-mul) (omega arith)
 
 -- a pair that is not marked, for the first reason and for the second
-no-part : (s e : ℕ) → (bitOr s e ≡ s → ⊥) → markBytes s e ≡ []
-unfolding markBytes isMark
+no-part : (s e : ℕ) → (bitOr s e ≡ s → ⊥) → setMarkBytes s e ≡ []
+unfolding setMarkBytes isSetMark
 no-part s e n = simp (ne-eqb (bitOr s e) s n)
 
-odd : (s e : ℕ) → ((e % 2 + e / 2 % 2 + e / 4 % 2 + e / 8 % 2 + e / 16 % 2 + e / 32 % 2) % 2 ≡ 0 → ⊥) → markBytes s e ≡ []
-unfolding markBytes isMark
+odd : (s e : ℕ) → ((e % 2 + e / 2 % 2 + e / 4 % 2 + e / 8 % 2 + e / 16 % 2 + e / 32 % 2) % 2 ≡ 0 → ⊥) → setMarkBytes s e ≡ []
+unfolding setMarkBytes isSetMark
 odd s e n =
     rw (letters-sum e, and-false (eqb (bitOr s e) s) (ne-eqb ((e % 2 + e / 2 % 2 + e / 4 % 2 + e / 8 % 2 + e / 16 % 2 + e / 32 % 2) % 2) 0 n))
 
 -- one that is
 marked : (s e : ℕ) → bitOr s e ≡ s → (e % 2 + e / 2 % 2 + e / 4 % 2 + e / 8 % 2 + e / 16 % 2 + e / 32 % 2) % 2 ≡ 0
-    → markBytes s e ≡ lastByte s ++ (lastByte e ++ lastByte 3)
-unfolding markBytes isMark
+    → setMarkBytes s e ≡ lastByte s ++ (lastByte e ++ lastByte 3)
+unfolding setMarkBytes isSetMark
 marked s e p q =
     simp (eq-eqb (bitOr s e) s p, letters-sum e, eq-eqb ((e % 2 + e / 2 % 2 + e / 4 % 2 + e / 8 % 2 + e / 16 % 2 + e / 32 % 2) % 2) 0 q)
 
 module _ {d : List ℕ} {at : ℕ} (s e : ℕ) where
-  pub unmarked : (bitOr s e ≡ s → ⊥) → at ≤ length d → Stored d at (markBytes s e) d at
+  pub unmarked : (bitOr s e ≡ s → ⊥) → at ≤ length d → Stored d at (setMarkBytes s e) d at
   unmarked n h = rw (no-part s e n) (stored-none h)
 
   pub unmarked-odd : ((e % 2 + e / 2 % 2 + e / 4 % 2 + e / 8 % 2 + e / 16 % 2 + e / 32 % 2) % 2 ≡ 0 → ⊥) → at ≤ length d
-      → Stored d at (markBytes s e) d at
+      → Stored d at (setMarkBytes s e) d at
   unmarked-odd n h = rw (odd s e n) (stored-none h)
 
   pub marked-all : bitOr s e ≡ s → (e % 2 + e / 2 % 2 + e / 4 % 2 + e / 8 % 2 + e / 16 % 2 + e / 32 % 2) % 2 ≡ 0
       → {b c f : List ℕ} {mid last end : ℕ} → Stored d at (lastByte s) b mid → Stored b mid (lastByte e) c last → Stored c last (lastByte 3) f end
-      → Stored d at (markBytes s e) f end
+      → Stored d at (setMarkBytes s e) f end
   marked-all p q t u v = rw (marked s e p q) (stored-more t (stored-more u v))
 
 -- the lists by their names' first letters
@@ -80,11 +80,11 @@ module _ {d e : List ℕ} {at end : ℕ} (letter other x y : ℕ) where
   unfolding entryBytes
   entry-union k s = rw k s
 
-  pub entry-word : letter ≡ 119 → {p : ℕ} → p ≡ pairProduct x y → Stored d at (lastByte p) e end → Stored d at (entryBytes letter other x y) e end
+  pub entry-word : letter ≡ 119 → {p : ℕ} → p ≡ listPairProduct x y → Stored d at (lastByte p) e end → Stored d at (entryBytes letter other x y) e end
   unfolding entryBytes
   entry-word k q s = rw (k, ← q) s
 
-  pub entry-mark : letter ≡ 109 → Stored d at (markBytes x y) e end → Stored d at (entryBytes letter other x y) e end
+  pub entry-mark : letter ≡ 109 → Stored d at (setMarkBytes x y) e end → Stored d at (entryBytes letter other x y) e end
   unfolding entryBytes
   entry-mark k s = rw k s
 
@@ -198,7 +198,7 @@ module _ {list d e : List ℕ} {mid i : ℕ} (s : WordsSoFar list d e mid i) whe
       → WordsSoFar list d f end (i + 1)
   words-more h q t = record { within = omega arith; stored = rw (add-one i, words-suc i list, ← q) (stored-more (s .stored) t) }
 
-  pub words-all : length list ≤ i → {part : List ℕ} → list ≡ part → Listed d (listBytes part) e mid
+  pub words-all : length list ≤ i → {part : List ℕ} → list ≡ part → ListStored d (listBytes part) e mid
   unfolding listBytes
   words-all h q =
       rw (← q)

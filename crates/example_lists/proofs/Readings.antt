@@ -3,8 +3,8 @@ use mathlib.Core.Path.{_≡_, refl}
 use mathlib.Core.List.{List, [], _∷_}
 use Prim.Native.Nat.{ℕ}
 use Rattle.example_parts.specs.Parts.{upTo, after, partOf}
-use Rattle.example_parts.specs.Digits.{withDigits, saturated, decimalOf, numberOf, commandOf}
-use Rattle.example_lists.specs.Lists.{wordProduct, pairProduct, lettersOf, isMark, markBytes, entryBytes, wordBytes, wordsBytes, listBytes}
+use Rattle.example_parts.specs.Digits.{withDigits, saturated, decimalOf, numberInPart, commandOf}
+use Rattle.example_lists.specs.Lists.{wordProduct, listPairProduct, lettersInSet, isSetMark, setMarkBytes, entryBytes, wordBytes, wordsBytes, listBytes}
 
 -- `a: m:12`
 line : List ℕ
@@ -26,7 +26,7 @@ letter : commandOf line ≡ 109
 unfolding line partOf upTo after
 letter = refl
 
-number : numberOf line 2 ≡ 12
+number : numberInPart line 2 ≡ 12
 unfolding line partOf upTo after decimalOf withDigits saturated
 number = refl
 
@@ -44,14 +44,14 @@ unfolding entryBytes
 sum = refl
 
 product : entryBytes 119 0 3 7 ≡ 28 ∷ []
-unfolding entryBytes pairProduct wordProduct
+unfolding entryBytes listPairProduct wordProduct
 product = refl
 
 -- two letters of three are marked, one is not
 even : entryBytes 109 0 7 5 ≡ 7 ∷ 5 ∷ 3 ∷ []
-unfolding entryBytes markBytes isMark lettersOf
+unfolding entryBytes setMarkBytes isSetMark lettersInSet
 even = refl
 
 odd : entryBytes 109 0 7 4 ≡ []
-unfolding entryBytes markBytes isMark lettersOf
+unfolding entryBytes setMarkBytes isSetMark lettersInSet
 odd = refl

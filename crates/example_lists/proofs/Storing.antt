@@ -8,7 +8,7 @@ use native.Mathlib.Decide.{decLe}
 use native.Mathlib.Nat.{add-zero}
 use lib.ListN.{length, take, drop, set, length-set, length-append}
 use lib.Seq.{sets, set-out, length-sets, length-take-le, take-nil}
-use Rattle.example_lists.specs.Storing.{Stored, Listed}
+use Rattle.example_lists.specs.Storing.{Stored, ListStored}
 
 sets-append : (x y d : List ℕ) (i : ℕ) → sets d i (x ++ y) ≡ sets (sets d i x) (i + length x) y
 sets-append [] y d i = ap (λ (k : ℕ). sets d k y) (sym (add-zero i))
@@ -63,7 +63,7 @@ module _ {d : List ℕ} {at : ℕ} {x e : List ℕ} {mid : ℕ} (s : Stored d at
           ∙ sym (sets-out y (sets d at x) (at + length x) (omega (arith, length-sets d at x))))
 
 -- all that was stored from the front on
-pub stored-listed : {d x e : List ℕ} {end : ℕ} → Stored d 0 x e end → Listed d x e end
+pub stored-listed : {d x e : List ℕ} {end : ℕ} → Stored d 0 x e end → ListStored d x e end
 stored-listed {d} {x} s = record { holds = s .holds ∙ sets-front x d; counts = omega (arith, s .ends) }
 
 -- the answer counts bytes of the buffer

@@ -18,21 +18,21 @@ unfoldable pub wordProduct : ℕ → ℕ → ℕ
 wordProduct a b = cond (ltb a 5 && ltb b 5) (6 + (a * 5 + b)) 31
 
 -- the pair of a word and a remainder by 2 is the number 2·word + remainder; words are multiplied and remainders added
-unfoldable pub pairProduct : ℕ → ℕ → ℕ
-pairProduct x y = 2 * wordProduct (x / 2) (y / 2) + (x % 2 + y % 2) % 2
+unfoldable pub listPairProduct : ℕ → ℕ → ℕ
+listPairProduct x y = 2 * wordProduct (x / 2) (y / 2) + (x % 2 + y % 2) % 2
 
 -- how many of the first n letters are in a set that has a bit for each
-unfoldable pub lettersOf : ℕ → ℕ → ℕ
-lettersOf zero set = 0
-lettersOf (suc n) set = set % 2 + lettersOf n (set / 2)
+unfoldable pub lettersInSet : ℕ → ℕ → ℕ
+lettersInSet zero set = 0
+lettersInSet (suc n) set = set % 2 + lettersInSet n (set / 2)
 
 -- a pair of sets of six letters is marked where the second is a part of the first and has an even number of letters
-unfoldable pub isMark : ℕ → ℕ → Bool
-isMark s e = eqb (bitOr s e) s && eqb (lettersOf 6 e % 2) 0
+unfoldable pub isSetMark : ℕ → ℕ → Bool
+isSetMark s e = eqb (bitOr s e) s && eqb (lettersInSet 6 e % 2) 0
 
 -- the bytes of a pair of sets and its grade 3 where it is marked, none where it is not
-unfoldable pub markBytes : ℕ → ℕ → List ℕ
-markBytes s e = cond (isMark s e) (lastByte s ++ (lastByte e ++ lastByte 3)) []
+unfoldable pub setMarkBytes : ℕ → ℕ → List ℕ
+setMarkBytes s e = cond (isSetMark s e) (lastByte s ++ (lastByte e ++ lastByte 3)) []
 
 -- What stands in row x and column y of a list that is known by its name's first letter: the sum by 64 for `s`, the union of two sets
 -- for `u`, the product of two pairs of a word and a remainder for `w`, the mark for `m`. Any other list has one byte everywhere.
@@ -40,8 +40,8 @@ unfoldable pub entryBytes : ℕ → ℕ → ℕ → ℕ → List ℕ
 entryBytes letter other x y =
     cond (eqb letter 115) (lastByte ((x + y) % 64))
     (cond (eqb letter 117) (lastByte (bitOr x y))
-    (cond (eqb letter 119) (lastByte (pairProduct x y))
-    (cond (eqb letter 109) (markBytes x y)
+    (cond (eqb letter 119) (lastByte (listPairProduct x y))
+    (cond (eqb letter 109) (setMarkBytes x y)
     (lastByte other))))
 
 -- the first n entries, row by row, 64 in each

@@ -11,6 +11,6 @@ pub record Stored (before : List ℕ) (at : ℕ) (bytes now : List ℕ) (end : �
   pub ends : end ≡ min (at + length bytes) (length before)
 
 -- the buffer begins with as many of the bytes as it has room for, and goes on as it was; `count` is how many these are
-pub record Listed (before bytes now : List ℕ) (count : ℕ) : Type 0 where
+pub record ListStored (before bytes now : List ℕ) (count : ℕ) : Type 0 where
   pub holds : now ≡ take (length before) bytes ++ drop (length bytes) before
   pub counts : count ≡ min (length bytes) (length before)

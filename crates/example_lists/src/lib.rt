@@ -11,8 +11,8 @@ ghost use lib.ListN.{length};
 ghost use Rattle.io.specs.Counts.{Counts};
 ghost use Rattle.example_parts.specs.Parts.{partOf};
 ghost use Rattle.example_parts.specs.Digits.{decimalOf, colon};
-ghost use Rattle.example_lists.specs.Lists.{lastByte, pairProduct, markBytes, entryBytes, entriesBytes, star, wordBytes, listBytes};
-ghost use Rattle.example_lists.specs.Storing.{Stored, Listed};
+ghost use Rattle.example_lists.specs.Lists.{lastByte, listPairProduct, setMarkBytes, entryBytes, entriesBytes, star, wordBytes, listBytes};
+ghost use Rattle.example_lists.specs.Storing.{Stored, ListStored};
 
 // Stores a number's last byte where there is room for it, and answers the place after it.
 pub fn store(out: &mut [u8], at: usize, byte: usize) -> usize
@@ -28,7 +28,7 @@ pub fn store(out: &mut [u8], at: usize, byte: usize) -> usize
 // The product of two pairs of a word and a remainder by 2. The words are over six letters, the last of which is followed by none and
 // follows none: the letters, 25 words of two, and all that are longer in one, the last.
 fn word_pair(x: usize, y: usize) -> usize
-    ensures { λ r. ⌜ r ≡ pairProduct x y ⌝ }
+    ensures { λ r. ⌜ r ≡ listPairProduct x y ⌝ }
 {
     let parity = (x % 2 + y % 2) % 2;
     if 9 < x {
@@ -44,7 +44,7 @@ fn word_pair(x: usize, y: usize) -> usize
 // and the grade 3.
 fn store_mark(out: &mut [u8], at: usize, s: usize, e: usize) -> usize
     requires { ⌜ at ≤ length (now out) ⌝ }
-    ensures { λ r. ⌜ Stored (now (out .entry)) at (markBytes s e) (now (out .exit)) r ⌝ }
+    ensures { λ r. ⌜ Stored (now (out .entry)) at (setMarkBytes s e) (now (out .exit)) r ⌝ }
 {
     if s | e != s {
         return at;
@@ -119,7 +119,7 @@ fn put(word: &[u8], out: &mut [u8], at: usize) -> usize
 // Reads the list that a part of a line has into bytes, as far as there is room, and answers how many were stored.
 pub fn numbers(line: &[u8], k: usize, out: &mut [u8]) -> usize
     ensures { λ r. ⌜ Counts r (now (out .exit)) ⌝ }
-    ensures { λ r. ⌜ Listed (now (out .entry)) (listBytes (partOf colon k (now (line .entry)))) (now (out .exit)) r ⌝ }
+    ensures { λ r. ⌜ ListStored (now (out .entry)) (listBytes (partOf colon k (now (line .entry)))) (now (out .exit)) r ⌝ }
 {
     let list = part(line, b':', k);
     let mut at = 0;

@@ -33,8 +33,8 @@ abbrev pub colon : ℕ
 colon = 58
 
 -- the number that the part k of a line says
-abbrev pub numberOf : List ℕ → ℕ → ℕ
-numberOf line k = decimalOf (partOf colon k line)
+abbrev pub numberInPart : List ℕ → ℕ → ℕ
+numberInPart line k = decimalOf (partOf colon k line)
 
 -- the first letter of a line's command, after a space; 0 where there is none
 abbrev pub commandOf : List ℕ → ℕ

@@ -5,7 +5,7 @@ ghost use mathlib.Core.Path.{_≡_};
 ghost use Prim.Native.Nat.{_+_, _≤_};
 ghost use lib.ListN.{length, getD, take, drop};
 ghost use Rattle.example_parts.specs.Parts.{upTo, partOf, NextPart};
-ghost use Rattle.example_parts.specs.Digits.{decimalOf, numberOf, commandOf, DigitAdded};
+ghost use Rattle.example_parts.specs.Digits.{decimalOf, numberInPart, commandOf, DigitAdded};
 
 // The place of the next mark from a place on, or the end.
 fn next_mark(text: &[u8], mark: u8, from: usize) -> usize
@@ -100,7 +100,7 @@ pub fn decimal(text: &[u8]) -> usize
 
 // The number that a part of a line has.
 pub fn number(line: &[u8], k: usize) -> usize
-    ensures { λ r. ⌜ r ≡ numberOf (now (line .entry)) k ⌝ }
+    ensures { λ r. ⌜ r ≡ numberInPart (now (line .entry)) k ⌝ }
 {
     decimal(part(line, b':', k))
 }

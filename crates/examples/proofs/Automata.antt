@@ -29,7 +29,7 @@ use Rattle.formats.specs.RuleFile.{morphismOf}
 use Rattle.formats.proofs.Buffers.{buffer-long}
 use Rattle.formats.specs.RuleChecks.{ruleSize, scratchSize}
 use Rattle.formats.proofs.GoodRule.{good-rule, graded-marks, GoodRule}
-use Rattle.formats.specs.AutomatonFile.{statesOf, kindAt, isInitial, isFinal, lettersAt, lettersOf, transitionsAt, transitionsOf, transitionAt, fromOf, letterOf, toOf, isTransition, hasTransition, automatonEnd, tripleBound, statesSection, lettersSection, transitionsSection}
+use Rattle.formats.specs.AutomatonFile.{statesOf, kindAt, isInitial, isFinal, automatonLettersAt, automatonLettersOf, transitionsAt, transitionsOf, transitionAt, fromOf, letterOf, toOf, isTransition, hasTransition, automatonEnd, tripleBound, statesSection, automatonLettersSection, transitionsSection}
 use Rattle.formats.specs.Calls.{scratchLeft}
 use Rattle.formats.specs.AutomatonChecks.{automatonChecks, readChecks}
 use Rattle.automaton_file.proofs.RepeatedOrder.{Fresh, fresh-all}
@@ -49,10 +49,10 @@ use Rattle.promises.specs.Reduce.{ruleOf}
 use Rattle.promises.specs.declared.Written.{Written}
 use Rattle.promises.specs.declared.Written.the-variants.{Rule as Is-translated, Refused}
 use Rattle.promises.specs.Answers.{writtenVerdict, WrittenAnswer}
-use Rattle.promises.specs.Automaton.{automatonOf, RuleOf, translateChecks, RulePromise}
+use Rattle.promises.specs.Automaton.{automatonOf, AutomatonRuleOf, translateChecks, RulePromise}
 use Rattle.promises.proofs.OneTranslation.{rule-one-verdict}
 use Rattle.examples.specs.Files.{automaton}
-use Rattle.examples.specs.Examples.{FileStrong, RuleReducesTo, ReducesTo, Translation, TranslatedTo, AutomatonReducesTo}
+use Rattle.examples.specs.Examples.{FileStrong, RuleReducesTo, ExampleReducesTo, Translation, TranslatedTo, AutomatonReducesTo}
 use Rattle.examples.proofs.Passing.{section-test, section-elim, checks-to}
 use Rattle.examples.proofs.OneElement.{sooner-none}
 use Rattle.formats.proofs.ReadRules.{reads-at-least, reads-strong}
@@ -62,13 +62,13 @@ use Rattle.examples.proofs.Reductions.{reducing, reduces-as, reduces-by
 
 module _ (bytes : List ℕ) where
   abbrev letters-rest : List ℕ
-  letters-rest = drop (lettersAt bytes) bytes
+  letters-rest = drop (automatonLettersAt bytes) bytes
 
   abbrev transitions-rest : List ℕ
   transitions-rest = drop (transitionsAt bytes) bytes
 
   abbrev triples : Section
-  triples = transitionsSection (statesOf bytes) (lettersOf bytes)
+  triples = transitionsSection (statesOf bytes) (automatonLettersOf bytes)
 
   -- the i-th and the j-th transition are the same triple
   unfoldable same-triples : ℕ → ℕ → Bool
@@ -89,27 +89,27 @@ module _ (bytes : List ℕ) where
   unfoldable automaton-test : Bool
   automaton-test =
       section-test statesSection bytes
-      && (section-test lettersSection letters-rest
+      && (section-test automatonLettersSection letters-rest
       && (section-test triples transitions-rest && (leb (length bytes) (automatonEnd bytes) && allBelow (transitionsOf bytes) fresh-test)))
 
   automaton-passes : T automaton-test → FirstFailure (automatonChecks 1 bytes) passed
   unfolding automaton-test automatonChecks
   automaton-passes t =
       let t₁ = T-and-right (section-test statesSection bytes) _ t in
-      let t₂ = T-and-right (section-test lettersSection letters-rest) _ t₁ in
+      let t₂ = T-and-right (section-test automatonLettersSection letters-rest) _ t₁ in
       let t₃ = T-and-right (section-test triples transitions-rest) _ t₂ in
       let ends = leb→le (length bytes) (automatonEnd bytes) (T-and-left (leb (length bytes) (automatonEnd bytes)) _ t₃) in
       let fresh = T-and-right (leb (length bytes) (automatonEnd bytes)) _ t₃ in
       passed-before _ _
       (passed-before _ _ (good-passes statesSection 1 0 bytes (section-elim _ _ (T-and-left (section-test statesSection bytes) _ t)))
-      (passed-before _ _ (good-passes lettersSection 1 (lettersAt bytes) letters-rest (section-elim _ _ (T-and-left (section-test lettersSection letters-rest) _ t₁)))
+      (passed-before _ _ (good-passes automatonLettersSection 1 (automatonLettersAt bytes) letters-rest (section-elim _ _ (T-and-left (section-test automatonLettersSection letters-rest) _ t₁)))
       (good-passes triples 1 (transitionsAt bytes) transitions-rest (section-elim _ _ (T-and-left (section-test triples transitions-rest) _ t₂)))))
       (first-passes (record { nowhere = λ place l. omega (arith, ends, l .longer) })
       (fresh-all 1 (transitionsOf bytes) (record { each = λ j h. fresh-elim j (all-elim (transitionsOf bytes) fresh-test fresh j h) })))
 
 -- opens what the bytes of an automaton file mean, and its tests
 unfoldable opening : Bool
-unfolding reducing testing kindAt isInitial isFinal lettersAt lettersOf transitionsAt transitionsOf transitionAt fromOf letterOf toOf isTransition hasTransition automatonEnd tripleBound same-triples fresh-test automaton-test
+unfolding reducing testing kindAt isInitial isFinal automatonLettersAt automatonLettersOf transitionsAt transitionsOf transitionAt fromOf letterOf toOf isTransition hasTransition automatonEnd tripleBound same-triples fresh-test automaton-test
 opening = true
 
 reads : FirstFailure (automatonChecks 1 automaton) passed
@@ -155,7 +155,7 @@ rule-reduces = reduces-by-model rule M10-reached marks-good strong refl
 matrices : (i : ℕ) → MoreMatrices a i ↔ (i < 3)
 matrices = more-matrices M10-lawful three
 
-module _ {before after : List ℕ} {r : ℕ} (made : RuleOf automaton before after r) where
+module _ {before after : List ℕ} {r : ℕ} (made : AutomatonRuleOf automaton before after r) where
   made-elements : made .morphism .size ≡ 3
   made-elements =
       let more = more-matrices (made .lawful) (made .elements) in
@@ -190,7 +190,7 @@ module _ {before after : List ℕ} {r : ℕ} (made : RuleOf automaton before aft
   file-strong : FileStrong written-file
   file-strong = reads-strong (made .lawful) (made .written .reads-back) (made .strong)
 
-  file-reduces : ReducesTo written-file 2
+  file-reduces : ExampleReducesTo written-file 2
   file-reduces = record {
     lawful = good .lawful;
     reduces = λ law. reduces-as (ruleOf written-file law) (good .reached) (graded-marks good) file-strong (file-same law) (rule-reduces .reduction)
@@ -283,7 +283,7 @@ module _ (before entry : List ℕ) (long : ruleSize ≤ length before) (room : s
   }
 
   module _ (after exit : List ℕ) where
-    of-answer : (answer : Written) → WrittenAnswer (RuleOf automaton before after) before after answer → writtenVerdict answer ≡ passed → TranslatedTo 3 2 before after answer
+    of-answer : (answer : Written) → WrittenAnswer (AutomatonRuleOf automaton before after) before after answer → writtenVerdict answer ≡ passed → TranslatedTo 3 2 before after answer
     of-answer (Is-translated end) made e =
         record {
           end = end;

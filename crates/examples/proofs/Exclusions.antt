@@ -22,7 +22,7 @@ use Rattle.promises.specs.Reduce.{mapSize}
 use Rattle.promises.proofs.Printing.{other-print}
 use Rattle.formats.proofs.GoodRule.{graded-marks}
 use Rattle.theory.proofs.Computing.{lasso-elim, graded-is}
-use Rattle.examples.specs.Examples.{ChecksTo, GradesLasso, RefusesLasso, ConjugateToMark, NotClosed, MarksLinked, ReducesTo, HandsBack, ReducesToBytes, AutomatonReducesTo}
+use Rattle.examples.specs.Examples.{ChecksTo, GradesLasso, RefusesLasso, ConjugateToMark, NotClosed, MarksLinked, ExampleReducesTo, ExampleHandsBack, ReducesToBytes, AutomatonReducesTo}
 use Rattle.examples.proofs.Reading.{reading}
 use Rattle.examples.proofs.Rules.{W-all-good}
 use Rattle.examples.proofs.Examples.{examples}
@@ -92,22 +92,22 @@ linked-without-mark k = k .marks 1 1 (omega arith) (omega arith) .1 (linked-elim
 -- ---- reductions
 
 -- a file reduces to one number of elements
-one-number : {bytes : List ℕ} {n n′ : ℕ} → ReducesTo bytes n → ReducesTo bytes n′ → n ≡ n′
+one-number : {bytes : List ℕ} {n n′ : ℕ} → ExampleReducesTo bytes n → ExampleReducesTo bytes n′ → n ≡ n′
 one-number a b =
     let k = a .reduces (a .lawful) in
     sym (k .elements (k .reduced) (k .reduction)) ∙ b .reduces (a .lawful) .elements (k .reduced) (k .reduction)
 
 -- not the one-element rule for W, and not Z's own elements with letter 0 only
-pub always-one : ¬ ReducesTo W 1
+pub always-one : ¬ ExampleReducesTo W 1
 always-one k = let e : _≡_ {A = ℕ} 1 2 = one-number k (examples .m1 .3) in omega arith
 
-pub copied-table : ¬ ReducesTo Z₀ 2
+pub copied-table : ¬ ExampleReducesTo Z₀ 2
 copied-table k = let e : _≡_ {A = ℕ} 2 1 = one-number k (examples .m7 .3) in omega arith
 
 -- W with all linked pairs marked, copied to out, or mapped to itself
 module _ (before map entry : List ℕ) (long : ruleSize ≤ length before) (map-long : mapSize ≤ length map) (room : scratchSize ≤ length entry) {file moves : List ℕ}
     (k : ReducesToBytes W-all file moves) where
-  handed : HandsBack one-element (0 ∷ 0 ∷ []) before (file ++ drop (length file) before) map (moves ++ drop (length moves) map) entry (replicate (length entry) 0) (Is-rule (length file))
+  handed : ExampleHandsBack one-element (0 ∷ 0 ∷ []) before (file ++ drop (length file) before) map (moves ++ drop (length moves) map) entry (replicate (length entry) 0) (Is-rule (length file))
   handed =
       examples .m4 .1 .exactly _ _ _ _ _ _ _ long map-long room .0
       (k .exactly before (file ++ drop (length file) before) map (moves ++ drop (length moves) map) entry (replicate (length entry) 0) (Is-rule (length file)) long map-long room .1

@@ -20,7 +20,7 @@ use Rattle.promises.specs.Reduce.{ruleOf}
 use Rattle.theory.proofs.SameGrades.{same-self, reductions-size}
 use Rattle.formats.specs.RuleFile.{morphismOf, markingOf}
 use Rattle.examples.specs.Files.{W, Z₀}
-use Rattle.examples.specs.Examples.{FileStrong, RuleReducesTo, ReducesTo}
+use Rattle.examples.specs.Examples.{FileStrong, RuleReducesTo, ExampleReducesTo}
 use Rattle.examples.proofs.Reading.{reading}
 use Rattle.examples.proofs.Rules.{W-good, Z₀-good, W-strong, Z₀-strong}
 
@@ -45,16 +45,16 @@ module _ (r : Rule) (reached : AllReached (r .morphism)) (marks-good : GradedMar
       reduces-as (same-self r) (k .reduction) (k .size-is ∙ e)
 
 -- the same for a file that passes every check
-file-reduces : {bytes : List ℕ} {n : ℕ} → GoodRule bytes → FileStrong bytes → reduced-size (morphismOf bytes) (markingOf bytes) ≡ n → ReducesTo bytes n
+file-reduces : {bytes : List ℕ} {n : ℕ} → GoodRule bytes → FileStrong bytes → reduced-size (morphismOf bytes) (markingOf bytes) ≡ n → ExampleReducesTo bytes n
 file-reduces {bytes} good strong e = record {
   lawful = good .lawful;
   reduces = λ law. reduces-by-model (ruleOf bytes law) (good .reached) (graded-marks good) strong e;
 }
 
-pub W-reduces : ReducesTo W 2
+pub W-reduces : ExampleReducesTo W 2
 unfolding reducing
 W-reduces = file-reduces W-good W-strong refl
 
-pub Z₀-reduces : ReducesTo Z₀ 1
+pub Z₀-reduces : ExampleReducesTo Z₀ 1
 unfolding reducing
 Z₀-reduces = file-reduces Z₀-good Z₀-strong refl

@@ -24,7 +24,7 @@ use Rattle.promises.specs.declared.Written.the-variants.{Rule as Is-rule}
 use Rattle.promises.specs.Reduce.{mapSize, ruleOf, reduceChecks, ReducedTo, reduceLeft, ReducePromise}
 use Rattle.promises.proofs.OneReduction.{one-answer}
 use Rattle.examples.specs.Files.{W-all, one-element}
-use Rattle.examples.specs.Examples.{HandsBack, ReducesToBytes}
+use Rattle.examples.specs.Examples.{ExampleHandsBack, ReducesToBytes}
 use Rattle.examples.proofs.Reading.{reading}
 use Rattle.examples.proofs.Rules.{W-all-passes, W-all-good, W-all-strong}
 use Rattle.examples.proofs.OneElement.{all-marked, one-written, one-by-first-words}
@@ -79,7 +79,7 @@ module _ (before map entry : List ℕ) (long : ruleSize ≤ length before) (map-
         map-written = m;
       }
 
-  promised : {after map′ exit : List ℕ} {answer : Written} → HandsBack one-element moves before after map map′ entry exit answer → ReducePromise W-all before after map map′ entry exit answer
+  promised : {after map′ exit : List ℕ} {answer : Written} → ExampleHandsBack one-element moves before after map map′ entry exit answer → ReducePromise W-all before after map map′ entry exit answer
   promised {after} {map′} {exit} k =
       subst (ReducePromise W-all before after map map′ entry exit) (sym (k .answer-is))
       (record {
@@ -91,7 +91,7 @@ module _ (before map entry : List ℕ) (long : ruleSize ≤ length before) (map-
   -- ---- and nothing else
 
   allowed : {after map′ exit : List ℕ} (answer : Written) → ReducePromise W-all before after map map′ entry exit answer
-      → HandsBack one-element moves before after map map′ entry exit answer
+      → ExampleHandsBack one-element moves before after map map′ entry exit answer
   allowed answer p =
       let q = promised (record { answer-is = refl; stands = record { holds = refl; counts = refl }; map-stands = record { holds = refl; counts = refl }; scratch-is = refl }) in
       let same = one-answer answer (Is-rule (length one-element)) p q in

@@ -75,13 +75,13 @@ pub record RuleReducesTo (r : Rule) (n : ℕ) : Type 0 where
   pub elements : (other : Rule) → Reduction r other → other .morphism .size ≡ n
 
 -- the file means a rule, and this is so of it
-pub record ReducesTo (bytes : List ℕ) (n : ℕ) : Type 0 where
+pub record ExampleReducesTo (bytes : List ℕ) (n : ℕ) : Type 0 where
   pub lawful : Lawful (morphismOf bytes)
   pub reduces : (law : Lawful (morphismOf bytes)) → RuleReducesTo (ruleOf bytes law) n
 
 -- what a call hands back that reduces to the file by the moves: the file's length, out with the file and map with the moves at the front, and
 -- zeros in scratch
-pub record HandsBack (file moves before after map map′ entry exit : List ℕ) (answer : Written) : Type 0 where
+pub record ExampleHandsBack (file moves before after map map′ entry exit : List ℕ) (answer : Written) : Type 0 where
   pub answer-is : answer ≡ Is-rule (length file)
   pub stands : AtFront file before after (length file)
   pub map-stands : AtFront moves map map′ (length moves)
@@ -90,7 +90,7 @@ pub record HandsBack (file moves before after map map′ entry exit : List ℕ) 
 -- with buffers that are long enough, the call's promise allows this and nothing else
 pub record ReducesToBytes (bytes file moves : List ℕ) : Type 0 where
   pub exactly : (before after map map′ entry exit : List ℕ) (answer : Written) → ruleSize ≤ length before → mapSize ≤ length map → scratchSize ≤ length entry
-      → ReducePromise bytes before after map map′ entry exit answer ↔ HandsBack file moves before after map map′ entry exit answer
+      → ReducePromise bytes before after map map′ entry exit answer ↔ ExampleHandsBack file moves before after map map′ entry exit answer
 
 -- an answer to an automaton, with two buffers, that the call's promise allows
 pub record Translation (bytes before entry : List ℕ) : Type 0 where
@@ -108,7 +108,7 @@ pub record TranslatedTo (n c : ℕ) (before after : List ℕ) (answer : Written)
   pub checked : ChecksTo file passed
   pub elements : elementsOf file ≡ n
   pub strong : FileStrong file
-  pub reduces : ReducesTo file c
+  pub reduces : ExampleReducesTo file c
 
 -- an automaton of n matrices, whose rule reduces to c elements
 pub record AutomatonReducesTo (bytes : List ℕ) (n c : ℕ) : Type 0 where
@@ -123,7 +123,7 @@ pub record AutomatonReducesTo (bytes : List ℕ) (n c : ℕ) : Type 0 where
 -- the table
 pub record Examples : Type 0 where
   -- "M1 W has 3 linked pairs, 3 classes, 0 joins, is strong and reduces to 2 elements."
-  pub m1 : ChecksTo W passed × ClassCounts (morphismOf W) 3 3 0 × FileStrong W × ReducesTo W 2
+  pub m1 : ChecksTo W passed × ClassCounts (morphismOf W) 3 3 0 × FileStrong W × ExampleReducesTo W 2
   -- "M2 W accepts u=1, v=0."
   pub m2 : AcceptsLasso W (1 ∷ []) (0 ∷ [])
   -- "M3 W refuses u=0, v=1."
@@ -138,7 +138,7 @@ pub record Examples : Type 0 where
       × (RefusesLasso Z (0 ∷ []) (1 ∷ []) × ValuePair Z (0 ∷ []) (1 ∷ []) 1 0 × ConjugateToMark Z 1 0 0 0)
       × (AcceptsLasso Z (0 ∷ []) (0 ∷ 0 ∷ []) × ValuePair Z (0 ∷ []) (0 ∷ 0 ∷ []) 1 0)
   -- "M7 Z with letter 0 only is strong, though its marks aren't closed, and reduces to 1 element."
-  pub m7 : ChecksTo Z₀ passed × FileStrong Z₀ × NotClosed Z₀ × ReducesTo Z₀ 1
+  pub m7 : ChecksTo Z₀ passed × FileStrong Z₀ × NotClosed Z₀ × ExampleReducesTo Z₀ 1
   -- "M8 table 1 0 / 0 0 is refused by 5 at place 1."
   pub m8 : ChecksTo not-associative (numbered 5 1 1)
   -- "M9 table 0 0 / 0 1 with one letter of image 0: 6 at place 1."

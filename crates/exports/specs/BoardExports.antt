@@ -10,7 +10,7 @@ use Rattle.board_promises.specs.declared.Board.{Board}
 use Rattle.board_promises.specs.declared.Notice.the-variants.{Done}
 use Rattle.board_promises.specs.declared.Posted.{Posted}
 use Rattle.board_promises.specs.Boards.{emptyBoard}
-use Rattle.board_promises.specs.Promises.{EnterPromise, LeavePromise, EventPromise, MarkPromise}
+use Rattle.board_promises.specs.Promises.{EnterPromise, LeavePromise, BoardEventPromise, BoardMarkPromise}
 use Rattle.board_state.specs.State.{stateSize, boardOf, stateAfter}
 use Rattle.packing.specs.Packing.{packRefusal}
 use Rattle.packing_monitors.specs.Monitors.{packNotice}
@@ -46,8 +46,8 @@ ExportedBoardLeave state state-exit name files entry exit r =
 
 abbrev pub ExportedBoardEvent : List ℕ → List ℕ → ℕ → List ℕ → List ℕ → List ℕ → ℕ → Type 0
 ExportedBoardEvent state state-exit letter files entry exit r =
-    ExportedBoardCall (λ b. EventPromise b letter files entry exit) ((state-exit ≡ state) × (exit ≡ entry)) state state-exit r
+    ExportedBoardCall (λ b. BoardEventPromise b letter files entry exit) ((state-exit ≡ state) × (exit ≡ entry)) state state-exit r
 
 abbrev pub ExportedBoardMark : List ℕ → List ℕ → List ℕ → List ℕ → List ℕ → ℕ → Type 0
 ExportedBoardMark state state-exit files entry exit r =
-    ExportedBoardCall (λ b. MarkPromise b files entry exit) ((state-exit ≡ state) × (exit ≡ entry)) state state-exit r
+    ExportedBoardCall (λ b. BoardMarkPromise b files entry exit) ((state-exit ≡ state) × (exit ≡ entry)) state state-exit r

@@ -14,7 +14,7 @@ use Rattle.answer.specs.Checks.{Check, Verdict, refused, passed, FirstFailure}
 use Rattle.answer.proofs.Order.{first-passes, first-fails, none-left}
 use Rattle.promises.specs.declared.Written.{Written}
 use Rattle.promises.specs.declared.Written.the-variants.{Refused}
-use Rattle.temporal_promises.specs.FirstLetter.{inSet, lettersCheck, gradeCheck, ForeignInSetAt, setCheck, firstLetterChecks, constantChecks, FirstLetterPromise, ConstantPromise}
+use Rattle.temporal_promises.specs.FirstLetter.{inSet, letterCountCheck, gradeCheck, ForeignInSetAt, setCheck, firstLetterChecks, constantChecks, FirstLetterPromise, ConstantPromise}
 use Rattle.first_letter_call.specs.Elements.{FirstForeign}
 
 -- a set of 64 bits has no letter from 64 on
@@ -27,13 +27,13 @@ none-beyond {set} {a} h l t =
 -- ---- the checks of both calls
 
 module _ {letters : ℕ} {checks : List Check} where
-  pub letters-few : letters < 1 → FirstFailure (lettersCheck letters ∷ checks) (refused CountOutOfRange 1 0)
-  letters-few h = first-fails (lettersCheck letters) (record { outside = inl h; is-place = refl })
+  pub letters-few : letters < 1 → FirstFailure (letterCountCheck letters ∷ checks) (refused CountOutOfRange 1 0)
+  letters-few h = first-fails (letterCountCheck letters) (record { outside = inl h; is-place = refl })
 
-  pub letters-many : 16 < letters → FirstFailure (lettersCheck letters ∷ checks) (refused CountOutOfRange 1 0)
-  letters-many h = first-fails (lettersCheck letters) (record { outside = inr h; is-place = refl })
+  pub letters-many : 16 < letters → FirstFailure (letterCountCheck letters ∷ checks) (refused CountOutOfRange 1 0)
+  letters-many h = first-fails (letterCountCheck letters) (record { outside = inr h; is-place = refl })
 
-  pub letters-pass : 1 ≤ letters → letters ≤ 16 → {v : Verdict} → FirstFailure checks v → FirstFailure (lettersCheck letters ∷ checks) v
+  pub letters-pass : 1 ≤ letters → letters ≤ 16 → {v : Verdict} → FirstFailure checks v → FirstFailure (letterCountCheck letters ∷ checks) v
   letters-pass some few = first-passes (record { nowhere = λ place a. ⊎-elim (λ h. omega arith) (λ h. omega arith) (a .outside) })
 
 module _ {grade : ℕ} {checks : List Check} where

@@ -4,22 +4,22 @@ use mathlib.Core.Path.{_≡_, refl, sym, subst}
 use mathlib.Core.List.{List}
 use native.Mathlib.Nat.{zero-add}
 use Rattle.answer.specs.Checks.{Check, passed, FirstFailure}
-use Rattle.formats.specs.AutomatonFile.{statesOf, lettersAt, lettersOf, transitionsAt, statesSection, lettersSection, transitionsSection}
-use Rattle.formats.specs.AutomatonChecks.{layoutChecks}
+use Rattle.formats.specs.AutomatonFile.{statesOf, automatonLettersAt, automatonLettersOf, transitionsAt, statesSection, automatonLettersSection, transitionsSection}
+use Rattle.formats.specs.AutomatonChecks.{automatonLayoutChecks}
 use Rattle.formats.proofs.SectionList.{SectionList, last, next, listChecks, GoodAt, AllGood, all-good, after-first}
 
 -- what follows m states
 abbrev pub afterStates : ℕ → SectionList
-afterStates m = next lettersSection (λ k. last (transitionsSection m k))
+afterStates m = next automatonLettersSection (λ k. last (transitionsSection m k))
 
 abbrev pub automatonSections : SectionList
 automatonSections = next statesSection afterStates
 
-pub automaton-list : (input : ℕ) (bytes : List ℕ) → listChecks automatonSections input 0 bytes ≡ layoutChecks input bytes
-unfolding listChecks lettersAt lettersOf transitionsAt
+pub automaton-list : (input : ℕ) (bytes : List ℕ) → listChecks automatonSections input 0 bytes ≡ automatonLayoutChecks input bytes
+unfolding listChecks automatonLettersAt automatonLettersOf transitionsAt
 automaton-list input bytes = simp zero-add refl
 
-module _ (input : ℕ) (bytes : List ℕ) (all : FirstFailure (layoutChecks input bytes) passed) where
+module _ (input : ℕ) (bytes : List ℕ) (all : FirstFailure (automatonLayoutChecks input bytes) passed) where
   good : AllGood automatonSections 0 bytes
   good = all-good automatonSections input 0 bytes (subst (λ (checks : List Check). FirstFailure checks passed) (sym (automaton-list input bytes)) all)
 
@@ -27,13 +27,13 @@ module _ (input : ℕ) (bytes : List ℕ) (all : FirstFailure (layoutChecks inpu
   pub states-good : GoodAt statesSection bytes 0
   states-good = good .0
 
-  others : AllGood (afterStates (statesOf bytes)) (lettersAt bytes) bytes
-  unfolding lettersAt
+  others : AllGood (afterStates (statesOf bytes)) (automatonLettersAt bytes) bytes
+  unfolding automatonLettersAt
   others = after-first statesSection afterStates bytes good
 
-  pub letters-good : GoodAt lettersSection bytes (lettersAt bytes)
+  pub letters-good : GoodAt automatonLettersSection bytes (automatonLettersAt bytes)
   letters-good = others .0
 
-  pub transitions-good : GoodAt (transitionsSection (statesOf bytes) (lettersOf bytes)) bytes (transitionsAt bytes)
-  unfolding transitionsAt lettersOf
+  pub transitions-good : GoodAt (transitionsSection (statesOf bytes) (automatonLettersOf bytes)) bytes (transitionsAt bytes)
+  unfolding transitionsAt automatonLettersOf
   transitions-good = others .1

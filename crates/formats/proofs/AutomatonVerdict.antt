@@ -7,7 +7,7 @@ use Rattle.formats.proofs.SectionList.{list-single}
 use Rattle.formats.proofs.AutomatonSections.{automatonSections, automaton-list}
 use Rattle.formats.proofs.Buffers.{buffer-single}
 use Rattle.formats.specs.AutomatonFile.{transitionsOf}
-use Rattle.formats.specs.AutomatonChecks.{RepeatedAt, repeatedChecks, layoutChecks, automatonChecks, readChecks}
+use Rattle.formats.specs.AutomatonChecks.{RepeatedTransitionAt, repeatedChecks, automatonLayoutChecks, automatonChecks, readChecks}
 use Rattle.formats.specs.RuleChecks.{TrailingAt}
 
 module _ (input : ℕ) (bytes : List ℕ) where
@@ -15,10 +15,10 @@ module _ (input : ℕ) (bytes : List ℕ) where
   repeated-single : (i count : ℕ) → AllSingle (repeatedChecks input bytes i count)
   unfolding repeatedChecks
   repeated-single i zero = single-nil
-  repeated-single i (suc count) = single-cons (single-at (λ place (a : RepeatedAt _ _ place). a .is-place)) (repeated-single (suc i) count)
+  repeated-single i (suc count) = single-cons (single-at (λ place (a : RepeatedTransitionAt _ _ place). a .is-place)) (repeated-single (suc i) count)
 
   -- 1 to 3
-  layout-single : AllSingle (layoutChecks input bytes)
+  layout-single : AllSingle (automatonLayoutChecks input bytes)
   layout-single = subst AllSingle (automaton-list input bytes) (list-single automatonSections input 0 bytes)
 
   -- every check of an automaton file fails at one place at most

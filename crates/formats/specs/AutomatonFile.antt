@@ -29,16 +29,16 @@ unfoldable pub isFinal : List ℕ → ℕ → Bool
 isFinal bytes p = eqb (kindAt bytes p) 2 || eqb (kindAt bytes p) 3
 
 -- the letters' section stands after the states': their count and a byte for each
-unfoldable pub lettersAt : List ℕ → ℕ
-lettersAt bytes = 1 + statesOf bytes
+unfoldable pub automatonLettersAt : List ℕ → ℕ
+automatonLettersAt bytes = 1 + statesOf bytes
 
 -- "a one-byte count of letters"
-unfoldable pub lettersOf : List ℕ → ℕ
-lettersOf bytes = getD bytes (lettersAt bytes) 0
+unfoldable pub automatonLettersOf : List ℕ → ℕ
+automatonLettersOf bytes = getD bytes (automatonLettersAt bytes) 0
 
 -- the transitions' section stands after the letters' count, "with no bytes following it"
 unfoldable pub transitionsAt : List ℕ → ℕ
-transitionsAt bytes = lettersAt bytes + 1
+transitionsAt bytes = automatonLettersAt bytes + 1
 
 -- "a two-byte count of transitions"
 unfoldable pub transitionsOf : List ℕ → ℕ
@@ -77,8 +77,8 @@ abbrev pub statesSection : Section
 statesSection = record { width = one-byte; low = 1; high = 6; entries = λ m. m; floor = λ m i. 0; bound = λ m i. 4 }
 
 -- "a one-byte count of letters, 1 to 16, with no bytes following it"
-abbrev pub lettersSection : Section
-lettersSection = record { width = one-byte; low = 1; high = 16; entries = λ k. 0; floor = λ k i. 0; bound = λ k i. 0 }
+abbrev pub automatonLettersSection : Section
+automatonLettersSection = record { width = one-byte; low = 1; high = 16; entries = λ k. 0; floor = λ k i. 0; bound = λ k i. 0 }
 
 -- "triples (from, letter, to)": what the i-th byte of the triples stays below, k for a letter and m for a state
 unfoldable pub tripleBound : ℕ → ℕ → ℕ → ℕ

@@ -12,7 +12,7 @@ use Rattle.theory.specs.Rules.{Morphism, Lawful}
 use Rattle.theory.proofs.BestConjugates.{bettered-none, bettered-more, so-far-column}
 use Rattle.promises.specs.Classes.{ClassesWritten, classPlace}
 use Rattle.scratch.proofs.Unchanged.{unchanged-none, unchanged-both, unchanged-wider}
-use Rattle.mark_class_numbers.specs.Cells.{numberTable, Stored, Numbered, Begun, Classed, Advanced, Lowest, Lowered}
+use Rattle.mark_class_numbers.specs.Cells.{numberTable, Stored, Numbered, Begun, Classed, CellAdvanced, Lowest, Lowered}
 use Rattle.mark_class_numbers.proofs.Bytes.{two-kept, stored-other, stored-byte, stored-kept}
 use Rattle.mark_class_numbers.proofs.Factors.{numbered-all}
 
@@ -60,7 +60,7 @@ begun-row {m} s {entry} {now} {next} a b =
     subst (λ (to : ℕ). Begun m 0 to entry next) (sym (row-more s (m .size))) (begun-both (omega arith) (omega arith) a b)
 
 -- every pair has its first number
-pub begun-all : {m : Morphism} {entry exit : List ℕ} → Begun m 0 (m .size * m .size) entry exit → Advanced m 0 entry exit
+pub begun-all : {m : Morphism} {entry exit : List ℕ} → Begun m 0 (m .size * m .size) entry exit → CellAdvanced m 0 entry exit
 begun-all b = record {
   classed = record {
     numbers = record { cells = λ s e hs he. b .cells s e he (omega arith) (digits-lt hs he) };
@@ -91,7 +91,7 @@ module _ {m : Morphism} {x e f s : ℕ} {entry now next : List ℕ} {number : �
 -- one pair of factors more, whose products are idempotent: a column was lowered
 pub advanced-lowered : {m : Morphism} {x y e f ee ff : ℕ} {entry exit : List ℕ} → Lawful m → x < m .size → y < m .size → Classed m (x * m .size + y) entry
     → e ≡ m .product x y → f ≡ m .product y x → ee ≡ m .product e e → ee ≡ e → ff ≡ m .product f f → ff ≡ f
-    → Lowered m x e f (m .size) entry exit → Advanced m (x * m .size + (y + 1)) entry exit
+    → Lowered m x e f (m .size) entry exit → CellAdvanced m (x * m .size + (y + 1)) entry exit
 advanced-lowered law hx hy c pe pf q i r j l = record {
   classed = record {
     numbers = so-far-column hx hy (c .numbers) pe pf law q i r j (l .column);
@@ -101,15 +101,15 @@ advanced-lowered law hx hy c pe pf q i r j l = record {
 }
 
 -- passes in a row
-pub advanced-both : {m : Morphism} {a b : ℕ} {entry now next : List ℕ} → Advanced m a entry now → Advanced m b now next → Advanced m b entry next
+pub advanced-both : {m : Morphism} {a b : ℕ} {entry now next : List ℕ} → CellAdvanced m a entry now → CellAdvanced m b now next → CellAdvanced m b entry next
 advanced-both p q = record { classed = q .classed; kept = unchanged-both (p .kept) (q .kept) }
 
-pub advanced-row : {m : Morphism} (x : ℕ) {entry now next : List ℕ} → Advanced m (x * m .size) entry now → Advanced m (x * m .size + m .size) now next
-    → Advanced m ((x + 1) * m .size) entry next
-advanced-row {m} x {entry} {now} {next} a b = subst (λ (count : ℕ). Advanced m count entry next) (sym (row-more x (m .size))) (advanced-both a b)
+pub advanced-row : {m : Morphism} (x : ℕ) {entry now next : List ℕ} → CellAdvanced m (x * m .size) entry now → CellAdvanced m (x * m .size + m .size) now next
+    → CellAdvanced m ((x + 1) * m .size) entry next
+advanced-row {m} x {entry} {now} {next} a b = subst (λ (count : ℕ). CellAdvanced m count entry next) (sym (row-more x (m .size))) (advanced-both a b)
 
 -- all factors were tried: the classes are written
-pub advanced-all : {m : Morphism} {entry exit : List ℕ} → Advanced m (m .size * m .size) entry exit → ClassesWritten m entry exit
+pub advanced-all : {m : Morphism} {entry exit : List ℕ} → CellAdvanced m (m .size * m .size) entry exit → ClassesWritten m entry exit
 unfolding classPlace
 advanced-all {m} {entry} {exit} a = record {
   same-length = a .kept .same-length;

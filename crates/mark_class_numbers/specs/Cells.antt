@@ -58,7 +58,7 @@ pub record Classed (m : Morphism) (count : ℕ) (bytes : List ℕ) : Type 0 wher
   pub bytes-small : (i : ℕ) → i < 2 * (m .size * m .size) → getD bytes i 0 < 256
 
 -- the numbers after factors were tried, and nothing else changed
-pub record Advanced (m : Morphism) (count : ℕ) (entry exit : List ℕ) : Type 0 where
+pub record CellAdvanced (m : Morphism) (count : ℕ) (entry exit : List ℕ) : Type 0 where
   pub classed : Classed m count exit
   pub kept : Kept (m .size) entry exit
 

@@ -8,7 +8,7 @@ ghost use lib.ListN.{length};
 ghost use Rattle.theory.specs.Rules.{Lawful};
 ghost use Rattle.formats.proofs.Tables.{Table};
 ghost use Rattle.formats.specs.Table.{morphismAt};
-ghost use Rattle.mark_class_numbers.specs.Cells.{Loaded, Stored, Numbered, Begun, Classed, Advanced, Lowest, Lowered};
+ghost use Rattle.mark_class_numbers.specs.Cells.{Loaded, Stored, Numbered, Begun, Classed, CellAdvanced, Lowest, Lowered};
 
 // The two-byte number at a place, low byte first.
 pub fn load(out: &[u8], at: usize) -> usize
@@ -61,7 +61,7 @@ pub fn begin(rule: &[u8], n: usize, k: usize, out: &mut [u8])
     requires { ⌜ Table (now rule) n k ⌝ }
     requires { ⌜ Lawful (morphismAt (now rule) n k) ⌝ }
     requires { ⌜ 2 * (n * n) ≤ length (now out) ⌝ }
-    ensures { λ r. ⌜ Advanced (morphismAt (now (rule .entry)) n k) 0 (now (out .entry)) (now (out .exit)) ⌝ }
+    ensures { λ r. ⌜ CellAdvanced (morphismAt (now (rule .entry)) n k) 0 (now (out .entry)) (now (out .exit)) ⌝ }
 {
     for s in 0..n {
         begin_row(rule, n, k, out, s);
@@ -117,7 +117,7 @@ pub fn lower_by(rule: &[u8], n: usize, k: usize, out: &mut [u8], x: usize, y: us
     requires { ⌜ (x < n) × (y < n) ⌝ }
     requires { ⌜ 2 * (n * n) ≤ length (now out) ⌝ }
     requires { ⌜ Classed (morphismAt (now rule) n k) (x * n + y) (now out) ⌝ }
-    ensures { λ r. ⌜ Advanced (morphismAt (now (rule .entry)) n k) (x * n + (y + 1)) (now (out .entry)) (now (out .exit)) ⌝ }
+    ensures { λ r. ⌜ CellAdvanced (morphismAt (now (rule .entry)) n k) (x * n + (y + 1)) (now (out .entry)) (now (out .exit)) ⌝ }
 {
     let e = product(rule, n, x, y);
     let f = product(rule, n, y, x);
@@ -139,7 +139,7 @@ pub fn lower_row(rule: &[u8], n: usize, k: usize, out: &mut [u8], x: usize)
     requires { ⌜ x < n ⌝ }
     requires { ⌜ 2 * (n * n) ≤ length (now out) ⌝ }
     requires { ⌜ Classed (morphismAt (now rule) n k) (x * n) (now out) ⌝ }
-    ensures { λ r. ⌜ Advanced (morphismAt (now (rule .entry)) n k) (x * n + n) (now (out .entry)) (now (out .exit)) ⌝ }
+    ensures { λ r. ⌜ CellAdvanced (morphismAt (now (rule .entry)) n k) (x * n + n) (now (out .entry)) (now (out .exit)) ⌝ }
 {
     for y in 0..n {
         lower_by(rule, n, k, out, x, y);

@@ -16,7 +16,7 @@ use Rattle.theory.proofs.ClosureGrades.{closure-grade, closure-grade-is}
 use Rattle.scratch.specs.Map.{marksFrom}
 use Rattle.scratch.proofs.Markings.{front-mark}
 use Rattle.mark_closure.specs.Closure.{ClosureRoom, ClosureLaid}
-use Rattle.mark_closure.specs.Closing.{place, highestMark, firstTable, secondTable, Kept, ClosedSoFar, Advanced}
+use Rattle.mark_closure.specs.Closing.{place, highestMark, firstTable, secondTable, Kept, ClosedSoFar, ClosureAdvanced}
 use Rattle.mark_closure.proofs.Tables.{kept-both, kept-before, kept-after, kept-first}
 
 -- before any factors the second table is empty
@@ -28,7 +28,7 @@ closed-none small r = record {
 
 -- more factors were tried, and the second table has what they say by the first table as it was
 pub advanced-by : {m : Morphism} {count : ℕ} {entry exit : List ℕ} → m .size ≤ 64 → Lawful m → 8192 ≤ length entry → Kept (m .size) entry exit
-    → BestSoFar m highestMark (firstTable entry) count (secondTable exit) → Advanced m count entry exit
+    → BestSoFar m highestMark (firstTable entry) count (secondTable exit) → ClosureAdvanced m count entry exit
 advanced-by small law room k b = record {
   so-far = record {
     room = omega (arith, k .same-length);
@@ -38,15 +38,15 @@ advanced-by small law room k b = record {
 }
 
 -- passes in a row
-pub advanced-both : {m : Morphism} {a b : ℕ} {entry now next : List ℕ} → Advanced m a entry now → Advanced m b now next → Advanced m b entry next
+pub advanced-both : {m : Morphism} {a b : ℕ} {entry now next : List ℕ} → ClosureAdvanced m a entry now → ClosureAdvanced m b now next → ClosureAdvanced m b entry next
 advanced-both p q = record { so-far = q .so-far; kept = kept-both (p .kept) (q .kept) }
 
-pub advanced-row : {m : Morphism} (x : ℕ) {entry now next : List ℕ} → Advanced m (x * m .size) entry now → Advanced m (x * m .size + m .size) now next
-    → Advanced m ((x + 1) * m .size) entry next
-advanced-row {m} x {entry} {now} {next} a b = subst (λ (count : ℕ). Advanced m count entry next) (sym (row-more x (m .size))) (advanced-both a b)
+pub advanced-row : {m : Morphism} (x : ℕ) {entry now next : List ℕ} → ClosureAdvanced m (x * m .size) entry now → ClosureAdvanced m (x * m .size + m .size) now next
+    → ClosureAdvanced m ((x + 1) * m .size) entry next
+advanced-row {m} x {entry} {now} {next} a b = subst (λ (count : ℕ). ClosureAdvanced m count entry next) (sym (row-more x (m .size))) (advanced-both a b)
 
 -- all factors were tried: the second table has the closure
-module _ {m : Morphism} {entry exit : List ℕ} (small : m .size ≤ 64) (law : Lawful m) (r : ClosureRoom m entry) (a : Advanced m (m .size * m .size) entry exit) where
+module _ {m : Morphism} {entry exit : List ℕ} (small : m .size ≤ 64) (law : Lawful m) (r : ClosureRoom m entry) (a : ClosureAdvanced m (m .size * m .size) entry exit) where
   abbrev marks : Marking
   marks = marksFrom entry 0
 

@@ -41,7 +41,7 @@ pub record ClosedSoFar (m : Morphism) (count : ℕ) (bytes : List ℕ) : Type 0 
   pub marks : BestSoFar m highestMark (firstTable bytes) count (secondTable bytes)
 
 -- the second table after factors were tried, and nothing else changed
-pub record Advanced (m : Morphism) (count : ℕ) (entry exit : List ℕ) : Type 0 where
+pub record ClosureAdvanced (m : Morphism) (count : ℕ) (entry exit : List ℕ) : Type 0 where
   pub so-far : ClosedSoFar m count exit
   pub kept : Kept (m .size) entry exit
 

@@ -9,7 +9,7 @@ ghost use Rattle.formats.proofs.Tables.{Table};
 ghost use Rattle.formats.specs.Table.{morphismAt};
 ghost use Rattle.scratch.specs.Map.{markTableSize, tablesEnd};
 ghost use Rattle.mark_closure.specs.Closure.{ClosureRoom, ClosureAnswer};
-ghost use Rattle.mark_closure.specs.Closing.{place, firstTable, ClosedSoFar, Advanced, ByteAfter, ColumnClosed, WithinAnswer};
+ghost use Rattle.mark_closure.specs.Closing.{place, firstTable, ClosedSoFar, ClosureAdvanced, ByteAfter, ColumnClosed, WithinAnswer};
 
 // The byte of (s, e) in the second table: the mark of (s·x, f) where s·e = s and it is higher, else the byte that is there.
 fn byte_after(
@@ -59,7 +59,7 @@ fn close_by(rule: &[u8], n: usize, k: usize, scratch: &mut [u8], x: usize, y: us
     requires { ⌜ Lawful (morphismAt (now rule) n k) ⌝ }
     requires { ⌜ (x < n) × (y < n) ⌝ }
     requires { ⌜ ClosedSoFar (morphismAt (now rule) n k) (x * n + y) (now scratch) ⌝ }
-    ensures { λ r. ⌜ Advanced (morphismAt (now (rule .entry)) n k) (x * n + (y + 1)) (now (scratch .entry)) (now (scratch .exit)) ⌝ }
+    ensures { λ r. ⌜ ClosureAdvanced (morphismAt (now (rule .entry)) n k) (x * n + (y + 1)) (now (scratch .entry)) (now (scratch .exit)) ⌝ }
 {
     let e = product(rule, n, x, y);
     let f = product(rule, n, y, x);
@@ -80,7 +80,7 @@ fn close_row(rule: &[u8], n: usize, k: usize, scratch: &mut [u8], x: usize)
     requires { ⌜ Lawful (morphismAt (now rule) n k) ⌝ }
     requires { ⌜ x < n ⌝ }
     requires { ⌜ ClosedSoFar (morphismAt (now rule) n k) (x * n) (now scratch) ⌝ }
-    ensures { λ r. ⌜ Advanced (morphismAt (now (rule .entry)) n k) (x * n + n) (now (scratch .entry)) (now (scratch .exit)) ⌝ }
+    ensures { λ r. ⌜ ClosureAdvanced (morphismAt (now (rule .entry)) n k) (x * n + n) (now (scratch .entry)) (now (scratch .exit)) ⌝ }
 {
     for y in 0..n {
         close_by(rule, n, k, scratch, x, y);
@@ -92,7 +92,7 @@ fn close_pairs(rule: &[u8], n: usize, k: usize, scratch: &mut [u8])
     requires { ⌜ Table (now rule) n k ⌝ }
     requires { ⌜ Lawful (morphismAt (now rule) n k) ⌝ }
     requires { ⌜ ClosureRoom (morphismAt (now rule) n k) (now scratch) ⌝ }
-    ensures { λ r. ⌜ Advanced (morphismAt (now (rule .entry)) n k) (n * n) (now (scratch .entry)) (now (scratch .exit)) ⌝ }
+    ensures { λ r. ⌜ ClosureAdvanced (morphismAt (now (rule .entry)) n k) (n * n) (now (scratch .entry)) (now (scratch .exit)) ⌝ }
 {
     for x in 0..n {
         close_row(rule, n, k, scratch, x);

@@ -1,11 +1,10 @@
 -- A checked rule whose strength is to be decided: what scratch holds, and what the verdict says of the file. Assumes nothing.
 use Prim.Native.Nat.{ℕ, _+_, _*_, _≤_}
-use mathlib.Core.Path.{_≡_, refl, sym, ap, _∙_, subst}
-use mathlib.Core.Bool.{Bool, true, false}
+use mathlib.Core.Path.{_≡_, sym, ap, _∙_, subst}
+use mathlib.Core.Bool.{Bool, true}
 use mathlib.Core.List.{List}
 use native.Mathlib.Omega.{arith}
 use lib.ListN.{length, getD, replicate}
-use Rattle.answer.specs.declared.Refusal.{Refusal}
 use Rattle.theory.specs.Rules.{Morphism, Lawful, AllReached}
 use Rattle.theory.specs.Grades.{StrongMarking}
 use Rattle.theory.proofs.Gradings.{GradedMarks}
@@ -15,7 +14,7 @@ use Rattle.formats.specs.Table.{morphismAt}
 use Rattle.formats.specs.RuleFile.{elementsOf, morphismOf, markingOf}
 use Rattle.rule_layout.specs.declared.Shape.{Shape}
 use Rattle.rule_layout.specs.Answers.{IsShape}
-use Rattle.rule_check.specs.declared.Checked.the-variants.{Rule, Refused as Checked-refused}
+use Rattle.rule_check.specs.declared.Checked.the-variants.{Rule}
 use Rattle.rule_check.specs.Answers.{CheckPromise}
 use Rattle.formats.specs.Calls.{afterCall}
 use Rattle.formats.proofs.GoodRule.{graded-marks, GoodRule, scratch-long, called-good}
@@ -23,8 +22,6 @@ use Rattle.rule_check.proofs.Calls.{zeros-left, checked-length, shape-morphism,
 use Rattle.scratch.specs.Map.{secondBase, marksFrom, MarkingAt}
 use Rattle.mark_closure.proofs.Agreement.{graded-agrees}
 use Rattle.mark_strong.specs.Deciding.{DecideNeeds, StrongIf, Decided}
-use Rattle.promises.specs.Strong.{StrongPromise}
-use Rattle.promises.specs.declared.Strength.the-variants.{Strong as Is-strong, Weak, Refused}
 use Rattle.formats.specs.RuleChecks.{scratchSize}
 
 -- a good rule by the counts that were read of it
@@ -97,24 +94,3 @@ module _ (input : ℕ) (bytes entry : List ℕ) {shape : Shape} {mid : List ℕ}
 
     pub decided-left : (was end : List ℕ) → length was ≡ length exit → end ≡ replicate (length was) 0 → end ≡ afterCall entry
     decided-left was end e z = zeros-left input bytes entry (p .refusal) was end (e ∙ d .same-length ∙ checked-length (p .scratch)) z
-
--- the call for the verdict alone
-module _ (bytes entry : List ℕ) where
-  pub strong-refused : {exit : List ℕ} {r : Refusal} {i place : ℕ} → CheckPromise 1 bytes entry exit (Checked-refused r i place) → StrongPromise bytes entry exit (Refused r i place)
-  strong-refused p = record { refusal = p .refusal; answered = tt; scratch = p .scratch }
-
-  module _ {shape : Shape} {mid exit : List ℕ} {answer : Bool} (p : CheckPromise 1 bytes entry mid (Rule shape))
-      (d : Decided (morphismAt bytes (shape .elements) (shape .letters)) mid exit answer) (end : List ℕ) (z : end ≡ replicate (length exit) 0) where
-    pub says-strong : answer ≡ true → StrongPromise bytes entry end Is-strong
-    says-strong e = record {
-      refusal = p .refusal;
-      answered = decided-strong 1 bytes entry p d e;
-      scratch = decided-left 1 bytes entry p d exit end refl z;
-    }
-
-    pub says-weak : answer ≡ false → StrongPromise bytes entry end Weak
-    says-weak e = record {
-      refusal = p .refusal;
-      answered = subst (StrongIf (morphismOf bytes) (markingOf bytes)) e (decided-file 1 bytes entry p d);
-      scratch = decided-left 1 bytes entry p d exit end refl z;
-    }

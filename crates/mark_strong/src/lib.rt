@@ -3,17 +3,12 @@
 use mark_closure::close;
 use mark_grade_search::GradeEscape;
 use mark_grade_search::highest_escape;
-use promises::Strength;
-use rule_check::Checked;
-use rule_check::check;
 use scratch::SECOND_BASE;
 use scratch::TABLES_END;
-use sections::zero;
 use sections::zero_part;
 ghost use Rattle.formats.proofs.Tables.{Table};
 ghost use Rattle.formats.specs.Table.{morphismAt};
 ghost use Rattle.mark_strong.specs.Deciding.{DecideNeeds, Decided};
-ghost use Rattle.promises.specs.Strong.{StrongPromise};
 
 // Decides strength from the marks in scratch, and leaves their closure behind them. The bytes from 61440 on are kept.
 pub fn decide(rule: &[u8], n: usize, k: usize, scratch: &mut [u8]) -> bool
@@ -34,30 +29,4 @@ pub fn decide(rule: &[u8], n: usize, k: usize, scratch: &mut [u8]) -> bool
         } => false,
         GradeEscape::Nothing => true,
     }
-}
-
-// Checks a rule and says whether it is strong. Scratch ends as zeros, but where it is too short.
-pub fn strong(rule: &[u8], scratch: &mut [u8]) -> Strength
-    ensures { λ r. ⌜ StrongPromise (now (rule .entry)) (now (scratch .entry)) (now (scratch .exit)) r ⌝ }
-{
-    let shape = match check(rule, 1, scratch) {
-        Checked::Rule(shape) => shape,
-        Checked::Refused {
-            refusal,
-            input,
-            place,
-        } => {
-            return Strength::Refused {
-                refusal,
-                input,
-                place,
-            };
-        }
-    };
-    let strong = decide(rule, shape.elements, shape.letters, scratch);
-    zero(scratch);
-    if strong {
-        return Strength::Strong;
-    }
-    Strength::Weak
 }

@@ -8,7 +8,7 @@ use Rattle.theory.proofs.Strength.{settled-start, settled-cycle}
 use Rattle.scratch.specs.Map.{marksFrom}
 use Rattle.promises.specs.declared.Monitor.{Monitor}
 use Rattle.promises.specs.Monitor.{noValue}
-use Rattle.monitor_verdict.specs.Judging.{startElement}
+use Rattle.verdict_call.specs.Judging.{startElement}
 use Rattle.monitor_standing.specs.Standing.{GradeRead, TurnsRead}
 
 module _ {m : Morphism} {f : Monitor} where

@@ -24,7 +24,7 @@ use Rattle.promises.proofs.AdvanceOrder.{file-first, values-next, weak-next, st
 use Rattle.monitor_state.specs.Ready.{GoodMonitor, StrayAnswer}
 use Rattle.monitor_state.proofs.Numbers.{good-monitor}
 use Rattle.monitor_judging.proofs.Judging.{look-graded}
-use Rattle.monitor_verdict.proofs.Values.{start-graded, values-judgeable}
+use Rattle.verdict_call.proofs.Values.{start-graded, values-judgeable}
 use Rattle.monitor_standing.specs.declared.Standing.{Standing}
 use Rattle.monitor_standing.specs.declared.Standing.the-variants.{Rule as Standing-rule, Refused as Not-standing}
 use Rattle.monitor_standing.specs.Standing.{GradeRead, Stands, StandingAnswer}

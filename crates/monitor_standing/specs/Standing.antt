@@ -18,7 +18,7 @@ use Rattle.promises.specs.declared.Monitor.{Monitor}
 use Rattle.promises.specs.Monitor.{noValue}
 use Rattle.promises.specs.Advance.{noGrade, MonitorGrade, strongMonitorChecks}
 use Rattle.monitor_state.specs.Ready.{GoodMonitor}
-use Rattle.monitor_verdict.specs.Judging.{startElement}
+use Rattle.verdict_call.specs.Judging.{startElement}
 use Rattle.monitor_standing.specs.declared.Standing.{Standing}
 use Rattle.monitor_standing.specs.declared.Standing.the-variants.{Rule, Refused}
 

@@ -1,4 +1,4 @@
-// The state of a monitor (document 01: follower): two values, a fresh one, the product of two values, and the check of a rule with a
+// The state of a monitor (document 01: follower): two values, the product of two values, and the check of a rule with a
 // monitor's values before a call moves it.
 use answer::Refusal;
 use promises::Monitor;
@@ -9,18 +9,7 @@ use rule_table::product;
 use sections::zero;
 ghost use mathlib.Core.Path.{_≡_};
 ghost use Rattle.formats.proofs.Tables.{Table};
-ghost use Rattle.promises.specs.Monitor.{freshMonitor};
 ghost use Rattle.monitor_state.specs.Ready.{GoodNumber, joinAt, OutOfRangeAnswer, StrayAnswer, ReadyPromise};
-
-// A monitor that has seen nothing.
-pub fn fresh() -> Monitor
-    ensures { λ r. ⌜ r ≡ freshMonitor ⌝ }
-{
-    Monitor {
-        before: 64,
-        since: 64,
-    }
-}
 
 // Whether a number is neither an element nor 64.
 pub fn number_out_of_range(n: usize, s: usize) -> bool

@@ -19,7 +19,7 @@ use Rattle.promises.specs.declared.Step.the-variants.{Event, Mark, Stay}
 use Rattle.promises.specs.EventWords.{afterWord}
 use Rattle.promises.specs.Advance.{afterStep, ForeignStep, strongMonitorChecks, advanceChecks, advanceWordChecks}
 use Rattle.promises.specs.Monitor.{noValue, valueOf, numberFor, freshMonitor, monitorChecks}
-use Rattle.promises.specs.Histories.{Action, event, mark, sinceWord, beforeWord, withStep, withWord, Run, begun, moved-by-event, moved-by-mark, moved-in-place, moved-by-advance, moved-by-word, event-refused, mark-refused, refused-in-place, advance-refused, word-refused, Follows}
+use Rattle.promises.specs.Histories.{Action, event, mark, sinceWord, beforeWord, withStep, withWord, MonitorRun, begun, moved-by-event, moved-by-mark, moved-in-place, moved-by-advance, moved-by-word, event-refused, mark-refused, refused-in-place, advance-refused, word-refused, Follows}
 use Rattle.promises.proofs.EventWords.{known-step, log-over}
 use Rattle.promises.proofs.MonitorValues.{value-none, value-element, number-of-value}
 
@@ -135,7 +135,7 @@ module _ (bytes : List ℕ) where
       (log-over input (lettersOf bytes) w (passed-last (strongMonitorChecks input bytes f entry) _ all)) p)
 
   -- a monitor that calls have led to has the values of its history's words
-  pub run-follows : {f : Monitor} {history : List Action} → Run bytes f history → Follows bytes f history
+  pub run-follows : {f : Monitor} {history : List Action} → MonitorRun bytes f history → Follows bytes f history
   run-follows (begun e) = same-follows e fresh-follows
   run-follows (moved-by-event {f} {letter = letter} {entry = entry} r p) = event-follows f letter entry (p .refusal) (p .monitor) (run-follows r)
   run-follows (moved-by-mark {f} {entry = entry} r p) = same-follows (p .monitor) (after-mark bytes (monitor-good f entry (p .refusal)) (run-follows r))

@@ -13,7 +13,7 @@ use Rattle.theory.proofs.Values.{value-some}
 use Rattle.formats.specs.RuleFile.{lettersOf, morphismOf, markingOf}
 use Rattle.promises.specs.declared.Monitor.{Monitor}
 use Rattle.promises.specs.Monitor.{valueOf, monitorChecks}
-use Rattle.promises.specs.Histories.{Action, event, sinceWord, beforeWord, Run}
+use Rattle.promises.specs.Histories.{Action, event, sinceWord, beforeWord, MonitorRun}
 use Rattle.promises.specs.Logs.{Stored, Log}
 use Rattle.promises.proofs.Logs.{log-run}
 use Rattle.promises.proofs.MonitorValues.{value-element}
@@ -21,7 +21,7 @@ use Rattle.promises.proofs.Histories.{run-follows}
 use Rattle.promises.specs.declared.LassoVerdict.the-variants.{Decided}
 use Rattle.promises.specs.Verdict.{verdictChecks, VerdictPromise}
 
-module _ {bytes : List ℕ} {f : Monitor} {history : List Action} (run : Run bytes f history) where
+module _ {bytes : List ℕ} {f : Monitor} {history : List Action} (run : MonitorRun bytes f history) where
   -- the monitor has the values of the history's words, and letters came since the last mark
   history-start : value (morphismOf bytes) (beforeWord history) ≡ valueOf (f .before)
   history-start = sym (run-follows bytes run .before-value)
@@ -58,7 +58,7 @@ events-before [] = refl
 events-before (a ∷ letters) = events-before letters
 
 -- where no mark was made, the verdict is that of the letters for ever
-module _ {bytes : List ℕ} {f : Monitor} (letters : List ℕ) (run : Run bytes f (events letters)) {entry exit : List ℕ} where
+module _ {bytes : List ℕ} {f : Monitor} (letters : List ℕ) (run : MonitorRun bytes f (events letters)) {entry exit : List ℕ} where
   pub events-graded : {grade turns : ℕ} → VerdictPromise bytes f entry exit (Decided grade turns) → Graded (morphismOf bytes) (markingOf bytes) [] (sinceWord (events letters)) grade
   events-graded {grade} p =
       subst (λ (u : List ℕ). Graded (morphismOf bytes) (markingOf bytes) u (sinceWord (events letters)) grade) (events-before letters) (history-graded run p)

@@ -34,7 +34,7 @@ use Rattle.promises.specs.declared.Advanced.the-variants.{To as Advanced
 use Rattle.promises.specs.EventWords.{afterWord}
 use Rattle.promises.specs.Advance.{afterStep, AdvancePromise, AdvanceWordPromise}
 use Rattle.promises.specs.Verdict.{VerdictPromise}
-use Rattle.promises.specs.Histories.{Action, event, Run, begun as run-begun, moved-by-event as run-event, moved-by-mark as run-mark, moved-in-place as run-in-place, moved-by-advance as run-advance, moved-by-word as run-word, event-refused as run-event-refused, mark-refused as run-mark-refused, refused-in-place as run-refused-in-place, advance-refused as run-advance-refused, word-refused as run-word-refused, withStep, withWord}
+use Rattle.promises.specs.Histories.{Action, event, MonitorRun, begun as run-begun, moved-by-event as run-event, moved-by-mark as run-mark, moved-in-place as run-in-place, moved-by-advance as run-advance, moved-by-word as run-word, event-refused as run-event-refused, mark-refused as run-mark-refused, refused-in-place as run-refused-in-place, advance-refused as run-advance-refused, word-refused as run-word-refused, withStep, withWord}
 use Rattle.promises.specs.Points.{namesCount, pointsSize, NeverKept, pointAt, keptPoints, KeepPromise, ReturnPromise}
 use Rattle.promises.specs.PointsTheorem.{Logged, handedBack, advancedMonitor}
 use Rattle.promises.specs.Logs.{Stored, never, stored, storedAt, Log, begun, moved-by-event, moved-by-mark, moved-in-place, moved-by-advance, moved-by-word, kept, returned, event-refused, mark-refused, refused-in-place, advance-refused, word-refused, keep-refused, return-refused, afterHistory}
@@ -54,7 +54,7 @@ history-word m history [] e = e
 history-word m history (letter ∷ w) e = history-word m (event letter ∷ history) w (history-step m history (Event letter) e)
 
 -- a monitor that calls have led to is the one after its history
-pub run-monitor : (bytes : List ℕ) {f : Monitor} {history : List Action} → Run bytes f history → f ≡ afterHistory (morphismOf bytes) history
+pub run-monitor : (bytes : List ℕ) {f : Monitor} {history : List Action} → MonitorRun bytes f history → f ≡ afterHistory (morphismOf bytes) history
 unfolding afterHistory
 run-monitor bytes (run-begun e) = e
 run-monitor bytes (run-event {letter = letter} r p) = p .monitor ∙ ap (λ (x : Monitor). afterEvent (morphismOf bytes) x letter) (run-monitor bytes r)
@@ -85,16 +85,16 @@ other-scratch long long′ p = record { refusal = buffer-long long′ (after-buf
 -- what the bytes of a name hold, by what it stores: nothing, or the monitor of the stored history
 abbrev pub Holds : List ℕ → List ℕ → ℕ → Stored → Type 0
 Holds bytes points name never = NeverKept points name
-Holds bytes points name (stored history) = (NeverKept points name → ⊥) × Run bytes (pointAt points name) history
+Holds bytes points name (stored history) = (NeverKept points name → ⊥) × MonitorRun bytes (pointAt points name) history
 
 -- the monitor is that of the history, and each point that of the stored one
 pub record Faithful (bytes : List ℕ) (f : Monitor) (points : List ℕ) (history : List Action) (names : ℕ → Stored) : Type 0 where
-  pub run : Run bytes f history
+  pub run : MonitorRun bytes f history
   pub held : (name : ℕ) → name < namesCount → Holds bytes points name (names name)
 
 module _ (bytes : List ℕ) where
-  same-run : {f g : Monitor} {history : List Action} → g ≡ f → Run bytes f history → Run bytes g history
-  same-run {history = history} e r = subst (λ (x : Monitor). Run bytes x history) (sym e) r
+  same-run : {f g : Monitor} {history : List Action} → g ≡ f → MonitorRun bytes f history → MonitorRun bytes g history
+  same-run {history = history} e r = subst (λ (x : Monitor). MonitorRun bytes x history) (sym e) r
 
   -- a keep under another name
   other-holds : (points : List ℕ) (name : ℕ) (f : Monitor) (other : ℕ) → other ≢ name → (s : Stored) → Holds bytes points other s
@@ -105,7 +105,7 @@ module _ (bytes : List ℕ) where
 
   -- after a keep every name holds what it stores
   keep-holds : (points : List ℕ) (name : ℕ) (f : Monitor) (history : List Action) (names : ℕ → Stored) → pointsSize ≤ length points → name < namesCount
-      → Run bytes f history → ((other : ℕ) → other < namesCount → Holds bytes points other (names other))
+      → MonitorRun bytes f history → ((other : ℕ) → other < namesCount → Holds bytes points other (names other))
       → (other : ℕ) → other < namesCount → Holds bytes (keptPoints points name f) other (storedAt names name history other)
   unfolding storedAt
   keep-holds points name f history names room named run held other l = go (ℕ-discrete other name)
@@ -153,7 +153,7 @@ module _ (bytes : List ℕ) where
 
   module _ {f : Monitor} {points : List ℕ} {history : List Action} {names : ℕ → Stored} (log : Log bytes f points history names) where
     -- events and marks alone lead to it, those of the history
-    pub log-run : Run bytes f history
+    pub log-run : MonitorRun bytes f history
     log-run = log-faithful log .run
 
     -- the monitor is the one that a fresh monitor becomes by the history alone
@@ -166,7 +166,7 @@ module _ (bytes : List ℕ) where
 
     -- a monitor that saw the history alone has the same verdict, whatever scratch, long enough, each is asked with
     pub log-verdict : {g : Monitor} {entry entry′ exit exit′ : List ℕ} {answer answer′ : LassoVerdict} → scratchSize ≤ length entry → scratchSize ≤ length entry′
-        → Run bytes g history → VerdictPromise bytes f entry exit answer → VerdictPromise bytes g entry′ exit′ answer′ → answer ≡ answer′
+        → MonitorRun bytes g history → VerdictPromise bytes f entry exit answer → VerdictPromise bytes g entry′ exit′ answer′ → answer ≡ answer′
     log-verdict {g} {entry} {entry′} {exit} {exit′} {answer} {answer′} long long′ run p q =
         let same : g ≡ f = run-monitor bytes run ∙ sym log-monitor in
         one-answer answer answer′ p (other-scratch long′ long (subst (λ (x : Monitor). VerdictPromise bytes x entry′ exit′ answer′) same q))

@@ -21,7 +21,7 @@ use Rattle.formats.specs.WrittenFile.{fileOf}
 use Rattle.promises.proofs.OneOutput.{one-front, one-written}
 use Rattle.formats.proofs.OneFile.{one-file}
 use Rattle.promises.specs.Answers.{writtenVerdict}
-use Rattle.promises.specs.Automaton.{automatonOf, RuleOf, translateChecks, RulePromise, TooManyMatricesAt}
+use Rattle.promises.specs.Automaton.{automatonOf, AutomatonRuleOf, translateChecks, RulePromise, TooManyMatricesAt}
 use Rattle.promises.specs.declared.Written.{Written}
 
 module _ (bytes out entry : List ℕ) where
@@ -40,18 +40,18 @@ pub one-scratch : {bytes out out-exit out-exit′ entry exit exit′ : List ℕ}
     → RulePromise bytes out out-exit′ entry exit′ answer′ → exit ≡ exit′
 one-scratch p q = p .scratch ∙ sym (q .scratch)
 
-abbrev rule-of : {bytes before after : List ℕ} {r : ℕ} → RuleOf bytes before after r → Any-rule
+abbrev rule-of : {bytes before after : List ℕ} {r : ℕ} → AutomatonRuleOf bytes before after r → Any-rule
 rule-of a = record { morphism = a .morphism; lawful = a .lawful; marks = a .marks }
 
 -- no lasso is graded above 3
-marked-small : {bytes before after : List ℕ} {r g : ℕ} {u v : List ℕ} (a : RuleOf bytes before after r) → 1 ≤ g → AtLeast (a .morphism) (a .marks) g u v → g ≤ 3
+marked-small : {bytes before after : List ℕ} {r g : ℕ} {u v : List ℕ} (a : AutomatonRuleOf bytes before after r) → 1 ≤ g → AtLeast (a .morphism) (a .marks) g u v → g ≤ 3
 marked-small {g = g} a some t =
     let h = level-down (a .marks) g (t .start-element) (t .cycle-element) (t .is-marked) in
     let e = a .threes (t .start-element) (t .cycle-element) (inside-of (a .lawful) (t .start-over) (t .start-value)) (inside-of (a .lawful) (t .cycle-over) (t .cycle-value)) (omega (arith, h)) in
     omega (arith, h, e)
 
 -- two rules of one automaton have one table, elements renumbered, and so, both being numbered by first words, one file
-module _ {bytes before after after′ : List ℕ} {r r′ : ℕ} (a : RuleOf bytes before after r) (b : RuleOf bytes before after′ r′) where
+module _ {bytes before after after′ : List ℕ} {r r′ : ℕ} (a : AutomatonRuleOf bytes before after r) (b : AutomatonRuleOf bytes before after′ r′) where
   renumbered : Renumbered (a .morphism) (b .morphism)
   renumbered = matrices-renumbered (a .lawful) (a .elements) (b .lawful) (b .elements)
 
@@ -83,5 +83,5 @@ module _ {bytes before after after′ : List ℕ} {r r′ : ℕ} (a : RuleOf byt
 pub one-answer : {bytes before after after′ entry exit exit′ : List ℕ} (answer answer′ : Written) → RulePromise bytes before after entry exit answer
     → RulePromise bytes before after′ entry exit′ answer′ → (answer ≡ answer′) × (after ≡ after′)
 one-answer {bytes} {before} {after} {after′} {entry} answer answer′ p q =
-    one-written (RuleOf bytes before after) (RuleOf bytes before after′) before after after′
+    one-written (AutomatonRuleOf bytes before after) (AutomatonRuleOf bytes before after′) before after after′
     (λ r r′ a b. one-front (a .written .front) (b .written .front) (same-file a b)) answer answer′ (p .answered) (q .answered) (rule-one-verdict bytes before entry p q)

@@ -15,7 +15,7 @@ use Rattle.buchi.specs.Matrices.{Matrix}
 use Rattle.buchi.specs.Rule.{MatricesOf}
 use Rattle.buchi.proofs.Numberings.{matrices-size}
 use Rattle.formats.specs.Sections.{twoBytes}
-use Rattle.formats.specs.AutomatonFile.{lettersAt, transitionsAt, transitionsOf, kindAt, transitionAt, fromOf, letterOf, toOf, isInitial, isTransition, hasTransition}
+use Rattle.formats.specs.AutomatonFile.{automatonLettersAt, transitionsAt, transitionsOf, kindAt, transitionAt, fromOf, letterOf, toOf, isInitial, isTransition, hasTransition}
 use Rattle.formats.specs.RuleFile.{lettersOf, morphismOf, markingOf}
 use Rattle.promises.specs.declared.Monitor.{Monitor}
 use Rattle.promises.specs.declared.Moved.the-variants.{Refused}
@@ -34,7 +34,7 @@ use Rattle.promises.specs.Monitor.{valueOf, freshMonitor}
 use Rattle.promises.specs.Moves.{afterEvent, afterMark, EventPromise}
 use Rattle.promises.specs.InPlace.{EventInPlace}
 use Rattle.promises.specs.Verdict.{NoneAt, VerdictAnswer}
-use Rattle.promises.specs.Histories.{Action, event, mark, sinceWord, beforeWord, withStep, withWord, Run, event-refused}
+use Rattle.promises.specs.Histories.{Action, event, mark, sinceWord, beforeWord, withStep, withWord, MonitorRun, event-refused}
 
 -- ---- stretch: u is 0, v is 1 2
 
@@ -72,11 +72,11 @@ final-state = refl
 
 -- a transition goes from its first state to its second
 transition : automatonOf file .step 0 0 1 ≡ true
-unfolding file hasTransition isTransition fromOf letterOf toOf transitionAt transitionsOf transitionsAt lettersAt twoBytes anyBelow
+unfolding file hasTransition isTransition fromOf letterOf toOf transitionAt transitionsOf transitionsAt automatonLettersAt twoBytes anyBelow
 transition = refl
 
 no-transition-back : automatonOf file .step 1 0 0 ≡ false
-unfolding file hasTransition isTransition fromOf letterOf toOf transitionAt transitionsOf transitionsAt lettersAt twoBytes anyBelow
+unfolding file hasTransition isTransition fromOf letterOf toOf transitionAt transitionsOf transitionsAt automatonLettersAt twoBytes anyBelow
 no-transition-back = refl
 
 -- 64 matrices pass
@@ -175,5 +175,5 @@ stay-in-history = refl
 
 -- a refused event is no part of the history
 refused-event-left-out : {bytes : List ℕ} {f g : Monitor} {past : List Action} {letter : ℕ} {entry exit : List ℕ} {refusal : Refusal} {input place : ℕ}
-    → Run bytes f past → EventPromise bytes f letter entry exit (Refused g refusal input place) → Run bytes g past
+    → MonitorRun bytes f past → EventPromise bytes f letter entry exit (Refused g refusal input place) → MonitorRun bytes g past
 refused-event-left-out run promise = event-refused run promise

@@ -45,7 +45,7 @@ pub record MonitorTurns (bytes : List ℕ) (f : Monitor) (turns : ℕ) : Type 0 
   pub without : f .since ≡ noValue → turns ≡ 0
   pub with-since : (f .since ≡ noValue → ⊥) → LeastExponent (morphismOf bytes) (f .since) turns
 
--- "every call checks those present, strength and follower included", each as the input of its number: its file, its follower (3), its strength (12)
+-- "every call checks those present, strength and follower included", each as the input of its number: its file, its monitor (3), its strength (12)
 abbrev pub standingChecks : ℕ → List ℕ → Monitor → List Check
 standingChecks input bytes f = monitorValueCheck input (elementsOf bytes) f ∷ weakCheck input bytes ∷ []
 

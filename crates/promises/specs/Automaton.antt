@@ -5,7 +5,7 @@ use mathlib.Core.Path.{_≡_}
 use mathlib.Core.List.{List, [], _∷_, _++_}
 use Rattle.answer.specs.declared.Refusal.the-variants.{TooManyMatrices}
 use Rattle.answer.specs.Checks.{Check, FirstFailure}
-use Rattle.formats.specs.AutomatonFile.{statesOf, lettersOf, isInitial, isFinal, hasTransition}
+use Rattle.formats.specs.AutomatonFile.{statesOf, automatonLettersOf, isInitial, isFinal, hasTransition}
 use Rattle.buchi.specs.Automata.{Automaton}
 use Rattle.buchi.specs.Rule.{MoreMatrices, MatricesOf, MarkedBy, AcceptsRuns}
 use Rattle.theory.specs.Rules.{Morphism, Lawful, Marking, level}
@@ -24,7 +24,7 @@ use Rattle.promises.specs.Answers.{writtenVerdict, WrittenAnswer}
 abbrev pub automatonOf : List ℕ → Automaton
 automatonOf bytes = record {
   states = statesOf bytes;
-  letters = lettersOf bytes;
+  letters = automatonLettersOf bytes;
   initial = isInitial bytes;
   final = isFinal bytes;
   step = hasTransition bytes;
@@ -42,7 +42,7 @@ matricesCheck bytes = record { refusal = TooManyMatrices; input = 1; Fails = Too
 -- "The elements are the matrices of all non-empty words. The rule accepts exactly the lassos on which some run from an initial
 -- state meets a final state again and again. A linked pair (R, E) is marked if .."; "Automata mark with 3" (Job 12), so that this holds
 -- for each least grade from 1 to 3; elements are numbered by first words; the file of that rule was written, its marks by s, then by e
-pub record RuleOf (bytes entry exit : List ℕ) (r : ℕ) : Type 0 where
+pub record AutomatonRuleOf (bytes entry exit : List ℕ) (r : ℕ) : Type 0 where
   pub morphism : Morphism
   pub matrix : ℕ → Matrix
   pub marks : Marking
@@ -63,5 +63,5 @@ translateChecks bytes out scratch = bufferCheck ruleSize out ∷ (readChecks 1 b
 -- scratch as every call leaves it
 pub record RulePromise (bytes out-entry out-exit entry exit : List ℕ) (answer : Written) : Type 0 where
   pub refusal : FirstFailure (translateChecks bytes out-entry entry) (writtenVerdict answer)
-  pub answered : WrittenAnswer (RuleOf bytes out-entry out-exit) out-entry out-exit answer
+  pub answered : WrittenAnswer (AutomatonRuleOf bytes out-entry out-exit) out-entry out-exit answer
   pub scratch : exit ≡ scratchLeft ruleSize out-entry entry

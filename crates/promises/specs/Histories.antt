@@ -48,28 +48,28 @@ withWord (letter ∷ w) history = withWord w (event letter ∷ history)
 
 -- a monitor that calls have led to, by what the calls promise: it was fresh, each call that moved it is in the history, and a
 -- refused call, which hands a monitor back or leaves one too, is not
-pub data Run (bytes : List ℕ) : Monitor → List Action → Type 0 where
-  begun : {f : Monitor} → f ≡ freshMonitor → Run bytes f []
+pub data MonitorRun (bytes : List ℕ) : Monitor → List Action → Type 0 where
+  begun : {f : Monitor} → f ≡ freshMonitor → MonitorRun bytes f []
   moved-by-event : {f g : Monitor} {history : List Action} {letter : ℕ} {entry exit : List ℕ}
-      → Run bytes f history → EventPromise bytes f letter entry exit (To g) → Run bytes g (event letter ∷ history)
+      → MonitorRun bytes f history → EventPromise bytes f letter entry exit (To g) → MonitorRun bytes g (event letter ∷ history)
   moved-by-mark : {f g : Monitor} {history : List Action} {entry exit : List ℕ}
-      → Run bytes f history → MarkPromise bytes f entry exit (To g) → Run bytes g (mark ∷ history)
+      → MonitorRun bytes f history → MarkPromise bytes f entry exit (To g) → MonitorRun bytes g (mark ∷ history)
   moved-in-place : {f g : Monitor} {history : List Action} {letter : ℕ} {entry exit : List ℕ}
-      → Run bytes f history → EventInPlace bytes f letter entry exit g Done → Run bytes g (event letter ∷ history)
+      → MonitorRun bytes f history → EventInPlace bytes f letter entry exit g Done → MonitorRun bytes g (event letter ∷ history)
   moved-by-advance : {f g : Monitor} {history : List Action} {input : ℕ} {step : Step} {entry exit : List ℕ} {grade turns : ℕ}
-      → Run bytes f history → AdvancePromise input bytes f step entry exit (Advanced-to g grade turns) → Run bytes g (withStep step history)
+      → MonitorRun bytes f history → AdvancePromise input bytes f step entry exit (Advanced-to g grade turns) → MonitorRun bytes g (withStep step history)
   moved-by-word : {f g : Monitor} {history : List Action} {input : ℕ} {w entry exit : List ℕ} {grade turns : ℕ}
-      → Run bytes f history → AdvanceWordPromise input bytes f w entry exit (Advanced-to g grade turns) → Run bytes g (withWord w history)
+      → MonitorRun bytes f history → AdvanceWordPromise input bytes f w entry exit (Advanced-to g grade turns) → MonitorRun bytes g (withWord w history)
   event-refused : {f g : Monitor} {history : List Action} {letter : ℕ} {entry exit : List ℕ} {refusal : Refusal} {input place : ℕ}
-      → Run bytes f history → EventPromise bytes f letter entry exit (Refused g refusal input place) → Run bytes g history
+      → MonitorRun bytes f history → EventPromise bytes f letter entry exit (Refused g refusal input place) → MonitorRun bytes g history
   mark-refused : {f g : Monitor} {history : List Action} {entry exit : List ℕ} {refusal : Refusal} {input place : ℕ}
-      → Run bytes f history → MarkPromise bytes f entry exit (Refused g refusal input place) → Run bytes g history
+      → MonitorRun bytes f history → MarkPromise bytes f entry exit (Refused g refusal input place) → MonitorRun bytes g history
   refused-in-place : {f g : Monitor} {history : List Action} {letter : ℕ} {entry exit : List ℕ} {refusal : Refusal} {input place : ℕ}
-      → Run bytes f history → EventInPlace bytes f letter entry exit g (Not-done refusal input place) → Run bytes g history
+      → MonitorRun bytes f history → EventInPlace bytes f letter entry exit g (Not-done refusal input place) → MonitorRun bytes g history
   advance-refused : {f g : Monitor} {history : List Action} {input : ℕ} {step : Step} {entry exit : List ℕ} {refusal : Refusal} {i place : ℕ}
-      → Run bytes f history → AdvancePromise input bytes f step entry exit (Not-advanced g refusal i place) → Run bytes g history
+      → MonitorRun bytes f history → AdvancePromise input bytes f step entry exit (Not-advanced g refusal i place) → MonitorRun bytes g history
   word-refused : {f g : Monitor} {history : List Action} {input : ℕ} {w entry exit : List ℕ} {refusal : Refusal} {i place : ℕ}
-      → Run bytes f history → AdvanceWordPromise input bytes f w entry exit (Not-advanced g refusal i place) → Run bytes g history
+      → MonitorRun bytes f history → AdvanceWordPromise input bytes f w entry exit (Not-advanced g refusal i place) → MonitorRun bytes g history
 
 -- the monitor has the values of its history's two words, and those are words over the rule's letters
 pub record Follows (bytes : List ℕ) (f : Monitor) (history : List Action) : Type 0 where

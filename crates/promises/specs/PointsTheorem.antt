@@ -24,7 +24,7 @@ use Rattle.promises.specs.declared.Advanced.the-variants.{To as Advanced
 use Rattle.promises.specs.Advance.{AdvancePromise, AdvanceWordPromise}
 use Rattle.promises.specs.Verdict.{VerdictPromise}
 use Rattle.promises.specs.Points.{namesCount, NeverKept, pointAt, KeepPromise, ReturnPromise}
-use Rattle.promises.specs.Histories.{Action, sinceWord, beforeWord, Run}
+use Rattle.promises.specs.Histories.{Action, sinceWord, beforeWord, MonitorRun}
 use Rattle.promises.specs.Logs.{Stored, stored, Log, afterHistory}
 
 -- some history that calls have led to, with some stored ones
@@ -49,12 +49,12 @@ pub record PointsTheorem : Type 0 where
   pub point : (bytes : List ℕ) (f : Monitor) (points : List ℕ) (history : List Action) (names : ℕ → Stored) → Log bytes f points history names
       → (name : ℕ) → name < namesCount → (past : List Action) → names name ≡ stored past → pointAt points name ≡ afterHistory (morphismOf bytes) past
   -- events and marks alone lead to it, those of the history
-  pub run : (bytes : List ℕ) (f : Monitor) (points : List ℕ) (history : List Action) (names : ℕ → Stored) → Log bytes f points history names → Run bytes f history
+  pub run : (bytes : List ℕ) (f : Monitor) (points : List ℕ) (history : List Action) (names : ℕ → Stored) → Log bytes f points history names → MonitorRun bytes f history
   -- a return that passes goes to a name that stores a history
   pub stored-there : (bytes : List ℕ) (f g : Monitor) (points : List ℕ) (history : List Action) (names : ℕ → Stored) → Log bytes f points history names
       → (name : ℕ) (entry exit : List ℕ) → ReturnPromise bytes f name points entry exit (To g) → (past : List Action) × (names name ≡ stored past)
   -- asked with any scratch that is long enough, of the monitor and of one that saw the history alone
-  pub verdict : (bytes : List ℕ) (f g : Monitor) (points : List ℕ) (history : List Action) (names : ℕ → Stored) → Log bytes f points history names → Run bytes g history
+  pub verdict : (bytes : List ℕ) (f g : Monitor) (points : List ℕ) (history : List Action) (names : ℕ → Stored) → Log bytes f points history names → MonitorRun bytes g history
       → (entry entry′ exit exit′ : List ℕ) (answer answer′ : LassoVerdict) → scratchSize ≤ length entry → scratchSize ≤ length entry′
       → VerdictPromise bytes f entry exit answer → VerdictPromise bytes g entry′ exit′ answer′ → answer ≡ answer′
   pub graded : (bytes : List ℕ) (f : Monitor) (points : List ℕ) (history : List Action) (names : ℕ → Stored) → Log bytes f points history names

@@ -66,8 +66,8 @@ fn set_byte(line: &[u8], first: usize, files: &mut [u8]) {
     example_text::store(files, place, example_text::number(line, 4));
 }
 
-// Another follower for a name, as a caller could make one up.
-fn with_follower(line: &[u8], first: usize, board: Board) -> Board {
+// Another monitor for a name, as a caller could make one up.
+fn with_monitor(line: &[u8], first: usize, board: Board) -> Board {
     let mut next = board;
     let i = name(line, first) % 8;
     next.before[i] = example_text::number(line, 3);
@@ -75,7 +75,7 @@ fn with_follower(line: &[u8], first: usize, board: Board) -> Board {
     next
 }
 
-// `in` is an entry, `byte` another byte of the files, `put` another follower.
+// `in` is an entry, `byte` another byte of the files, `put` another monitor.
 fn run(line: &[u8], first: usize, board: Board, files: &mut [u8], scratch: &mut [u8]) -> Board {
     match example_text::command(line) {
         b'i' => enter(line, first, board, files, scratch),
@@ -83,7 +83,7 @@ fn run(line: &[u8], first: usize, board: Board, files: &mut [u8], scratch: &mut 
             set_byte(line, first, files);
             board
         }
-        b'p' => with_follower(line, first, board),
+        b'p' => with_monitor(line, first, board),
         _ => moved(line, first, board, files, scratch),
     }
 }
@@ -230,7 +230,7 @@ fn main() {
         : byte: 0: 3: 1\n\
         weak: mark\n\
         : byte: 0: 3: 0\n\
-        # A follower that a caller made up.\n\
+        # A monitor that a caller made up.\n\
         : put: 0: 2: 64\n\
         no such before: mark\n\
         : put: 0: 64: 2\n\

@@ -28,8 +28,8 @@ pub record LettersOutOfRangeAt (letters place : ℕ) : Type 0 where
   pub outside : (letters < 1) ⊎ (16 < letters)
   pub is-place : place ≡ 0
 
-abbrev pub lettersCheck : ℕ → Check
-lettersCheck letters = record { refusal = CountOutOfRange; input = 1; Fails = LettersOutOfRangeAt letters }
+abbrev pub letterCountCheck : ℕ → Check
+letterCountCheck letters = record { refusal = CountOutOfRange; input = 1; Fails = LettersOutOfRangeAt letters }
 
 -- "3, a grade above 3 (place 0; grade 0 passes)"
 pub record GradeOutOfRangeAt (grade place : ℕ) : Type 0 where
@@ -49,10 +49,10 @@ abbrev pub setCheck : ℕ → ℕ → Check
 setCheck letters set = record { refusal = UnknownLetter; input = 1; Fails = ForeignInSetAt letters set }
 
 abbrev pub firstLetterChecks : ℕ → ℕ → ℕ → List ℕ → List Check
-firstLetterChecks letters set grade out = bufferCheck ruleSize out ∷ lettersCheck letters ∷ gradeCheck grade ∷ setCheck letters set ∷ []
+firstLetterChecks letters set grade out = bufferCheck ruleSize out ∷ letterCountCheck letters ∷ gradeCheck grade ∷ setCheck letters set ∷ []
 
 abbrev pub constantChecks : ℕ → ℕ → List ℕ → List Check
-constantChecks letters grade out = bufferCheck ruleSize out ∷ lettersCheck letters ∷ gradeCheck grade ∷ []
+constantChecks letters grade out = bufferCheck ruleSize out ∷ letterCountCheck letters ∷ gradeCheck grade ∷ []
 
 -- ---- the rules
 

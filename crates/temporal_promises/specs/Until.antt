@@ -27,7 +27,7 @@ abbrev pub untilClassesSize : ℕ
 untilClassesSize = 262144
 
 -- a table of the pairs of both rules' values that words reach, and the grades that the values decide: those of the first rule and of the second
-pub record PairTable (first second : List ℕ) : Type 0 where
+pub record PairGrades (first second : List ℕ) : Type 0 where
   pub table : Morphism
   pub lawful : Lawful table
   pub left : ℕ → ℕ
@@ -40,7 +40,7 @@ pub record PairTable (first second : List ℕ) : Type 0 where
 
 -- "23 (more than 64 elements; input 1, place 0)": more in such a table. Then there are more in each (`temporal`, pairs-more-classes).
 pub record TooManyUntilAt (first second : List ℕ) (place : ℕ) : Type 0 where
-  pub over : PairTable first second
+  pub over : PairGrades first second
   pub more : MoreUntilClasses (over .table) (over .first-grade) (over .second-grade) 64
   pub is-place : place ≡ 0
 
@@ -59,7 +59,7 @@ untilChecks first second out classes scratch =
 -- "the rule whose grade of a lasso is the highest, over the places i of its endless word, of the lowest of: the second's grade from i on, the first's from each
 -- j < i on. Said by least grades as the design has it. Elements: the pair of values with the clamp at every context, numbered by first words; marks as above."
 pub record UntilMade (first second : List ℕ) (rule : Rule) : Type 0 where
-  pub over : PairTable first second
+  pub over : PairGrades first second
   pub pair : ℕ → ℕ
   pub low : ℕ → ℕ → ℕ → ℕ
   pub high : ℕ → ℕ → ℕ → ℕ

@@ -11,7 +11,7 @@ ghost use Rattle.promises.specs.RoundsTheorem.{RoundsTheorem};
 ghost use Rattle.theory.specs.EmptyStarts.{EmptyStartsTheorem};
 ghost use Rattle.theory.specs.PowersTheorem.{PowersTheorem};
 ghost use Rattle.answer.specs.NumbersTheorem.{NumbersTheorem};
-ghost use Rattle.automaton_call.specs.ReadyTheorem.{ReadyTheorem};
+ghost use Rattle.automaton_rule_call.specs.ReadyTheorem.{ReadyTheorem};
 ghost use Rattle.promises.specs.ConfirmTheorem.{ConfirmTheorem};
 ghost use Rattle.board_histories.specs.Histories.{BoardTheorem};
 ghost use Rattle.temporal_laws.specs.Laws.{FormulaLaws};

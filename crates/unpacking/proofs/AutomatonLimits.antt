@@ -8,15 +8,15 @@ use Rattle.answer.proofs.Limits.{Limited, limited-nil, limited-cons, limited-ap
 use Rattle.formats.proofs.AutomatonSections.{automatonSections, automaton-list}
 use Rattle.sections.proofs.Limits.{list-limited}
 use Rattle.formats.specs.RuleChecks.{TrailingAt, ruleSize}
-use Rattle.formats.specs.AutomatonFile.{lettersAt, transitionsAt, transitionsOf, transitionAt, automatonEnd}
-use Rattle.formats.specs.AutomatonChecks.{RepeatedAt, repeatedChecks, layoutChecks, contentChecks, automatonChecks, readChecks}
+use Rattle.formats.specs.AutomatonFile.{automatonLettersAt, transitionsAt, transitionsOf, transitionAt, automatonEnd}
+use Rattle.formats.specs.AutomatonChecks.{RepeatedTransitionAt, repeatedChecks, automatonLayoutChecks, automatonContentChecks, automatonChecks, readChecks}
 use Rattle.automaton_file.proofs.Passed.{good-sections}
 use Rattle.promises.specs.Automaton.{TooManyMatricesAt, matricesCheck}
 use Rattle.unpacking.proofs.Limits.{Near, near, at-zero, buffer-limited}
 
 module _ (bytes : List ℕ) where
   -- 1 to 3
-  layout-limited : Limited Near (layoutChecks 1 bytes)
+  layout-limited : Limited Near (automatonLayoutChecks 1 bytes)
   layout-limited =
       subst (Limited Near) (automaton-list 1 bytes)
       (list-limited automatonSections 1 0 bytes (
@@ -29,12 +29,12 @@ module _ (bytes : List ℕ) where
   unfolding repeatedChecks transitionAt
   repeated-limited i zero l = limited-nil
   repeated-limited i (suc count) l =
-      limited-cons (λ place (f : RepeatedAt _ _ place). near (omega arith) (omega (arith, f .is-place)))
+      limited-cons (λ place (f : RepeatedTransitionAt _ _ place). near (omega arith) (omega (arith, f .is-place)))
       (λ _. repeated-limited (suc i) count (omega arith))
 
   -- 4, 8
-  content-limited : FirstFailure (layoutChecks 1 bytes) passed → Limited Near (contentChecks 1 bytes)
-  unfolding automatonEnd transitionAt transitionsAt lettersAt
+  content-limited : FirstFailure (automatonLayoutChecks 1 bytes) passed → Limited Near (automatonContentChecks 1 bytes)
+  unfolding automatonEnd transitionAt transitionsAt automatonLettersAt
   content-limited all =
       let good = good-sections 1 bytes all in
       limited-cons (λ place (f : TrailingAt _ _ place). near (omega arith) (omega (arith, f .is-place, good .states-small, good .transitions-small)))
@@ -44,5 +44,5 @@ module _ (bytes : List ℕ) where
   pub translated-limited : (scratch : List ℕ) → Limited Near (readChecks 1 bytes scratch ++ (matricesCheck bytes ∷ []))
   unfolding automatonChecks
   translated-limited scratch =
-      limited-append (readChecks 1 bytes scratch) (buffer-limited (limited-append (layoutChecks 1 bytes) layout-limited content-limited))
+      limited-append (readChecks 1 bytes scratch) (buffer-limited (limited-append (automatonLayoutChecks 1 bytes) layout-limited content-limited))
       (λ _. limited-cons (λ place (f : TooManyMatricesAt _ place). at-zero (f .is-place)) (λ _. limited-nil))

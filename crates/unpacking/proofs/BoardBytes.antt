@@ -15,10 +15,10 @@ use Rattle.board_promises.specs.declared.Board.{Board}
 use Rattle.board_promises.specs.declared.Notice.{Notice}
 use Rattle.board_promises.specs.declared.Notice.the-variants.{Done, Refused}
 use Rattle.board_promises.specs.declared.Posted.{Posted}
-use Rattle.board_promises.specs.Boards.{namesCount, emptyBoard, presentAt, withMonitor, withPresent, withLowest, withEntered, withLeft, movedBelow}
-use Rattle.board_promises.specs.Followers.{movedAt}
-use Rattle.board_promises.specs.Checks.{allChecks, eventChecks, markChecks}
-use Rattle.board_promises.specs.Promises.{HandsBack, EnterPromise, LeavePromise, EventPromise, MarkPromise}
+use Rattle.board_promises.specs.Boards.{boardNamesCount, emptyBoard, presentAt, withMonitor, withPresent, withLowest, withEntered, withLeft, movedBelow}
+use Rattle.board_promises.specs.Monitors.{movedAt}
+use Rattle.board_promises.specs.Checks.{allChecks, boardEventChecks, boardMarkChecks}
+use Rattle.board_promises.specs.Promises.{BoardHandsBack, EnterPromise, LeavePromise, BoardEventPromise, BoardMarkPromise}
 use Rattle.board_promises.proofs.Moved.{moved-none, moved-by}
 use Rattle.board_histories.proofs.Passed.{done-passed, event-letter}
 use Rattle.board_state.specs.State.{stateSize, boardOf, stateAfter, ByteBoard}
@@ -66,10 +66,10 @@ module _ {b : Board} (p : ByteBoard b) where
 entered-bytes : {b : Board} → ByteBoard b → (name : ℕ) → ByteBoard (withEntered b name)
 entered-bytes p name = present-bytes (monitor-bytes p name {f = freshMonitor} (record { before-small = omega arith; since-small = omega arith })) name true
 
--- with every follower moved whose rule is present
+-- with every monitor moved whose rule is present
 module _ (files : List ℕ) (step : Step) {b : Board} (p : ByteBoard b)
-    (small : (i : ℕ) → i < namesCount → presentAt b i ≡ true → SmallValues (movedAt b files step i)) where
-  moved-bytes : (count : ℕ) → count ≤ namesCount → ByteBoard (movedBelow files step b count)
+    (small : (i : ℕ) → i < boardNamesCount → presentAt b i ≡ true → SmallValues (movedAt b files step i)) where
+  moved-bytes : (count : ℕ) → count ≤ boardNamesCount → ByteBoard (movedBelow files step b count)
   moved-bytes zero h = subst ByteBoard (moved-none files step b) p
   moved-bytes (suc i) h = go (presentAt b i) refl (moved-bytes i (omega arith))
     where
@@ -79,28 +79,28 @@ module _ (files : List ℕ) (step : Step) {b : Board} (p : ByteBoard b)
 
 -- what a call hands back
 posted-bytes : (b next board : Board) (files : List ℕ) (notice : Notice) → ByteBoard b → (notice ≡ Done → ByteBoard next) → (notice ≡ Done → board .lowest ≤ 4)
-    → HandsBack b next files board notice → ByteBoard board
+    → BoardHandsBack b next files board notice → ByteBoard board
 posted-bytes b next board files Done p q l h =
     subst ByteBoard (sym (h .becomes)) (lowest-bytes (q refl) (omega (arith, l refl, ap (λ (c : Board). c .lowest) (h .becomes))))
 posted-bytes b next board files (Refused refusal input place) p q l h = subst ByteBoard (sym h) p
 
 module _ {b : Board} (p : ByteBoard b) {files entry exit : List ℕ} {answer : Posted} where
-  event-bytes : {letter : ℕ} → EventPromise b letter files entry exit answer → ByteBoard (answer .board)
+  event-bytes : {letter : ℕ} → BoardEventPromise b letter files entry exit answer → ByteBoard (answer .board)
   event-bytes {letter} x =
-      posted-bytes b (movedBelow files (Event letter) b namesCount) (answer .board) files (answer .notice) p
-      (λ done. moved-bytes files (Event letter) p (small (done-passed done (x .refusal))) namesCount (omega arith)) (event-lowest x) (x .board)
+      posted-bytes b (movedBelow files (Event letter) b boardNamesCount) (answer .board) files (answer .notice) p
+      (λ done. moved-bytes files (Event letter) p (small (done-passed done (x .refusal))) boardNamesCount (omega arith)) (event-lowest x) (x .board)
     where
-      small : FirstFailure (eventChecks b letter files entry) passed → (i : ℕ) → i < namesCount → presentAt b i ≡ true → SmallValues (movedAt b files (Event letter) i)
+      small : FirstFailure (boardEventChecks b letter files entry) passed → (i : ℕ) → i < boardNamesCount → presentAt b i ≡ true → SmallValues (movedAt b files (Event letter) i)
       small f i h there =
           let names = passed-first (allChecks b files) _ (passes-tail (passes-tail f)) in
           event-small (present-rule b files names i h there) (present-unstray b files names i h there) (event-letter b files letter f i h there)
 
-  mark-bytes : MarkPromise b files entry exit answer → ByteBoard (answer .board)
+  mark-bytes : BoardMarkPromise b files entry exit answer → ByteBoard (answer .board)
   mark-bytes x =
-      posted-bytes b (movedBelow files Mark b namesCount) (answer .board) files (answer .notice) p
-      (λ done. moved-bytes files Mark p (small (done-passed done (x .refusal))) namesCount (omega arith)) (mark-lowest x) (x .board)
+      posted-bytes b (movedBelow files Mark b boardNamesCount) (answer .board) files (answer .notice) p
+      (λ done. moved-bytes files Mark p (small (done-passed done (x .refusal))) boardNamesCount (omega arith)) (mark-lowest x) (x .board)
     where
-      small : FirstFailure (markChecks b files entry) passed → (i : ℕ) → i < namesCount → presentAt b i ≡ true → SmallValues (movedAt b files Mark i)
+      small : FirstFailure (boardMarkChecks b files entry) passed → (i : ℕ) → i < boardNamesCount → presentAt b i ≡ true → SmallValues (movedAt b files Mark i)
       small f i h there =
           let names = passes-tail (passes-tail f) in
           mark-small (present-rule b files names i h there) (present-unstray b files names i h there)
@@ -113,14 +113,14 @@ module _ {b : Board} (p : ByteBoard b) {files entry exit : List ℕ} {answer : P
       posted-bytes b (withEntered b name) (answer .board) made (answer .notice) p (λ _. entered-bytes p name) (enter-lowest x) (x .board)
 
 -- the bytes that an exported call leaves hold the board that the call hands back; where it was refused, they and the board are as they were
-left-read : (state : List ℕ) (next : Board) (files : List ℕ) (board : Board) (notice : Notice) → ByteBoard board → HandsBack (boardOf state) next files board notice
+left-read : (state : List ℕ) (next : Board) (files : List ℕ) (board : Board) (notice : Notice) → ByteBoard board → BoardHandsBack (boardOf state) next files board notice
     → boardOf (stateAfter state board notice) ≡ board
 left-read state next files board Done p h = front-read state board p
 left-read state next files board (Refused refusal input place) p h = sym h
 
 module _ {state state-exit : List ℕ} {r : ℕ} (h : stateSize ≤ length state) (bytes : (i : ℕ) → getD state i 0 < 256) where
   call-kept : {Promise : Board → Posted → Type 0} {Kept : Type 0} (x : ExportedBoardCall Promise Kept state state-exit r) (next : Board) (files : List ℕ)
-      → ByteBoard (postedBoard x h .board) → HandsBack (boardOf state) next files (postedBoard x h .board) (postedBoard x h .notice) → boardOf state-exit ≡ postedBoard x h .board
+      → ByteBoard (postedBoard x h .board) → BoardHandsBack (boardOf state) next files (postedBoard x h .board) (postedBoard x h .notice) → boardOf state-exit ≡ postedBoard x h .board
   call-kept x next files p q =
       ap boardOf (x .long h .state-left) ∙ left-read state next files (postedBoard x h .board) (postedBoard x h .notice) p q
 
@@ -136,11 +136,11 @@ module _ {state state-exit : List ℕ} {r : ℕ} (h : stateSize ≤ length state
 
     pub board-event-kept : {letter : ℕ} (x : ExportedBoardEvent state state-exit letter files entry exit r) → boardOf state-exit ≡ postedBoard x h .board
     board-event-kept {letter} x =
-        call-kept x (movedBelow files (Event letter) (boardOf state) namesCount) files (event-bytes (read-bytes state bytes) (x .long h .promise)) (x .long h .promise .board)
+        call-kept x (movedBelow files (Event letter) (boardOf state) boardNamesCount) files (event-bytes (read-bytes state bytes) (x .long h .promise)) (x .long h .promise .board)
 
     pub board-mark-kept : (x : ExportedBoardMark state state-exit files entry exit r) → boardOf state-exit ≡ postedBoard x h .board
     board-mark-kept x =
-        call-kept x (movedBelow files Mark (boardOf state) namesCount) files (mark-bytes (read-bytes state bytes) (x .long h .promise)) (x .long h .promise .board)
+        call-kept x (movedBelow files Mark (boardOf state) boardNamesCount) files (mark-bytes (read-bytes state bytes) (x .long h .promise)) (x .long h .promise .board)
 
 -- and those that the first call leaves hold an empty board
 pub board-empty-kept : {state state-exit : List ℕ} {r : ℕ} → stateSize ≤ length state → ExportedBoardEmpty state state-exit r → boardOf state-exit ≡ emptyBoard

@@ -21,9 +21,9 @@ use Rattle.board_promises.specs.declared.Board.{Board}
 use Rattle.board_promises.specs.declared.Notice.{Notice}
 use Rattle.board_promises.specs.declared.Notice.the-variants.{Done, Refused}
 use Rattle.board_promises.specs.declared.Posted.{Posted}
-use Rattle.board_promises.specs.Boards.{namesCount, filesSize, fileAt, presentAt, withLeft, withEntered, movedBelow, Counting, LowestGrade}
+use Rattle.board_promises.specs.Boards.{boardNamesCount, filesSize, fileAt, presentAt, withLeft, withEntered, movedBelow, Counting, LowestGrade}
 use Rattle.board_promises.specs.Checks.{allChecks, enterChecks}
-use Rattle.board_promises.specs.Promises.{noticeVerdict, HandsBack, filesAfterEnter, EnterPromise, LeavePromise, EventPromise, MarkPromise}
+use Rattle.board_promises.specs.Promises.{noticeVerdict, BoardHandsBack, filesAfterEnter, EnterPromise, LeavePromise, BoardEventPromise, BoardMarkPromise}
 use Rattle.board_promises.proofs.SmallFiles.{short-file, grade-small}
 use Rattle.board_promises.proofs.Moved.{moved-flags}
 use Rattle.board_promises.proofs.Places.{pasted-file, others-kept}
@@ -46,12 +46,12 @@ same-file {x = x} {e} {g} same k = subst (λ (l : List ℕ). LassosGraded (morph
 module _ (b : Board) (files : List ℕ) where
   module _ (all : FirstFailure (allChecks b files) passed) where
     -- of a name that was present
-    there-small : {x : Value} {e : ℕ} (i g : ℕ) → i < namesCount → presentAt b i ≡ true → LassosGraded (morphismOf (fileAt files i)) (markingOf (fileAt files i)) x e g → g ≤ 3
+    there-small : {x : Value} {e : ℕ} (i g : ℕ) → i < boardNamesCount → presentAt b i ≡ true → LassosGraded (morphismOf (fileAt files i)) (markingOf (fileAt files i)) x e g → g ≤ 3
     there-small i g h there k = grade-small i (fileAt files i) (passed-first (ruleChecks i (fileAt files i)) _ (present-checks b files all i h there)) k
 
-    moved-small : (step : Step) → AllSmall (movedBelow files step b namesCount) files
+    moved-small : (step : Step) → AllSmall (movedBelow files step b boardNamesCount) files
     moved-small step i h c =
-        there-small i h (c .named) (subst (λ (flags : List Bool). getD flags i false ≡ true) (moved-flags files step b namesCount) (c .there)) (c .graded)
+        there-small i h (c .named) (subst (λ (flags : List Bool). getD flags i false ≡ true) (moved-flags files step b boardNamesCount) (c .there)) (c .graded)
 
     left-small : (name : ℕ) → AllSmall (withLeft b name) files
     left-small name i h c = there-small i h (c .named) (stayed (b .present) name i (c .there)) (c .graded)
@@ -69,7 +69,7 @@ module _ (b : Board) (files : List ℕ) where
             (λ other. sym (getD-set-other flags name j false false other) ∙ there)
 
     -- a file that entered is read at its place, and the others at theirs
-    module _ (name : ℕ) (file made : List ℕ) (named : name < namesCount) (room : filesSize ≤ length files) (own : FirstFailure (ruleChecks name file) passed)
+    module _ (name : ℕ) (file made : List ℕ) (named : name < boardNamesCount) (room : filesSize ≤ length files) (own : FirstFailure (ruleChecks name file) passed)
         (copied : made ≡ paste files (ruleSize * name) file (length file)) where
       fits : ruleSize * name + length file ≤ length files
       fits = omega (arith, short-file name file own)
@@ -89,7 +89,7 @@ lowest-small : {next : Board} {files : List ℕ} {g : ℕ} → AllSmall next fil
 lowest-small {g = g} small l = ⊎-elim (λ e. omega arith) (λ s. omega (arith, small (s .name) g (s .counts))) (l .attained)
 
 handed-lowest : {checks : List Check} (b next : Board) (files : List ℕ) (board : Board) (notice : Notice) → (FirstFailure checks passed → AllSmall next files)
-    → FirstFailure checks (noticeVerdict notice) → HandsBack b next files board notice → notice ≡ Done → board .lowest ≤ 4
+    → FirstFailure checks (noticeVerdict notice) → BoardHandsBack b next files board notice → notice ≡ Done → board .lowest ≤ 4
 handed-lowest b next files board notice small f p done =
     let made = done-board b next files board done p in
     omega (arith, ap (λ (c : Board). c .lowest) (made .becomes), lowest-small (small (done-passed done f)) (made .grade))
@@ -100,19 +100,19 @@ posted-fits board Done l small f = record { first = omega (arith, small refl); s
 posted-fits board (Refused r i place) l small f = refused-fits r l f
 
 module _ {b : Board} {files entry exit : List ℕ} {answer : Posted} where
-  module _ {letter : ℕ} (p : EventPromise b letter files entry exit answer) where
+  module _ {letter : ℕ} (p : BoardEventPromise b letter files entry exit answer) where
     pub event-lowest : answer .notice ≡ Done → answer .board .lowest ≤ 4
     event-lowest =
-        handed-lowest b (movedBelow files (Event letter) b namesCount) files (answer .board) (answer .notice)
+        handed-lowest b (movedBelow files (Event letter) b boardNamesCount) files (answer .board) (answer .notice)
         (λ f. moved-small b files (passed-first (allChecks b files) _ (passes-tail (passes-tail f))) (Event letter)) (p .refusal) (p .board)
 
     pub board-event-fits : Fits (noticeContents (answer .board) (answer .notice))
     board-event-fits = posted-fits (answer .board) (answer .notice) (event-limited b files entry letter) event-lowest (p .refusal)
 
-  module _ (p : MarkPromise b files entry exit answer) where
+  module _ (p : BoardMarkPromise b files entry exit answer) where
     pub mark-lowest : answer .notice ≡ Done → answer .board .lowest ≤ 4
     mark-lowest =
-        handed-lowest b (movedBelow files Mark b namesCount) files (answer .board) (answer .notice) (λ f. moved-small b files (passes-tail (passes-tail f)) Mark)
+        handed-lowest b (movedBelow files Mark b boardNamesCount) files (answer .board) (answer .notice) (λ f. moved-small b files (passes-tail (passes-tail f)) Mark)
         (p .refusal) (p .board)
 
     pub board-mark-fits : Fits (noticeContents (answer .board) (answer .notice))

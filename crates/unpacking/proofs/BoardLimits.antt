@@ -15,8 +15,8 @@ use Rattle.promises.specs.Monitor.{MonitorValueOutOfRangeAt}
 use Rattle.promises.specs.Moves.{LoneUnknownLetterAt, loneLetterCheck}
 use Rattle.promises.specs.Advance.{standingChecks}
 use Rattle.board_promises.specs.declared.Board.{Board}
-use Rattle.board_promises.specs.Boards.{namesCount, fileAt, presentAt, monitorAt}
-use Rattle.board_promises.specs.Checks.{NotFreeAt, NotPresentAt, freeCheck, nameChecks, namesChecks, allChecks, letterChecks, lettersChecks, enterChecks, leaveChecks, eventChecks, markChecks}
+use Rattle.board_promises.specs.Boards.{boardNamesCount, fileAt, presentAt, monitorAt}
+use Rattle.board_promises.specs.Checks.{NotFreeAt, NotPresentAt, freeCheck, nameChecks, namesChecks, allChecks, letterChecks, lettersChecks, enterChecks, leaveChecks, boardEventChecks, boardMarkChecks}
 use Rattle.unpacking.proofs.Limits.{Near, near, at-zero, buffer-limited, rule-limited}
 
 -- a name that passed its check is one of the eight
@@ -24,7 +24,7 @@ pub free-named : (b : Board) (name : ℕ) → Passes (freeCheck b name) → name
 free-named b name free = ⊎-elim (λ (h : name ≤ 7). h) (λ h. absurd (free .nowhere 0 (record { not-free = inl h; is-place = refl }))) (le-or-lt name 7)
 
 module _ (b : Board) (files : List ℕ) where
-  name-limited : (i : ℕ) → i < namesCount → Limited Near (nameChecks b files i)
+  name-limited : (i : ℕ) → i < boardNamesCount → Limited Near (nameChecks b files i)
   name-limited i h = go (presentAt b i)
     where
       go : (there : Bool) → Limited Near (cond there (ruleChecks i (fileAt files i) ++ standingChecks i (fileAt files i) (monitorAt b i)) [])
@@ -34,16 +34,16 @@ module _ (b : Board) (files : List ℕ) where
           (λ _. limited-cons (λ place (a : WeakAt _ place). near (omega arith) (omega (arith, a .is-place))) (λ _. limited-nil)))
       go false = limited-nil
 
-  names-limited : (i count : ℕ) → i + count ≤ namesCount → Limited Near (namesChecks b files i count)
+  names-limited : (i count : ℕ) → i + count ≤ boardNamesCount → Limited Near (namesChecks b files i count)
   unfolding namesChecks
   names-limited i zero h = limited-nil
   names-limited i (suc count) h = limited-append (nameChecks b files i) (name-limited i (omega arith)) (λ _. names-limited (suc i) count (omega arith))
 
   all-limited : Limited Near (allChecks b files)
-  all-limited = names-limited 0 namesCount (omega arith)
+  all-limited = names-limited 0 boardNamesCount (omega arith)
 
   module _ (letter : ℕ) where
-    letter-limited : (i : ℕ) → i < namesCount → Limited Near (letterChecks b files letter i)
+    letter-limited : (i : ℕ) → i < boardNamesCount → Limited Near (letterChecks b files letter i)
     letter-limited i h = go (presentAt b i)
       where
         go : (there : Bool)
@@ -51,7 +51,7 @@ module _ (b : Board) (files : List ℕ) where
         go true = limited-cons (λ place (a : LoneUnknownLetterAt _ _ place). near (omega arith) (omega (arith, a .is-place))) (λ _. limited-nil)
         go false = limited-nil
 
-    letters-limited : (i count : ℕ) → i + count ≤ namesCount → Limited Near (lettersChecks b files letter i count)
+    letters-limited : (i count : ℕ) → i + count ≤ boardNamesCount → Limited Near (lettersChecks b files letter i count)
     unfolding lettersChecks
     letters-limited i zero h = limited-nil
     letters-limited i (suc count) h =
@@ -68,9 +68,9 @@ module _ (b : Board) (files : List ℕ) where
     pub leave-limited : (name : ℕ) → Limited Near (leaveChecks b name files scratch)
     leave-limited name = buffer-limited (buffer-limited (limited-cons (λ place (a : NotPresentAt b name place). at-zero (a .is-place)) (λ _. all-limited)))
 
-    pub event-limited : (letter : ℕ) → Limited Near (eventChecks b letter files scratch)
+    pub event-limited : (letter : ℕ) → Limited Near (boardEventChecks b letter files scratch)
     event-limited letter =
-        buffer-limited (buffer-limited (limited-append (allChecks b files) all-limited (λ _. letters-limited letter 0 namesCount (omega arith))))
+        buffer-limited (buffer-limited (limited-append (allChecks b files) all-limited (λ _. letters-limited letter 0 boardNamesCount (omega arith))))
 
-    pub mark-limited : Limited Near (markChecks b files scratch)
+    pub mark-limited : Limited Near (boardMarkChecks b files scratch)
     mark-limited = buffer-limited (buffer-limited all-limited)

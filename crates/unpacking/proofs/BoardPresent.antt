@@ -1,4 +1,4 @@
--- What the checks of the harbour board say of a name that is present: its file is a rule's, and its follower's values are that rule's. Assumes
+-- What the checks of the harbour board say of a name that is present: its file is a rule's, and its monitor's values are that rule's. Assumes
 -- nothing.
 use Prim.Native.Nat.{ℕ, zero, suc, _+_, _≤_, _<_}
 use mathlib.Core.Path.{_≡_, refl, subst}
@@ -14,7 +14,7 @@ use Rattle.formats.specs.RuleChecks.{ruleChecks}
 use Rattle.formats.proofs.GoodRule.{good-rule, GoodRule}
 use Rattle.promises.specs.Advance.{standingChecks}
 use Rattle.board_promises.specs.declared.Board.{Board}
-use Rattle.board_promises.specs.Boards.{namesCount, fileAt, presentAt, monitorAt}
+use Rattle.board_promises.specs.Boards.{boardNamesCount, fileAt, presentAt, monitorAt}
 use Rattle.board_promises.specs.Checks.{nameChecks, namesChecks, allChecks}
 use Rattle.unpacking.proofs.Monitors.{Unstray}
 
@@ -27,11 +27,11 @@ module _ (b : Board) (files : List ℕ) where
       (λ (m : i < j). name-passed (suc i) count j (passed-last (nameChecks b files i) _ all) m (omega arith))
       (eq-or-lt-of-le l)
 
-  module _ (all : FirstFailure (allChecks b files) passed) (i : ℕ) (h : i < namesCount) (there : presentAt b i ≡ true) where
+  module _ (all : FirstFailure (allChecks b files) passed) (i : ℕ) (h : i < boardNamesCount) (there : presentAt b i ≡ true) where
     pub present-checks : FirstFailure (ruleChecks i (fileAt files i) ++ standingChecks i (fileAt files i) (monitorAt b i)) passed
     present-checks =
         subst (λ (t : Bool). FirstFailure (cond t (ruleChecks i (fileAt files i) ++ standingChecks i (fileAt files i) (monitorAt b i)) []) passed) there
-        (name-passed 0 namesCount i all (omega arith) (omega arith))
+        (name-passed 0 boardNamesCount i all (omega arith) (omega arith))
 
     pub present-rule : GoodRule (fileAt files i)
     present-rule = good-rule i (fileAt files i) (passed-first (ruleChecks i (fileAt files i)) _ present-checks)

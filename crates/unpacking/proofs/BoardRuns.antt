@@ -15,7 +15,7 @@ use Rattle.board_histories.proofs.Theorem.{board-theorem}
 use Rattle.board_state.specs.State.{boardOf}
 use Rattle.packing.specs.Packing.{fields, refusal-at, unpack}
 use Rattle.packing_monitors.specs.Monitors.{noticeContents}
-use Rattle.unpacking.specs.BoardTheorem.{Tells, Refuses, ExportedRun, begun, entered-by, left-by, event-by, mark-by, enter-refused, leave-refused, event-refused, mark-refused, written-elsewhere, ExportedBoardTheorem}
+use Rattle.unpacking.specs.BoardTheorem.{ResultTells, ResultRefuses, ExportedRun, begun, entered-by, left-by, event-by, mark-by, enter-refused, leave-refused, event-refused, mark-refused, written-elsewhere, ExportedBoardTheorem}
 use Rattle.unpacking.proofs.NothingLost.{postedBoard, board-empty-read, board-enter-read, board-leave-read, board-event-read, board-mark-read}
 use Rattle.unpacking.proofs.BoardBytes.{board-empty-kept, board-enter-kept, board-leave-kept, board-event-kept, board-mark-kept}
 
@@ -23,7 +23,7 @@ not-fields : {a b c number input place : ℕ} → fields a b c ≡ refusal-at nu
 not-fields e = let z : _≡_ {A = ℕ} 0 1 = cc in omega arith
 
 -- a number that tells a grade is that of a call which was done, and the grade is the board's
-done-tells : (board : Board) (notice : Notice) {r grade : ℕ} → unpack r ≡ noticeContents board notice → Tells r grade → (notice ≡ Done) × (board .lowest ≡ grade)
+done-tells : (board : Board) (notice : Notice) {r grade : ℕ} → unpack r ≡ noticeContents board notice → ResultTells r grade → (notice ≡ Done) × (board .lowest ≡ grade)
 done-tells board Done {r} {grade} e t = (refl, let same : fields (board .lowest) 0 0 ≡ fields grade 0 0 = sym e ∙ t .told in cc)
 done-tells board (Refused refusal input place) e t = absurd (not-fields (sym (t .told) ∙ e))
 
@@ -38,7 +38,7 @@ pub record WasRefused (notice : Notice) : Type 0 where
   pub place : ℕ
   pub is-refused : notice ≡ Refused refusal input place
 
-refuses-refused : (board : Board) (notice : Notice) {r : ℕ} → unpack r ≡ noticeContents board notice → Refuses r → WasRefused notice
+refuses-refused : (board : Board) (notice : Notice) {r : ℕ} → unpack r ≡ noticeContents board notice → ResultRefuses r → WasRefused notice
 refuses-refused board Done e none = absurd (none .no-grade (board .lowest) (record { told = e }))
 refuses-refused board (Refused refusal input place) e none = record { refusal = refusal; input = input; place = place; is-refused = refl }
 

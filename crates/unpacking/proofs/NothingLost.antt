@@ -36,14 +36,14 @@ use Rattle.promises.specs.Automaton.{RulePromise}
 use Rattle.promises.specs.declared.Listed.{Listed}
 use Rattle.promises.specs.declared.Listed.the-variants.{Counts, Refused as Not-listed}
 use Rattle.promises.specs.Classes.{ListPromise}
-use Rattle.mark_classes.proofs.Counting.{counted-le}
+use Rattle.list_classes_call.proofs.Counting.{counted-le}
 use Rattle.promises.specs.Complement.{ComplementPromise}
 use Rattle.promises.specs.declared.Operation.{Operation}
 use Rattle.promises.specs.declared.Confirmation.{Confirmation}
 use Rattle.promises.specs.declared.Confirmation.the-variants.{Yes, No, Refused as Not-confirmed}
 use Rattle.promises.specs.Confirm.{ConfirmPromise}
 use Rattle.promises.specs.Combine.{LettersDifferAt, TooManyPairsAt, pairChecks, CombinePromise}
-use Rattle.temporal_promises.specs.FirstLetter.{LettersOutOfRangeAt, GradeOutOfRangeAt, ForeignInSetAt, lettersCheck, gradeCheck, setCheck, FirstLetterPromise, ConstantPromise}
+use Rattle.temporal_promises.specs.FirstLetter.{LettersOutOfRangeAt, GradeOutOfRangeAt, ForeignInSetAt, letterCountCheck, gradeCheck, setCheck, FirstLetterPromise, ConstantPromise}
 use Rattle.temporal_promises.specs.Next.{TooManyNextAt, NextPromise}
 use Rattle.temporal_promises.specs.Until.{TooManyUntilAt, UntilPromise}
 use Rattle.first_letter_call.proofs.Calling.{none-beyond}
@@ -177,7 +177,7 @@ combine-fits {first} {second} {entry = entry} (Not-written r i place) p =
     (λ _. pair-limited first second)))) (p .refusal)
 
 -- first_letter, constant: a letter of a set of 64 bits is below 64
-numbers-limited : (letters grade : ℕ) {checks : List Check} → Limited Near checks → Limited Near (lettersCheck letters ∷ gradeCheck grade ∷ checks)
+numbers-limited : (letters grade : ℕ) {checks : List Check} → Limited Near checks → Limited Near (letterCountCheck letters ∷ gradeCheck grade ∷ checks)
 numbers-limited letters grade l =
     limited-cons (λ place (f : LettersOutOfRangeAt letters place). at-zero (f .is-place))
     (λ _. limited-cons (λ place (f : GradeOutOfRangeAt grade place). at-zero (f .is-place)) (λ _. l))

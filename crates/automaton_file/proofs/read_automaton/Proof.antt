@@ -3,7 +3,7 @@
 use mathlib.Core.Path.{_∙_}
 use borrow.Author.Needs.{needs}
 use Rattle.rule_check.proofs.Faults.{no-fault, fault-refused}
-use Rattle.formats.specs.AutomatonChecks.{contentChecks}
+use Rattle.formats.specs.AutomatonChecks.{automatonContentChecks}
 use Rattle.automaton_file.proofs.Promise.{short-scratch, layout-said, layout-refused, layout-promise, content-promise, automaton-promise, laid-said, kept-said, zeros-again, blank-room}
 use Rattle.automaton_file.proofs.read_automaton.Statement.{statement}
 use Rattle.automaton_file.proofs.read_automaton.Tie as tie
@@ -39,7 +39,7 @@ returns-3 c =
     let start = blank .before .before .before .before .before in
     automaton-promise (start .args .input) (start .args .bytes .now) (start .args .scratch .now) (blank .before .before .if1 .left)
     (layout-said (start .args .bytes .now) (read .read-layout .result) (read .read-layout .ensures) (content .before .before .before .counts .given .1)) (blank .zero-part .ensures .outside .same-length)
-    (no-fault (λ input. contentChecks input (start .args .bytes .now)) (content .content-fault .result) (content .content-fault .ensures .0) (c .enum-told .given .1))
+    (no-fault (λ input. automatonContentChecks input (start .args .bytes .now)) (content .content-fault .result) (content .content-fault .ensures .0) (c .enum-told .given .1))
     (laid-said _ _ _ (content .content-fault .result) (content .content-fault .ensures .1) (c .enum-told .given .1))
 
 returns-4 : tie.Need-returns-4
@@ -56,7 +56,7 @@ returns-4 c =
     (zeros-again (start .args .scratch .now)
     (kept-said _ _ _ (content .content-fault .result) (content .content-fault .ensures .1) (at-refusal2 .refusal2 .given .1) ∙ blank .zero-part .ensures .outside .same-length)
     (c .before .before .zero2 .ensures))
-    (fault-refused (λ input. contentChecks input (start .args .bytes .now)) (content .content-fault .result) (content .content-fault .ensures .0) (at-refusal2 .refusal2 .given .1))
+    (fault-refused (λ input. automatonContentChecks input (start .args .bytes .now)) (content .content-fault .result) (content .content-fault .ensures .0) (at-refusal2 .refusal2 .given .1))
 
 pub read-automaton-spec : {M : Type 1} → statement M
 read-automaton-spec =

@@ -2,7 +2,7 @@
 use Prim.Native.Nat.{_-_, _≤_}
 use native.Mathlib.Omega.{arith}
 use lib.ListN.{length}
-use Rattle.formats.specs.AutomatonFile.{statesOf, lettersOf}
+use Rattle.formats.specs.AutomatonFile.{statesOf, automatonLettersOf}
 use Rattle.automaton_file.specs.Answers.{TransitionsLaid}
 use Rattle.automaton_file.proofs.RepeatedOrder.{AllFresh, no-transitions, fresh-more}
 use Rattle.automaton_file.proofs.Laid.{amongFirst, laid-start}
@@ -11,7 +11,7 @@ use Rattle.automaton_file.proofs.repeated_fault.Statement.{statement}
 use Rattle.automaton_file.proofs.repeated_fault.Tie as tie
 
 abbrev Inv-loop : tie.InvT-loop
-Inv-loop bytes at count table₀ i₀ table i = AllFresh bytes i × TransitionsLaid (amongFirst bytes i) (statesOf bytes) (lettersOf bytes) (length table₀) table × (i ≤ count)
+Inv-loop bytes at count table₀ i₀ table i = AllFresh bytes i × TransitionsLaid (amongFirst bytes i) (statesOf bytes) (automatonLettersOf bytes) (length table₀) table × (i ≤ count)
 
 abbrev μ-loop : tie.MeasureT-loop
 μ-loop bytes at count table₀ i₀ table i = count - i

@@ -7,8 +7,8 @@ use native.Mathlib.Omega.{arith}
 use native.Mathlib.Nat.{zero-add}
 use lib.ListN.{length}
 use borrow.Author.Needs.{needs}
-use Rattle.formats.specs.AutomatonFile.{statesSection, lettersSection, transitionsSection}
-use Rattle.formats.specs.AutomatonChecks.{layoutChecks}
+use Rattle.formats.specs.AutomatonFile.{statesSection, automatonLettersSection, transitionsSection}
+use Rattle.formats.specs.AutomatonChecks.{automatonLayoutChecks}
 use Rattle.formats.proofs.SectionList.{last, restFrom}
 use Rattle.formats.proofs.AutomatonSections.{afterStates, automatonSections, automaton-list}
 use Rattle.sections.specs.Answers.{SectionPassed}
@@ -19,7 +19,7 @@ use Rattle.automaton_sections.proofs.read_layout.Statement.{statement}
 use Rattle.automaton_sections.proofs.read_layout.Tie as tie
 
 -- no section was read yet
-whole : (bytes : List ℕ) → HandedOn (λ input. layoutChecks input bytes) bytes automatonSections 0 bytes
+whole : (bytes : List ℕ) → HandedOn (λ input. automatonLayoutChecks input bytes) bytes automatonSections 0 bytes
 whole bytes = handed-whole automatonSections bytes (λ input. automaton-list input bytes)
 
 -- the m states were read
@@ -39,7 +39,7 @@ abbrev restOf : tie.After-known-told → List ℕ
 restOf c = restFrom (bytesOf c) (1 + mOf c)
 
 after-states : (c : tie.After-known-told)
-    → HandedOn (λ input. layoutChecks input (bytesOf c)) (bytesOf c) (afterStates (mOf c)) (1 + mOf c) (restOf c)
+    → HandedOn (λ input. automatonLayoutChecks input (bytesOf c)) (bytesOf c) (afterStates (mOf c)) (1 + mOf c) (restOf c)
 after-states c = handed-next (whole (bytesOf c)) (states c) (zero-add _)
 
 -- and the count of letters
@@ -49,17 +49,17 @@ before3 c = c .before .before .before .before .before
 abbrev kOf : tie.After-known-told3 → ℕ
 kOf c = c .before .k .given .0 .0
 
-letters : (c : tie.After-known-told3) → SectionPassed lettersSection (1 + mOf (before3 c)) (restOf (before3 c)) (kOf c)
+letters : (c : tie.After-known-told3) → SectionPassed automatonLettersSection (1 + mOf (before3 c)) (restOf (before3 c)) (kOf c)
 letters c =
     let d = before3 c in
     let call = c .before .before .before .letters-section in
-    section-read lettersSection (1 + mOf d) (restOf d) (call .result) (call .ensures) (c .before .k .given .1)
+    section-read automatonLettersSection (1 + mOf d) (restOf d) (call .result) (call .ensures) (c .before .k .given .1)
 
 letters-long : (c : tie.After-known-told3) → 1 ≤ length (restOf (before3 c))
 letters-long c = handed-long (after-states (before3 c)) (letters c)
 
 after-letters : (c : tie.After-known-told3)
-    → HandedOn (λ input. layoutChecks input (bytesOf (before3 c))) (bytesOf (before3 c)) (last (transitionsSection (mOf (before3 c)) (kOf c)))
+    → HandedOn (λ input. automatonLayoutChecks input (bytesOf (before3 c))) (bytesOf (before3 c)) (last (transitionsSection (mOf (before3 c)) (kOf c)))
     (1 + mOf (before3 c) + 1) (restFrom (restOf (before3 c)) 1)
 after-letters c = handed-next (after-states (before3 c)) (letters c) refl
 

@@ -11,7 +11,7 @@ use Rattle.board_promises.specs.declared.Board.{Board}
 use Rattle.board_promises.specs.declared.Notice.the-variants.{Done}
 use Rattle.board_promises.specs.declared.Posted.{Posted}
 use Rattle.board_promises.specs.Boards.{filesSize}
-use Rattle.board_promises.specs.Followers.{Whole}
+use Rattle.board_promises.specs.Monitors.{Whole}
 use Rattle.board_answers.proofs.Notices.{said-refuses, said-done}
 use Rattle.board_values.specs.Presence.{FreeAnswer}
 use Rattle.board_values.proofs.FreeNames.{said-free, said-taken}

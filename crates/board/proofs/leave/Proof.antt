@@ -8,7 +8,7 @@ use denote.Ref.{now}
 use lib.ListN.{length}
 use Rattle.formats.specs.RuleChecks.{scratchSize}
 use Rattle.board_promises.specs.Boards.{filesSize}
-use Rattle.board_promises.specs.Followers.{Whole}
+use Rattle.board_promises.specs.Monitors.{Whole}
 use Rattle.board_values.specs.Presence.{PresentAnswer}
 use Rattle.board_values.proofs.Flags.{said-present, said-absent}
 use Rattle.board.proofs.Rooms.{filled-cleared, said-short, said-long}

@@ -6,7 +6,7 @@ use denote.Ref.{now}
 use lib.ListN.{length}
 use Rattle.formats.specs.RuleChecks.{scratchSize}
 use Rattle.board_promises.specs.Boards.{filesSize}
-use Rattle.board_promises.specs.Followers.{Whole}
+use Rattle.board_promises.specs.Monitors.{Whole}
 use Rattle.board.proofs.Rooms.{filled-cleared, said-short, said-long}
 use Rattle.board.proofs.Answered.{step-decided, call-short, call-decided}
 use Rattle.board.proofs.move_all.Statement.{statement}

@@ -3,17 +3,17 @@ use Prim.Native.Nat.{_≤_, _-_}
 use mathlib.Core.Path.{_≡_, refl, sym, ap, _∙_, subst}
 use native.Mathlib.Omega.{arith}
 use lib.ListN.{length}
-use Rattle.board_promises.specs.Boards.{namesCount}
+use Rattle.board_promises.specs.Boards.{boardNamesCount}
 use Rattle.board_pass.specs.Passes.{Cleared, PassAt}
 use Rattle.board_pass.proofs.Visited.{pass-begun, pass-ended}
 use Rattle.board_pass.proofs.visit_all.Statement.{statement}
 use Rattle.board_pass.proofs.visit_all.Tie as tie
 
 abbrev Inv-loop : tie.InvT-loop
-Inv-loop board step leaver files scratch₀ pass₀ i₀ scratch pass i = PassAt board files step leaver i pass × (scratch ≡ scratch₀) × (i ≤ namesCount)
+Inv-loop board step leaver files scratch₀ pass₀ i₀ scratch pass i = PassAt board files step leaver i pass × (scratch ≡ scratch₀) × (i ≤ boardNamesCount)
 
 abbrev μ-loop : tie.MeasureT-loop
-μ-loop board step leaver files scratch₀ pass₀ i₀ scratch pass i = namesCount - i
+μ-loop board step leaver files scratch₀ pass₀ i₀ scratch pass i = boardNamesCount - i
 
 loop-holds : tie.Need-loop-holds Inv-loop μ-loop
 loop-holds c = (pass-begun _ _ _ _, refl, omega arith)

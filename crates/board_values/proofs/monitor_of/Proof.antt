@@ -1,6 +1,6 @@
 -- `board_values::monitor_of` meets its contract: the two arrays have an entry for each name. Assumes nothing.
 use borrow.Author.Needs.{needs}
-use Rattle.board_promises.specs.Followers.{Whole}
+use Rattle.board_promises.specs.Monitors.{Whole}
 use Rattle.board_promises.proofs.Moved.{monitor-read}
 use Rattle.board_values.proofs.monitor_of.Statement.{statement}
 use Rattle.board_values.proofs.monitor_of.Tie as tie

@@ -4,14 +4,14 @@ use mathlib.Core.Path.{_≡_, subst}
 use native.Mathlib.Omega.{arith}
 use native.Mathlib.Nat.{add-zero}
 use Rattle.formats.specs.Table.{morphismAt}
-use Rattle.mark_class_numbers.specs.Cells.{Advanced}
+use Rattle.mark_class_numbers.specs.Cells.{CellAdvanced}
 use Rattle.scratch.proofs.Unchanged.{unchanged-none}
 use Rattle.mark_class_numbers.proofs.Passes.{advanced-both}
 use Rattle.mark_class_numbers.proofs.lower_row.Statement.{statement}
 use Rattle.mark_class_numbers.proofs.lower_row.Tie as tie
 
 abbrev Inv-loop : tie.InvT-loop
-Inv-loop rule n k out₀ x y₀ out y = Advanced (morphismAt rule n k) (x * n + y) out₀ out × (y ≤ n)
+Inv-loop rule n k out₀ x y₀ out y = CellAdvanced (morphismAt rule n k) (x * n + y) out₀ out × (y ≤ n)
 
 abbrev μ-loop : tie.MeasureT-loop
 μ-loop rule n k out₀ x y₀ out y = n - y
@@ -42,7 +42,7 @@ returns : tie.Need-returns Inv-loop μ-loop
 returns c =
     let a = c .before .before .before .before .args in
     let q : c .before .loop .y ≡ a .n = omega arith in
-    subst (λ (y : ℕ). Advanced (morphismAt (a .rule .now) (a .n) (a .k)) (a .x * a .n + y) (a .out .now) (c .before .loop .out)) q (c .before .loop .inv .0)
+    subst (λ (y : ℕ). CellAdvanced (morphismAt (a .rule .now) (a .n) (a .k)) (a .x * a .n + y) (a .out .now) (c .before .loop .out)) q (c .before .loop .inv .0)
 
 pub lower-row-spec : {M : Type 1} → statement M
 lower-row-spec =

@@ -4,14 +4,14 @@ use mathlib.Core.Path.{_≡_, subst}
 use native.Mathlib.Omega.{arith}
 use native.Mathlib.Nat.{zero-mul}
 use Rattle.formats.specs.Table.{morphismAt}
-use Rattle.mark_closure.specs.Closing.{Advanced}
+use Rattle.mark_closure.specs.Closing.{ClosureAdvanced}
 use Rattle.mark_closure.proofs.Tables.{kept-none}
 use Rattle.mark_closure.proofs.Passes.{closed-none, advanced-row}
 use Rattle.mark_closure.proofs.close_pairs.Statement.{statement}
 use Rattle.mark_closure.proofs.close_pairs.Tie as tie
 
 abbrev Inv-loop : tie.InvT-loop
-Inv-loop rule n k scratch₀ x₀ scratch x = Advanced (morphismAt rule n k) (x * n) scratch₀ scratch × (x ≤ n)
+Inv-loop rule n k scratch₀ x₀ scratch x = ClosureAdvanced (morphismAt rule n k) (x * n) scratch₀ scratch × (x ≤ n)
 
 abbrev μ-loop : tie.MeasureT-loop
 μ-loop rule n k scratch₀ x₀ scratch x = n - x
@@ -39,7 +39,7 @@ returns : tie.Need-returns Inv-loop μ-loop
 returns c =
     let a = c .before .before .before .before .args in
     let q : c .before .loop .x ≡ a .n = omega arith in
-    subst (λ (x : ℕ). Advanced (morphismAt (a .rule .now) (a .n) (a .k)) (x * a .n) (a .scratch .now) (c .before .loop .scratch)) q (c .before .loop .inv .0)
+    subst (λ (x : ℕ). ClosureAdvanced (morphismAt (a .rule .now) (a .n) (a .k)) (x * a .n) (a .scratch .now) (c .before .loop .scratch)) q (c .before .loop .inv .0)
 
 pub close-pairs-spec : {M : Type 1} → statement M
 close-pairs-spec =

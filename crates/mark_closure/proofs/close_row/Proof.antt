@@ -4,14 +4,14 @@ use mathlib.Core.Path.{_≡_, subst}
 use native.Mathlib.Omega.{arith}
 use native.Mathlib.Nat.{add-zero}
 use Rattle.formats.specs.Table.{morphismAt}
-use Rattle.mark_closure.specs.Closing.{Advanced}
+use Rattle.mark_closure.specs.Closing.{ClosureAdvanced}
 use Rattle.mark_closure.proofs.Tables.{kept-none}
 use Rattle.mark_closure.proofs.Passes.{advanced-both}
 use Rattle.mark_closure.proofs.close_row.Statement.{statement}
 use Rattle.mark_closure.proofs.close_row.Tie as tie
 
 abbrev Inv-loop : tie.InvT-loop
-Inv-loop rule n k scratch₀ x y₀ scratch y = Advanced (morphismAt rule n k) (x * n + y) scratch₀ scratch × (y ≤ n)
+Inv-loop rule n k scratch₀ x y₀ scratch y = ClosureAdvanced (morphismAt rule n k) (x * n + y) scratch₀ scratch × (y ≤ n)
 
 abbrev μ-loop : tie.MeasureT-loop
 μ-loop rule n k scratch₀ x y₀ scratch y = n - y
@@ -37,7 +37,7 @@ returns : tie.Need-returns Inv-loop μ-loop
 returns c =
     let a = c .before .before .before .before .args in
     let q : c .before .loop .y ≡ a .n = omega arith in
-    subst (λ (y : ℕ). Advanced (morphismAt (a .rule .now) (a .n) (a .k)) (a .x * a .n + y) (a .scratch .now) (c .before .loop .scratch)) q (c .before .loop .inv .0)
+    subst (λ (y : ℕ). ClosureAdvanced (morphismAt (a .rule .now) (a .n) (a .k)) (a .x * a .n + y) (a .scratch .now) (c .before .loop .scratch)) q (c .before .loop .inv .0)
 
 pub close-row-spec : {M : Type 1} → statement M
 close-row-spec =

@@ -1,6 +1,6 @@
 -- `monitor_standing::monitor_grade` meets its contract: none for a since that is none, else one look in the closure. Assumes nothing.
 use borrow.Author.Needs.{needs}
-use Rattle.monitor_verdict.proofs.Values.{values-judgeable, start-below}
+use Rattle.verdict_call.proofs.Values.{values-judgeable, start-below}
 use Rattle.monitor_standing.proofs.Readings.{grade-none, turns-none, grade-some, turns-some}
 use Rattle.monitor_standing.proofs.monitor_grade.Statement.{statement}
 use Rattle.monitor_standing.proofs.monitor_grade.Tie as tie

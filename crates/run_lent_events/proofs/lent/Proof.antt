@@ -54,10 +54,10 @@ use Rattle.promises.proofs.Moved as MovedT
 use Rattle.promises.proofs.Moved.Laws as MovedT′
 use Rattle.promises.proofs.InPlaceAnswer as ToldT
 use Rattle.promises.proofs.InPlaceAnswer.Laws as ToldT′
-use Rattle.monitor_lent.proofs.event_in_place as in-place
-use Rattle.monitor_lent.proofs.event_in_place.Symbol as in-place-def
-use Rattle.monitor_lent.proofs.event_in_place.Symbol.{name as #monitor-lent·event-in-place}
-use Rattle.monitor_lent.proofs.event_in_place.Met as in-place-thm
+use Rattle.event_in_place_call.proofs.event_in_place as in-place
+use Rattle.event_in_place_call.proofs.event_in_place.Symbol as in-place-def
+use Rattle.event_in_place_call.proofs.event_in_place.Symbol.{name as #monitor-lent·event-in-place}
+use Rattle.event_in_place_call.proofs.event_in_place.Met as in-place-thm
 use Rattle.run_lent_events.proofs.with_monitor as with-monitor
 use Rattle.run_lent_events.proofs.with_monitor.Symbol as with-monitor-def
 use Rattle.run_lent_events.proofs.with_monitor.Symbol.{name as #run-lent-events·with-monitor}
