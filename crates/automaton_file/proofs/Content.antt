@@ -53,8 +53,8 @@ module _ (bytes : List ℕ) (counts : Counts) (p : LayoutPassed bytes counts) wh
     rest-long = omega (arith, ap length e, length-drop (1 + m + 1 + (2 + 3 * count)) bytes, end-is, end-in)
 
     -- bytes follow
-    pub trailing : 0 < length rest → (input : ℕ) → FirstFailure (automatonContentChecks input bytes) (refused TrailingBytes input (1 + m + 1 + (2 + 3 * count)))
-    trailing h input =
+    pub trailing-automaton-bytes : 0 < length rest → (input : ℕ) → FirstFailure (automatonContentChecks input bytes) (refused TrailingBytes input (1 + m + 1 + (2 + 3 * count)))
+    trailing-automaton-bytes h input =
         first-fails (trailingCheck input (automatonEnd bytes) bytes) (record { longer = omega (arith, rest-long); is-place = end-is })
 
     follows-none : length rest ≤ 0 → (input : ℕ) {v : Verdict} → FirstFailure (repeatedChecks input bytes 0 (transitionsOf bytes)) v

@@ -83,8 +83,8 @@ module _ {entry : List ℕ} {base i : ℕ} {m : List (List ℕ)} where
 pub row-loaded : (scratch : List ℕ) (base i p : ℕ) {row : List ℕ} → RowOf (bytesFrom scratch (base + (i * 64 + p * 6))) 6 row → RowOf (matrixFrom scratch base i p) 6 row
 row-loaded scratch base i p r = record { six = r .six; entries = λ q h. r .entries q h ∙ row-bytes scratch base i p q; zeros = r .zeros }
 
-pub loaded : {scratch : List ℕ} {base i p : ℕ} {m : List (List ℕ)} → p ≤ 6 → 6 ≤ p → RowsOf (matrixFrom scratch base i) p 6 m → Loaded scratch base i m
-loaded {scratch} {base} {i} {p} {m} h l r =
+pub loaded-matrix : {scratch : List ℕ} {base i p : ℕ} {m : List (List ℕ)} → p ≤ 6 → 6 ≤ p → RowsOf (matrixFrom scratch base i) p 6 m → Loaded scratch base i m
+loaded-matrix {scratch} {base} {i} {p} {m} h l r =
     let e : p ≡ 6 = omega arith in
     let r′ : RowsOf (matrixFrom scratch base i) 6 6 m = rw e at r in
     record { rows = r′ .six; columns = rows-length r′ (omega arith); entries = rows-entry r′ (omega arith) }

@@ -7,7 +7,7 @@ use native.Mathlib.Omega.{arith}
 use native.Mathlib.Nat.{add-sub-of-le}
 use lib.ListN.{length, getD, set, drop, length-set, length-append, length-drop, List·getD-append}
 use lib.Seq.{getD-set-same, getD-set-other, getD-append-add, getD-drop, ext-getD}
-use Rattle.finite.proofs.Numbers.{Compared, lesser, level, greater, compared}
+use Rattle.finite.proofs.Numbers.{Compared, lesser, level, greater, compared-numbers}
 use Rattle.board_promises.specs.declared.Board.{Board}
 use Rattle.board_promises.specs.Boards.{boardNamesCount}
 use Rattle.board_state.specs.State.{stateSize, flagByte, boardStateOf, stateWith}
@@ -59,7 +59,7 @@ data Place (i j : ℕ) : Type 0 where
   later : 3 * (i + 1) ≤ j → Place i j
 
 place : (i j : ℕ) → Place i j
-place i j = from-first (compared j (3 * i))
+place i j = from-first (compared-numbers j (3 * i))
   where
     from-third : Compared j (3 * i + 2) → 3 * i + 1 < j → Place i j
     from-third (lesser l) h = absurd (omega arith)
@@ -69,12 +69,12 @@ place i j = from-first (compared j (3 * i))
     from-second : Compared j (3 * i + 1) → 3 * i < j → Place i j
     from-second (lesser l) h = absurd (omega arith)
     from-second (level e) h = second e
-    from-second (greater l) h = from-third (compared j (3 * i + 2)) l
+    from-second (greater l) h = from-third (compared-numbers j (3 * i + 2)) l
 
     from-first : Compared j (3 * i) → Place i j
     from-first (lesser l) = earlier l
     from-first (level e) = first e
-    from-first (greater l) = from-second (compared j (3 * i + 1)) l
+    from-first (greater l) = from-second (compared-numbers j (3 * i + 1)) l
 
 -- the bytes of the first names are written, the others stay
 pub record Written (b : Board) (state₀ state : List ℕ) (count : ℕ) : Type 0 where
@@ -113,7 +113,7 @@ module _ {b : Board} {state₀ state : List ℕ} {i : ℕ} (w : Written b state�
 
   -- with the lowest grade behind them
   pub written-all : {z : ℕ} → i ≡ boardNamesCount → z ≡ b .lowest % 256 → set state 24 z ≡ stateWith state₀ b
-  written-all {z} e ez = ext-getD 0 (set state 24 z) (stateWith state₀ b) lengths (λ j less. at j (compared j 24))
+  written-all {z} e ez = ext-getD 0 (set state 24 z) (stateWith state₀ b) lengths (λ j less. at j (compared-numbers j 24))
     where
       lengths : length (set state 24 z) ≡ length (stateWith state₀ b)
       lengths =

@@ -14,16 +14,16 @@ use Rattle.buchi.proofs.WordMatrices.{matrix-same, matrix-append}
 
 module _ {a : Automaton} {y : List ℕ} {E : Matrix} (cycle : IsMatrix a y E) where
   -- a word whose matrix R has R·E = R, and c times y
-  pub absorbs : {R : Matrix} → SameEntries (a .states) (product (a .states) R E) R → (c : ℕ) (x : List ℕ) → IsMatrix a x R → IsMatrix a (x ++ repeat c y) R
+  pub round-absorbs : {R : Matrix} → SameEntries (a .states) (product (a .states) R E) R → (c : ℕ) (x : List ℕ) → IsMatrix a x R → IsMatrix a (x ++ repeat c y) R
   unfolding repeat
-  absorbs {R} stays zero x m = subst (λ w. IsMatrix a w R) (sym (append-nil x)) m
-  absorbs {R} stays (suc c) x m =
-      subst (λ w. IsMatrix a w R) (append-assoc x y (repeat c y)) (absorbs stays c (x ++ y) (matrix-same stays (matrix-append m cycle)))
+  round-absorbs {R} stays zero x m = subst (λ w. IsMatrix a w R) (sym (append-nil x)) m
+  round-absorbs {R} stays (suc c) x m =
+      subst (λ w. IsMatrix a w R) (append-assoc x y (repeat c y)) (round-absorbs stays c (x ++ y) (matrix-same stays (matrix-append m cycle)))
 
   -- y one or more times, where E·E = E
   pub repeat-matrix : SameEntries (a .states) (product (a .states) E E) E → (c : ℕ) → IsMatrix a (repeat (suc c) y) E
   unfolding repeat
-  repeat-matrix square c = absorbs square c y cycle
+  repeat-matrix square c = round-absorbs square c y cycle
 
 -- where the j-th round of y begins
 abbrev pub round : List ℕ → List ℕ → ℕ → ℕ

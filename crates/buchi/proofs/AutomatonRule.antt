@@ -21,7 +21,7 @@ use Rattle.theory.specs.Smallest.{MarksGrades}
 use Rattle.theory.proofs.Words.{over-append}
 use Rattle.theory.proofs.Values.{value-element, value-some, inside-of}
 use Rattle.theory.proofs.Starts.{start-or-turn, lasso-started, same-started, equal-started, started-values}
-use Rattle.theory.proofs.Strength.{value-two, settled-cycle, settled-start, settled-linked, Settled, settle}
+use Rattle.theory.proofs.Strength.{value-two, settled-cycle, settled-start, settled-linked, Settled, settle-strength}
 use Rattle.theory.proofs.GradedStrength.{levels-strong}
 use Rattle.theory.proofs.Gradings.{GradedMarks, level-up, level-down, level-falls, at-least-small, graded-by}
 use Rattle.theory.proofs.Closure.{linked-test, linked-intro, linked-elim}
@@ -81,7 +81,7 @@ module _ {a : Automaton} {m : Morphism} {matrix : ℕ → Matrix} (law : Lawful 
   pub value-recurrence : {u v : List ℕ} {s z : ℕ} → Over (m .letters) u → Over (m .letters) v → value m u ≡ element s → value m v ≡ element z
       → AcceptedBy a u v ↔ Recurs a (matrix (settled-start m s z)) (matrix (settled-cycle m z))
   value-recurrence {u} {v} {s} {z} ou ov eu ev =
-      let t : Settled m u v s z = settle law ou ov eu ev in
+      let t : Settled m u v s z = settle-strength law ou ov eu ev in
       let both = linked-recurrence (settled-linked law (inside-of law ou eu) (inside-of law ov ev)) (t .start-over) (t .cycle-over) (t .start-value) (t .cycle-value) in
       (λ k. both .0 (accepted-same (λ i. sym (t .same i)) k), λ k. accepted-same (t .same) (both .1 k))
 
@@ -118,7 +118,7 @@ module _ {a : Automaton} {m : Morphism} {matrix : ℕ → Matrix} (law : Lawful 
         let s = started-values law l .start in
         let z = started-values law l .cycle in
         let over = lasso-started l .start-over in
-        let t : Settled m (start-or-turn u v) v (s .the) (z .the) = settle law over (l .cycle-over) (s .is) (z .is) in
+        let t : Settled m (start-or-turn u v) v (s .the) (z .the) = settle-strength law over (l .cycle-over) (s .is) (z .is) in
         let pair = settled-linked law (s .inside) (z .inside) in
         record {
           cycle-some = l .cycle-some;

@@ -17,7 +17,7 @@ use Rattle.buchi.specs.Rule.{Recurs}
 use Rattle.buchi.proofs.WordMatrices.{matrix-path, matrix-final, path-matrix, final-matrix}
 use Rattle.buchi.proofs.LaidRuns.{laid-accepting}
 use Rattle.buchi.proofs.RunPaths.{run-path, run-final}
-use Rattle.buchi.proofs.Absorption.{absorbs, repeat-matrix, round, before-round, from-round}
+use Rattle.buchi.proofs.Absorption.{round-absorbs, repeat-matrix, round, before-round, from-round}
 
 -- the entries give the run; nothing is asked of the products
 pub recurs-accepted : {a : Automaton} {x y : List ℕ} {R E : Matrix} → 0 < length y → IsMatrix a x R → IsMatrix a y E → Recurs a R E → AcceptedBy a x y
@@ -65,7 +65,7 @@ module _ {a : Automaton} {x y : List ℕ} (some : 0 < length y) (k : AcceptedBy 
     reached : (t : ℕ) → ¬ (R (run .state 0) (state-at t) ≡ 0)
     unfolding state-at
     reached t =
-        path-matrix (absorbs cycle stays (chosen t) x start)
+        path-matrix (round-absorbs cycle stays (chosen t) x start)
         (subst (λ w. WordPath a w (run .state 0) (run .state (round x y (chosen t)))) (before-round x y some (chosen t))
         (run-path run 0 (round x y (chosen t)) (round x y (chosen t)) (omega arith)))
 

@@ -163,5 +163,5 @@ module _ {first second : List ℕ} {one two : Shape} {entry : List ℕ} (map : L
               ∙ sym (second-grade s r _ _ (maps .inside x hx) (maps .inside z hz));
         }
 
-        pub judged : MapJudged first second map entry settled kept
-        judged = record { tells = tells-same (kept-reduces, reduces-kept) files-kept; same-length = r .kept .same-length }
+        pub judged-map : MapJudged first second map entry settled kept
+        judged-map = record { tells = tells-same (kept-reduces, reduces-kept) files-kept; same-length = r .kept .same-length }

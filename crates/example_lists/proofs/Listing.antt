@@ -58,8 +58,8 @@ marked s e p q =
     simp (eq-eqb (bitOr s e) s p, letters-sum e, eq-eqb ((e % 2 + e / 2 % 2 + e / 4 % 2 + e / 8 % 2 + e / 16 % 2 + e / 32 % 2) % 2) 0 q)
 
 module _ {d : List ℕ} {at : ℕ} (s e : ℕ) where
-  pub unmarked : (bitOr s e ≡ s → ⊥) → at ≤ length d → Stored d at (setMarkBytes s e) d at
-  unmarked n h = rw (no-part s e n) (stored-none h)
+  pub listed-unmarked : (bitOr s e ≡ s → ⊥) → at ≤ length d → Stored d at (setMarkBytes s e) d at
+  listed-unmarked n h = rw (no-part s e n) (stored-none h)
 
   pub unmarked-odd : ((e % 2 + e / 2 % 2 + e / 4 % 2 + e / 8 % 2 + e / 16 % 2 + e / 32 % 2) % 2 ≡ 0 → ⊥) → at ≤ length d
       → Stored d at (setMarkBytes s e) d at
@@ -154,8 +154,8 @@ module _ (word : List ℕ) (some : length word ≡ 0 → ⊥) where
         (sym (repeated (decimalOf (partOf star 1 word)) (max 1 (decimalOf (partOf star 0 word))) h))
 
 -- a byte is repeated as often as the count says, and once where that is 0
-pub once : (word : List ℕ) {n : ℕ} → n ≡ decimalOf (partOf star 0 word) → n < 1 → 1 ≡ max 1 (decimalOf (partOf star 0 word))
-once word e h = omega arith
+pub listed-once : (word : List ℕ) {n : ℕ} → n ≡ decimalOf (partOf star 0 word) → n < 1 → 1 ≡ max 1 (decimalOf (partOf star 0 word))
+listed-once word e h = omega arith
 
 pub as-often : (word : List ℕ) {n : ℕ} → n ≡ decimalOf (partOf star 0 word) → 1 ≤ n → n ≡ max 1 (decimalOf (partOf star 0 word))
 as-often word e h = omega arith

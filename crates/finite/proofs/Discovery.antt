@@ -7,7 +7,7 @@ use mathlib.Core.List.{List, [], _∷_, List·Memᴰ·head, List·Memᴰ·eq-of-
 use Prim.Native.Nat.{ℕ, _<_}
 use native.Mathlib.Omega.{arith}
 use lib.ListN.{length, getD}
-use Rattle.finite.proofs.Numbers.{Compared, lesser, level, greater, compared}
+use Rattle.finite.proofs.Numbers.{Compared, lesser, level, greater, compared-numbers}
 use Rattle.finite.specs.Search.{anyBelow}
 use Rattle.finite.proofs.Search.{Found, any-intro, any-elim, leastBelow, least-unique}
 use Rattle.finite.proofs.Worklist.{Entry}
@@ -87,7 +87,7 @@ module _ {A : Type 0} {same : A → A → Bool} (eq : Equality same) {δ : ℕ �
     letter-lt = λ i h l. found i h l .letter-lt;
     step = λ i h l. found i h l .step;
     increasing = λ i j h l m.
-        ordered l m (found i h (omega arith)) (found j (omega arith) m) (compared (parentOf same δ k q i) (parentOf same δ k q j)) (compared (letterOf same δ k q i) (letterOf same δ k q j));
+        ordered l m (found i h (omega arith)) (found j (omega arith) m) (compared-numbers (parentOf same δ k q i) (parentOf same δ k q j)) (compared-numbers (letterOf same δ k q i) (letterOf same δ k q j));
     fresh = λ j p a h l m r b. fresh l (found j h l) p a b r;
     distinct = apart;
     closed = closed;

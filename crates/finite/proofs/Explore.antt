@@ -13,7 +13,7 @@ use lib.Dec.{T}
 use lib.ListN.{length, getElem?}
 use Rattle.finite.proofs.Tests.{T-dec, T-true, T-false, T-or-left, T-or-right, T-or-cases, decide, decide-intro, decide-elim}
 use Rattle.finite.proofs.Numbers.{below-cases}
-use Rattle.finite.proofs.Places.{At, Among, Extends, at-below, at-mem, at-same, at-cast, mem-among, at-last, at-front, at-snoc-cases, extends-refl, extends-more, extends-trans, extends-length, extends-at, extends-front, extends-among, Read, read-none, read-some, read}
+use Rattle.finite.proofs.Places.{At, Among, Extends, at-below, at-mem, at-same, at-cast, mem-among, at-last, at-front, at-snoc-cases, extends-refl, extends-more, extends-trans, extends-length, extends-at, extends-front, extends-among, Read, read-none, read-some, read-place}
 use Rattle.finite.proofs.FirstWords.{Sooner, sooner-parent, sooner-letter}
 
 -- `same` tests equality
@@ -157,14 +157,14 @@ pub record Walked {A : Type 0} (starts : List A) (next : ℕ → A → List A) (
   pub known : Known next k l′ (length l′) (length l′) 0
 
 module _ {A : Type 0} {same : A → A → Bool} (eq : Equality same) (starts : List A) (next : ℕ → A → List A) (k : ℕ) where
-  pub added : (ys l : List A) → Grown starts next k l → ((l′ : List A) → Extends l l′ → (y : A) → List·Memᴰ y ys → Source starts next k l′ (length l′) y) → Added starts next k l ys (add same l ys)
+  pub explore-added : (ys l : List A) → Grown starts next k l → ((l′ : List A) → Extends l l′ → (y : A) → List·Memᴰ y ys → Source starts next k l′ (length l′) y) → Added starts next k l ys (add same l ys)
   unfolding add
-  added [] l g ready = record { grown = g; extends = extends-refl l; holds = λ y m. absurd (List·Memᴰ·not-nil m) }
-  added (y ∷ ys) l g ready =
-      ⊎-elim (λ t. rw (add-old same y ys l t) (old (member-elim eq y l t) (added ys l g (λ l′ e z m. ready l′ e z (List·Memᴰ·tail m)))))
+  explore-added [] l g ready = record { grown = g; extends = extends-refl l; holds = λ y m. absurd (List·Memᴰ·not-nil m) }
+  explore-added (y ∷ ys) l g ready =
+      ⊎-elim (λ t. rw (add-old same y ys l t) (old (member-elim eq y l t) (explore-added ys l g (λ l′ e z m. ready l′ e z (List·Memᴰ·tail m)))))
       (λ t.
       rw (add-new same y ys l t)
-      (new (added ys (l ++ (y ∷ [])) (grown-more g (λ m. t (member-intro eq m)) (ready l (extends-refl l) y (List·Memᴰ·head refl)))
+      (new (explore-added ys (l ++ (y ∷ [])) (grown-more g (λ m. t (member-intro eq m)) (ready l (extends-refl l) y (List·Memᴰ·head refl)))
       (λ l′ e z m. ready l′ (extends-trans (extends-more l (y ∷ [])) e) z (List·Memᴰ·tail m)))))
       (T-dec (member same y l))
     where
@@ -211,7 +211,7 @@ module _ {A : Type 0} {same : A → A → Bool} (eq : Equality same) (starts : L
           (below-cases s)
       go p′ b y z (sooner-letter e s) c q m = absurd (omega arith)
   expanded (suc m) a i x l h p g n =
-      let r : Added starts next k l (next a x) (add same l (next a x)) = added (next a x) l g ready in
+      let r : Added starts next k l (next a x) (add same l (next a x)) = explore-added (next a x) l g ready in
       go r
       (expanded m (suc a) i x (add same l (next a x)) (omega arith) (extends-at (r .extends) p) (r .grown) (letter-known p n r))
     where
@@ -231,10 +231,10 @@ module _ {A : Type 0} {same : A → A → Bool} (eq : Equality same) (starts : L
   }
 
   -- with room for every entry the walk ends when all entries are done
-  pub walked : (N : ℕ) → ((l : List A) → Grown starts next k l → length l ≤ N) → (f i : ℕ) (l : List A) → N ≤ f + i → Grown starts next k l → Known next k l (length l) i 0 → Walked starts next k l (walk same next k f i l)
+  pub explore-walked : (N : ℕ) → ((l : List A) → Grown starts next k l → length l ≤ N) → (f i : ℕ) (l : List A) → N ≤ f + i → Grown starts next k l → Known next k l (length l) i 0 → Walked starts next k l (walk same next k f i l)
   unfolding walk
-  walked N bound zero i l h g n = finished (omega (arith, bound l g)) g n
-  walked N bound (suc f) i l h g n = go (read l i) (λ x p. expanded k 0 i x l (omega arith) p g n) (λ l′ s. walked N bound f (suc i) l′ (omega arith) (s .grown) (s .known))
+  explore-walked N bound zero i l h g n = finished (omega (arith, bound l g)) g n
+  explore-walked N bound (suc f) i l h g n = go (read-place l i) (λ x p. expanded k 0 i x l (omega arith) p g n) (λ l′ s. explore-walked N bound f (suc i) l′ (omega arith) (s .grown) (s .known))
     where
       go : Read l i → ((x : A) → At x l i → Expanded starts next k l i (expand same next k 0 x l)) → ((l′ : List A) → Expanded starts next k l i l′ → Walked starts next k l′ (walk same next k f (suc i) l′)) → Walked starts next k l (walk same next k (suc f) i l)
       go (read-none e r) one rest = rw (walk-none same next k f i l r) (finished e g n)

@@ -10,7 +10,7 @@ use lib.ListN.{length, getD}
 use Rattle.finite.proofs.Places.{At, Among, at-below, at-mem, at-cast, at-getD, getD-at, mem-among, extends-length, extends-among}
 use Rattle.finite.proofs.Worklist.{Reachable, Origin, start, parent, Worklist, Entry, Closed, Coding, worklist-le, entry-reached, reached-entry}
 use Rattle.finite.proofs.FirstWords.{sooner-parent}
-use Rattle.finite.proofs.Explore.{Equality, add, walk, explore, known-start, Source, source-start, source-step, Grown, grown-none, Added, added, Walked, walked}
+use Rattle.finite.proofs.Explore.{Equality, add, walk, explore, known-start, Source, source-start, source-step, Grown, grown-none, Added, explore-added, Walked, explore-walked}
 
 -- y is next to x by the letter a, one of k letters
 pub record NextIn {A : Type 0} (next : ℕ → A → List A) (k a : ℕ) (x y : A) : Type 0 where
@@ -57,11 +57,11 @@ module _ {A : Type 0} {same : A → A → Bool} (eq : Equality same) {starts : L
   -- the search ends with all that it can find
   pub explored : Explored starts next k (explore same starts next k fuel)
   unfolding explore
-  explored = go (added eq starts next k starts [] grown-none (λ l′ e y m. source-start m))
+  explored = go (explore-added eq starts next k starts [] grown-none (λ l′ e y m. source-start m))
     where
       begun : Added starts next k [] starts (add same [] starts) → Walked starts next k (add same [] starts) (walk same next k fuel 0 (add same [] starts))
       begun r =
-          walked eq starts next k N (grown-le c) fuel 0 (add same [] starts) (omega arith) (r .grown) known-start
+          explore-walked eq starts next k N (grown-le c) fuel 0 (add same [] starts) (omega arith) (r .grown) known-start
 
       go : Added starts next k [] starts (add same [] starts) → Explored starts next k (walk same next k fuel 0 (add same [] starts))
       go r =

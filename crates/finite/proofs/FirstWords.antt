@@ -7,7 +7,7 @@ use mathlib.Core.List.{List, [], _∷_}
 use Prim.Native.Nat.{ℕ, zero, suc, _≤_, _<_}
 use native.Mathlib.Omega.{arith}
 use lib.ListN.{length}
-use Rattle.finite.proofs.Numbers.{strong, Compared, lesser, level, greater, compared}
+use Rattle.finite.proofs.Numbers.{strong-induction, Compared, lesser, level, greater, compared-numbers}
 use Rattle.finite.specs.Letters.{Over, over-nil}
 use Rattle.finite.specs.Shortlex.{Before, shorter, NotAfter}
 use Rattle.finite.proofs.Shortlex.{over-snoc, over-front, over-last, snoc, length-snoc, snoc-induction, before-snoc, before-last, empty-first, not-after-snoc, not-after-last, before-not-after}
@@ -83,7 +83,7 @@ module _ {A : Type 0} {x₀ : A} {δ : ℕ → A → A} {k : ℕ} {q : ℕ → A
 
   -- what holds of entry 0, and of an entry whenever of its parent, holds of every entry
   entry-induction : (P : ℕ → Type 0) → P 0 → ((i : ℕ) → 0 < i → i < c → P (parent i) → P i) → (i : ℕ) → i < c → P i
-  entry-induction P base step = strong (λ i. i < c → P i) go
+  entry-induction P base step = strong-induction (λ i. i < c → P i) go
     where
       go : (i : ℕ) → ((j : ℕ) → j < i → j < c → P j) → i < c → P i
       go zero before l = base
@@ -115,7 +115,7 @@ module _ {A : Type 0} {x₀ : A} {δ : ℕ → A → A} {k : ℕ} {q : ℕ → A
 
   -- the entries stand in the order of their words
   pub words-increase : (i j : ℕ) → i < j → j < c → Before (firstWord parent letter i) (firstWord parent letter j)
-  words-increase i j = strong (λ j. (i : ℕ) → i < j → j < c → Before (firstWord parent letter i) (firstWord parent letter j)) go j i
+  words-increase i j = strong-induction (λ j. (i : ℕ) → i < j → j < c → Before (firstWord parent letter i) (firstWord parent letter j)) go j i
     where
       W : ℕ → List ℕ
       W i = firstWord parent letter i
@@ -145,7 +145,7 @@ module _ {A : Type 0} {x₀ : A} {δ : ℕ → A → A} {k : ℕ} {q : ℕ → A
 
   -- equal entries have one place
   same-place : (i j : ℕ) → i < c → j < c → q i ≡ q j → i ≡ j
-  same-place i j l m e = go (compared i j)
+  same-place i j l m e = go (compared-numbers i j)
     where
       go : Compared i j → i ≡ j
       go (lesser h) = absurd (o .distinct i j h m e)
@@ -173,7 +173,7 @@ module _ {A : Type 0} {x₀ : A} {δ : ℕ → A → A} {k : ℕ} {q : ℕ → A
           let p : Entry q c (after δ x₀ w) = word-entry w r in
           let leads : δ a (q (p .at)) ≡ q (suc i) = ap (δ a) (p .same) ∙ sym (after-snoc δ x₀ w a) ∙ e in
           rw (word-step (suc i) (omega arith) l)
-          (later-word (suc i) (p .at) a w (omega arith) l (p .below) s leads (before (p .at) (p .below) (sym (p .same))) (compared (parent (suc i)) (p .at)) (compared (letter (suc i)) a))
+          (later-word (suc i) (p .at) a w (omega arith) l (p .below) s leads (before (p .at) (p .below) (sym (p .same))) (compared-numbers (parent (suc i)) (p .at)) (compared-numbers (letter (suc i)) a))
 
   -- each entry's word is the first of all words that lead to it
   pub first-word : (i : ℕ) → i < c → FirstWord x₀ δ k (q i) (firstWord parent letter i)

@@ -22,12 +22,12 @@ pub data Compared (a b : ℕ) : Type 0 where
   level : a ≡ b → Compared a b
   greater : b < a → Compared a b
 
-pub compared : (a b : ℕ) → Compared a b
-compared a b = ⊎-elim (λ h. ⊎-elim (λ e. level e) (λ l. lesser l) (eq-or-lt-of-le h)) (λ l. greater l) (le-or-lt a b)
+pub compared-numbers : (a b : ℕ) → Compared a b
+compared-numbers a b = ⊎-elim (λ h. ⊎-elim (λ e. level e) (λ l. lesser l) (eq-or-lt-of-le h)) (λ l. greater l) (le-or-lt a b)
 
 -- what holds of n whenever it holds of all smaller numbers holds of every n
-pub strong {ℓ} : (P : ℕ → Type ℓ) → ((n : ℕ) → ((m : ℕ) → m < n → P m) → P n) → (n : ℕ) → P n
-strong P step n = step n (below n)
+pub strong-induction {ℓ} : (P : ℕ → Type ℓ) → ((n : ℕ) → ((m : ℕ) → m < n → P m) → P n) → (n : ℕ) → P n
+strong-induction P step n = step n (below n)
   where
     below : (k m : ℕ) → m < k → P m
     below zero m h = absurd (not-suc-le-zero h)

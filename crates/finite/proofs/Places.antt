@@ -64,10 +64,10 @@ module _ {A : Type 0} where
   getD-at (x ∷ l) zero d h = at-head refl
   getD-at (x ∷ l) (suc n) d h = at-tail (getD-at l n d (le-of-suc-le-suc h))
 
-  pub read : (l : List A) (i : ℕ) → Read l i
-  read [] i = read-none (omega arith) refl
-  read (y ∷ l) zero = read-some y (at-head refl) refl
-  read (y ∷ l) (suc i) = go (read l i)
+  pub read-place : (l : List A) (i : ℕ) → Read l i
+  read-place [] i = read-none (omega arith) refl
+  read-place (y ∷ l) zero = read-some y (at-head refl) refl
+  read-place (y ∷ l) (suc i) = go (read-place l i)
     where
       go : Read l i → Read (y ∷ l) (suc i)
       go (read-none h e) = read-none (omega arith) e

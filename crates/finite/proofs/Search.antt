@@ -10,10 +10,10 @@ use native.Mathlib.Omega.{arith}
 use borrow.Author.Tests.{ltb-true, ltb-false}
 use lib.Dec.{T, ltb}
 use Rattle.finite.specs.Search.{anyBelow}
-use Rattle.finite.proofs.Numbers.{below-cases, le-or-lt, Compared, lesser, level, greater, compared}
+use Rattle.finite.proofs.Numbers.{below-cases, le-or-lt, Compared, lesser, level, greater, compared-numbers}
 use Rattle.finite.proofs.Tests.{T-and, T-and-left, T-and-right, T-or-left, T-or-right, T-or-cases, T-not, T-dec, true-T}
 unfoldable pub use Rattle.finite.proofs.Count.{countBelow}
-pub use Rattle.finite.proofs.Count.{bit, bit-le, bit-passes, count-zero, count-suc, count-add-one, count-in, count-out, count-le, count-all, count-mono, count-strict, count-same}
+pub use Rattle.finite.proofs.Count.{search-bit, bit-le, bit-passes, count-zero, count-suc, count-add-one, count-in, count-out, count-le, count-all, count-mono, count-strict, count-same}
 
 -- every i below n passes p
 unfoldable pub allBelow : ℕ → (ℕ → Bool) → Bool
@@ -168,7 +168,7 @@ module _ (n : ℕ) (p : ℕ → Bool) where
 
   -- the one number with these properties is the least
   pub least-unique : (l : ℕ) → l ≤ n → (l < n → T (p l)) → ((i : ℕ) → i < l → ¬ T (p i)) → l ≡ leastBelow n p
-  least-unique l h holds first = go (compared l (leastBelow n p))
+  least-unique l h holds first = go (compared-numbers l (leastBelow n p))
     where
       go : Compared l (leastBelow n p) → l ≡ leastBelow n p
       go (lesser q) = absurd (least-first l q (holds (omega (arith, least-le))))

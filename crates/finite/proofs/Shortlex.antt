@@ -6,7 +6,7 @@ use Prim.Native.Nat.{ℕ, suc, _<_}
 use native.Mathlib.Nat.{lt-irrefl}
 use native.Mathlib.Omega.{arith}
 use lib.ListN.{length, length-append}
-use Rattle.finite.proofs.Numbers.{Compared, lesser, level, greater, compared}
+use Rattle.finite.proofs.Numbers.{Compared, lesser, level, greater, compared-numbers}
 use Rattle.finite.specs.Shortlex.{Smaller, here, there, Before, shorter, smaller, NotAfter}
 use Rattle.finite.specs.Letters.{Over, over-nil, over-cons}
 
@@ -84,11 +84,11 @@ placed-level : (u v : List ℕ) → length u ≡ length v → Placed u v
 placed-level [] [] e = equal refl
 placed-level [] (y ∷ v) e = absurd (omega arith)
 placed-level (x ∷ u) [] e = absurd (omega arith)
-placed-level (x ∷ u) (y ∷ v) e = placed-cons (omega arith) (compared x y) (placed-level u v (omega arith))
+placed-level (x ∷ u) (y ∷ v) e = placed-cons (omega arith) (compared-numbers x y) (placed-level u v (omega arith))
 
 -- the order is total
 pub placed : (u v : List ℕ) → Placed u v
-placed u v = go (compared (length u) (length v))
+placed u v = go (compared-numbers (length u) (length v))
   where
     go : Compared (length u) (length v) → Placed u v
     go (lesser l) = earlier (shorter l)
@@ -133,7 +133,7 @@ before-not-after h (inr l) = before-trans h l
 
 -- of two words one letter longer, one is before the other as the words are, or as the letters where the words agree
 pub before-snoc-cases : (u v : List ℕ) (a b : ℕ) → Before (snoc u a) (snoc v b) → Before u v ⊎ ((u ≡ v) × (a < b))
-before-snoc-cases u v a b h = go (placed u v) (compared a b)
+before-snoc-cases u v a b h = go (placed u v) (compared-numbers a b)
   where
     go : Placed u v → Compared a b → Before u v ⊎ ((u ≡ v) × (a < b))
     go (earlier l) c = inl l

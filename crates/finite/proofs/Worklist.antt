@@ -6,7 +6,7 @@ use mathlib.Core.List.{List, [], _∷_}
 use Prim.Native.Nat.{ℕ, suc, _≤_, _<_}
 use native.Mathlib.Omega.{arith}
 use lib.ListN.{length}
-use Rattle.finite.proofs.Numbers.{strong, Compared, lesser, level, greater, compared}
+use Rattle.finite.proofs.Numbers.{strong-induction, Compared, lesser, level, greater, compared-numbers}
 use Rattle.finite.proofs.Pigeonhole.{injection-le}
 
 -- x is reached from a start by these letters, the last one first
@@ -58,7 +58,7 @@ pub record Spelled {A : Type 0} (Start : A → Type 0) (Step : ℕ → A → A �
 module _ {A : Type 0} {Start : A → Type 0} {Step : ℕ → A → A → Type 0} {q : ℕ → A} where
   -- following the parents: entry i is reached by a word of at most i letters
   pub entry-spelled : {c : ℕ} → Worklist Start Step q c → (i : ℕ) → i < c → Spelled Start Step (q i) i
-  entry-spelled {c} l = strong (λ i. i < c → Spelled Start Step (q i) i) (λ i before h. go i before h (l .origin i h))
+  entry-spelled {c} l = strong-induction (λ i. i < c → Spelled Start Step (q i) i) (λ i before h. go i before h (l .origin i h))
     where
       go : (i : ℕ) → ((j : ℕ) → j < i → j < c → Spelled Start Step (q j) j) → i < c → Origin Start Step q i → Spelled Start Step (q i) i
       go i before h (start s) = record { word = []; reached = begin s; short = omega arith }
@@ -84,7 +84,7 @@ module _ {A : Type 0} {Start : A → Type 0} {Step : ℕ → A → A → Type 0}
   pub distinct-le : {c N : ℕ} {code : A → ℕ} → Coding Start Step code N → Distinct q c → ((i : ℕ) → i < c → Reachable Start Step (q i)) → c ≤ N
   distinct-le {c} {N} {code} k d r = injection-le {f = λ i. code (q i)} (record {
     maps = λ i h. k .below (q i) (r i h);
-    apart = λ i j h l e. go i j h l (k .apart (q i) (q j) (r i h) (r j l) e) (compared i j);
+    apart = λ i j h l e. go i j h l (k .apart (q i) (q j) (r i h) (r j l) e) (compared-numbers i j);
   })
     where
       go : (i j : ℕ) → i < c → j < c → q i ≡ q j → Compared i j → i ≡ j

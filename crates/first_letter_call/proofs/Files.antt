@@ -28,11 +28,11 @@ abbrev table : List ℕ
 table = 0 ∷ 0 ∷ 1 ∷ 1 ∷ []
 
 module _ {n k : ℕ} {elements marks : List ℕ} {count size : ℕ} {before : List ℕ} (p : SectionsNeeds n k elements marks count size before) where
-  pub cells : n * n ≤ 4
-  cells = mul-le-mul (p .few) (p .few)
+  pub first-letter-cells : n * n ≤ 4
+  first-letter-cells = mul-le-mul (p .few) (p .few)
 
   pub elements-place : CountedNeeds (0 ∷ 0 ∷ 1 ∷ 1 ∷ []) n (n * n) before 0
-  elements-place = record { small = omega (arith, p .few); enough = omega (arith, cells); room = omega (arith, cells, p .room) }
+  elements-place = record { small = omega (arith, p .few); enough = omega (arith, first-letter-cells); room = omega (arith, first-letter-cells, p .room) }
 
   module _ {now : List ℕ} {letters-at : ℕ} (w : Written before 0 (n ∷ take (n * n) (0 ∷ 0 ∷ 1 ∷ 1 ∷ [])) now letters-at) where
     kept : length now ≡ length before
@@ -42,7 +42,7 @@ module _ {n k : ℕ} {elements marks : List ℕ} {count size : ℕ} {before : Li
     letters-place = record {
       small = omega (arith, p .letters-small);
       enough = p .elements-long;
-      room = omega (arith, kept, counted-end elements-place w, cells, p .letters-small, p .room);
+      room = omega (arith, kept, counted-end elements-place w, first-letter-cells, p .letters-small, p .room);
     }
 
     module _ {then : List ℕ} {marks-at : ℕ} (v : Written now letters-at (k ∷ take k elements) then marks-at) where
@@ -53,7 +53,7 @@ module _ {n k : ℕ} {elements marks : List ℕ} {count size : ℕ} {before : Li
       marks-place = record {
         small = omega (arith, p .count-small);
         enough = p .marks-long;
-        room = omega (arith, kept-again, counted-end elements-place w, counted-end letters-place v, cells, p .letters-small, p .size-small, p .room);
+        room = omega (arith, kept-again, counted-end elements-place w, counted-end letters-place v, first-letter-cells, p .letters-small, p .size-small, p .room);
       }
 
       module _ {after : List ℕ} {end : ℕ} (u : Written then marks-at (count ∷ take size marks) after end) where
@@ -63,7 +63,7 @@ module _ {n k : ℕ} {elements marks : List ℕ} {count size : ℕ} {before : Li
         pub sections-written : SectionsWritten n k elements marks count size before after end
         sections-written = record {
           front = written-at-front (three-parts w v u
-              (omega (arith, cells, p .room, p .letters-small, p .size-small, length-take-le (n * n) table (omega (arith, cells)), length-take-le k elements (p .elements-long), length-take-le size marks (p .marks-long))));
+              (omega (arith, first-letter-cells, p .room, p .letters-small, p .size-small, length-take-le (n * n) table (omega (arith, first-letter-cells)), length-take-le k elements (p .elements-long), length-take-le size marks (p .marks-long))));
         }
 
 -- ---- they are the file's

@@ -6,7 +6,7 @@ use mathlib.Core.Bool.{Bool, true, false, cond}
 use mathlib.Core.Logic.{_↔_}
 use mathlib.Core.List.{List}
 use lib.Dec.{T, eqb}
-use Rattle.finite.proofs.Numbers.{Compared, lesser, level, greater, compared}
+use Rattle.finite.proofs.Numbers.{Compared, lesser, level, greater, compared-numbers}
 use Rattle.finite.proofs.Tests.{true-T}
 use Rattle.theory.specs.Words.{endless}
 use Rattle.formats.proofs.ReadBack.{written-rule}
@@ -97,7 +97,7 @@ module _ {set k r grade : ℕ} (o : FirstOther set k r) (l : r < k) (some : 1 �
 
       least : (s x : ℕ) → s < 2 → x < k → elementIn set x ≡ s → first s ≤ x
       least zero x h g e = omega arith
-      least (suc s) x h g e = go (compared r x)
+      least (suc s) x h g e = go (compared-numbers r x)
         where
           go : Compared r x → r ≤ x
           go (lesser q) = omega arith

@@ -20,17 +20,17 @@ pub record Asks (needed bytes : ℕ) : Type 0 where
   pub enough : (buffer : List ℕ) (place : ℕ) → length buffer ≡ bytes → ¬ ShortAt needed buffer place
   pub too-few : (buffer : List ℕ) → length buffer + 1 ≡ bytes → ShortAt needed buffer 0
 
-pub asks : {needed bytes : ℕ} → needed ≡ bytes → Asks needed bytes
-asks e = record {
+pub section-asks : {needed bytes : ℕ} → needed ≡ bytes → Asks needed bytes
+section-asks e = record {
   enough = λ buffer place l s. omega (arith, e, l, s .short);
   too-few = λ buffer l. record { short = omega (arith, e, l); is-place = refl };
 }
 
 pub rule-buffer : Asks ruleSize 16404
-rule-buffer = asks refl
+rule-buffer = section-asks refl
 
 pub scratch-buffer : Asks scratchSize 65536
-scratch-buffer = asks refl
+scratch-buffer = section-asks refl
 
 -- ---- the lengths of words
 

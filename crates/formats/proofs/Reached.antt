@@ -4,7 +4,7 @@ use Prim.Native.Nat.{ℕ, zero, suc, _≤_, _<_}
 use mathlib.Core.Path.{subst, sym}
 use mathlib.Core.List.{List}
 use native.Mathlib.Omega.{arith}
-use Rattle.finite.proofs.Numbers.{Compared, lesser, level, greater, compared}
+use Rattle.finite.proofs.Numbers.{Compared, lesser, level, greater, compared-numbers}
 use Rattle.answer.specs.Checks.{passed, FirstFailure}
 use Rattle.answer.proofs.Order.{passed-first, passed-last, passes-head, passes-tail}
 use Rattle.theory.specs.Rules.{Morphism, WordOf}
@@ -15,7 +15,7 @@ use Rattle.formats.specs.RuleChecks.{layoutChecks, contentChecks, tableC
 module _ {m : Morphism} (nowhere : (place : ℕ) → UnreachedAt m place → ⊥) where
   all-below : (s : ℕ) → s ≤ m .size → ¬ (¬ ((t : ℕ) → t < s → WordOf m t))
   all-below zero h k = k (λ t b. absurd (let z : ⊥ = omega arith in z))
-  all-below (suc s) h k = all-below s (omega arith) (λ all. nowhere s (record { inside = omega arith; no-word = λ w. k (λ t b. go all w t b (compared t s)); least = all }))
+  all-below (suc s) h k = all-below s (omega arith) (λ all. nowhere s (record { inside = omega arith; no-word = λ w. k (λ t b. go all w t b (compared-numbers t s)); least = all }))
     where
       go : ((t : ℕ) → t < s → WordOf m t) → WordOf m s → (t : ℕ) → t < suc s → Compared t s → WordOf m t
       go all w t b (lesser o) = all t o

@@ -4,7 +4,7 @@ use mathlib.Core.Logic.{⊎-elim, by-cases}
 use native.Mathlib.Decide.{ℕ-discrete}
 use Rattle.answer.specs.Checks.{passed, FirstFailure}
 use Rattle.answer.proofs.Order.{passes-head, passes-tail}
-use Rattle.finite.proofs.Numbers.{strong}
+use Rattle.finite.proofs.Numbers.{strong-induction}
 use Rattle.theory.specs.Rules.{Morphism, Lawful, AllReached}
 use Rattle.theory.proofs.ShortWords.{unreached-or-all, word-of-dec}
 use Rattle.formats.specs.TableChecks.{Associates, TripleBefore, by-a, by-b, by-c}
@@ -32,9 +32,9 @@ module _ {m : Morphism} (none : (a b c : ℕ) → FirstTriple m a b c → ⊥) w
 
       rows : (a : ℕ) → a < m .size → (b c : ℕ) → b < m .size → c < m .size → Associates m a b c
       rows =
-          strong (λ a. a < m .size → (b c : ℕ) → b < m .size → c < m .size → Associates m a b c)
-          (λ a above ha b c hb. strong (λ b. b < m .size → (c : ℕ) → c < m .size → Associates m a b c)
-          (λ b row hb c. strong (λ c. c < m .size → Associates m a b c)
+          strong-induction (λ a. a < m .size → (b c : ℕ) → b < m .size → c < m .size → Associates m a b c)
+          (λ a above ha b c hb. strong-induction (λ b. b < m .size → (c : ℕ) → c < m .size → Associates m a b c)
+          (λ b row hb c. strong-induction (λ c. c < m .size → Associates m a b c)
           (λ c here hc. associates-next a b c ha hb hc (before a b c above row here)) c) b hb c)
 
 module _ {m : Morphism} {input : ℕ} (all : FirstFailure (tableChecks input m) passed) where

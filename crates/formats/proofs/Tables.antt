@@ -8,7 +8,7 @@ use lib.ListN.{length}
 use Rattle.theory.specs.Rules.{Morphism, Lawful}
 use Rattle.formats.specs.Table.{productAt, imageAt, morphismAt}
 use Rattle.formats.specs.TableChecks.{Associates, TripleBefore, by-a, by-b, by-c, NotAssociativeAt, UnreachedAt}
-use Rattle.finite.proofs.Numbers.{Compared, lesser, level, greater, compared}
+use Rattle.finite.proofs.Numbers.{Compared, lesser, level, greater, compared-numbers}
 
 -- both sections are there, within the format's limits, and every entry names an element
 pub record Table (bytes : List ℕ) (n k : ℕ) : Type 0 where
@@ -60,7 +60,7 @@ data TriplesCompared (a b c a′ b′ c′ : ℕ) : Type 0 where
   after : TripleBefore a′ b′ c′ a b c → TriplesCompared a b c a′ b′ c′
 
 triples-compared : (a b c a′ b′ c′ : ℕ) → TriplesCompared a b c a′ b′ c′
-triples-compared a b c a′ b′ c′ = go (compared a a′) (compared b b′) (compared c c′)
+triples-compared a b c a′ b′ c′ = go (compared-numbers a a′) (compared-numbers b b′) (compared-numbers c c′)
   where
     go : Compared a a′ → Compared b b′ → Compared c c′ → TriplesCompared a b c a′ b′ c′
     go (lesser h) q r = before (by-a h)
@@ -86,7 +86,7 @@ all-associate-none all s = s .differs (all .associate (s .a) (s .b) (s .c) (s .a
 
 -- the least element that is no word's value is one
 pub unreached-unique : {m : Morphism} {p q : ℕ} → UnreachedAt m p → UnreachedAt m q → p ≡ q
-unreached-unique {m} {p} {q} s t = go (compared p q)
+unreached-unique {m} {p} {q} s t = go (compared-numbers p q)
   where
     go : Compared p q → p ≡ q
     go (lesser h) = absurd (s .no-word (t .least p h))

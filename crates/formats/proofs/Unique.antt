@@ -6,7 +6,7 @@ use mathlib.Core.Logic.{inl, inr}
 use mathlib.Core.List.{List}
 use native.Mathlib.Omega.{arith}
 use native.Mathlib.Decide.{ℕ-discrete}
-use Rattle.finite.proofs.Numbers.{Compared, lesser, level, greater, compared}
+use Rattle.finite.proofs.Numbers.{Compared, lesser, level, greater, compared-numbers}
 use Rattle.finite.specs.Shortlex.{Before, NotAfter}
 use Rattle.finite.proofs.Shortlex.{before-irrefl, before-trans}
 use Rattle.theory.specs.Words.{Over}
@@ -54,7 +54,7 @@ module _ {a b : Morphism} (law : Lawful a) (f : Renumbered a b) where
         (right .least (p .word s) (over-too (left .over)) (renumbered-value law f (left .over) ∙ ap (renamed (f .to)) (left .its-value)))
 
     keeps-order : (s t : ℕ) → s < t → t < a .size → f .to s < f .to t
-    keeps-order s t h l = go (compared (f .to s) (f .to t))
+    keeps-order s t h l = go (compared-numbers (f .to s) (f .to t))
       where
         before : Before (p .word s) (p .word t)
         before = p .increasing s t h l

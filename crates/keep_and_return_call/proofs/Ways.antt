@@ -113,8 +113,8 @@ module _ (bytes : List ℕ) (f : Monitor) (name : ℕ) (points entry mid : List 
             let few = called-good 1 bytes entry (passes-tail (begun .0)) .table .small in
             ⊎-elim (λ (l : s < elementsOf bytes). omega (arith, few, l)) (λ (l : s ≡ 64). omega (arith, l)) (not-stray (elementsOf bytes) s h)
 
-        pub keepable : Keepable f name points
-        keepable = record {
+        pub keepable-point : Keepable f name points
+        keepable-point = record {
           named = keep-named bytes f name points entry keep-passed;
           room = points-room bytes points entry mid answer first e;
           before-byte = keep-byte (λ s. passes-head (passes-tail values-passed) .nowhere 0 (record { stray = inl (inl s); is-place = refl }));

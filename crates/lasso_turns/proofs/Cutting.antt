@@ -102,11 +102,11 @@ both-tables {m} {v} {entry} {between} {now} short b first e second = record {
 }
 
 -- what the search of the cuts answers is the test of membership with the marks at entry, at each grade
-pub membership : {m : Morphism} {u v entry now : List ℕ} {s r : ℕ} → Lawful m → m .size ≤ 64 → Over (m .letters) u → Over (m .letters) v
+pub cut-membership : {m : Morphism} {u v entry now : List ℕ} {s r : ℕ} → Lawful m → m .size ≤ 64 → Over (m .letters) u → Over (m .letters) v
     → value m u ≡ element s → BothTables m v entry now → Raised (λ g. someCut m (level g (marksFrom now 0)) s now (length v)) 0 r
     → Raised (λ g. accepts-test m (level g (marksFrom entry 0)) u v) 0 r
 unfolding level
-membership {m} {u} {v} {entry} {now} {s} law small ou ov eu tables raised = raised-same (λ g some. same (is g)) raised
+cut-membership {m} {u} {v} {entry} {now} {s} law small ou ov eu tables raised = raised-same (λ g some. same (is g)) raised
   where
     is : (g : ℕ) → someCut m (level g (marksFrom now 0)) s now (length v) ≡ accepts-test m (level g (marksFrom entry 0)) u v
     is g =

@@ -7,7 +7,7 @@ use native.Mathlib.Omega.{arith}
 use native.Mathlib.Decide.{ℕ-discrete}
 use lib.ListN.{length}
 use lib.Dec.{T}
-use Rattle.finite.proofs.Numbers.{strong}
+use Rattle.finite.proofs.Numbers.{strong-induction}
 use Rattle.finite.proofs.Worklist.{Reached, begin, onward}
 use Rattle.theory.specs.Rules.{Morphism, Lawful, Pairs, element}
 use Rattle.theory.proofs.Codes.{value-at-inside}
@@ -83,7 +83,7 @@ module _ {m : Morphism} (law : Lawful m) {P P′ : Pairs} {s : ℕ} {scratch : L
 
   -- every entry spells a cycle
   pub entry-spelled : (i : ℕ) → i < count → EntrySpelled (m .size) scratch i
-  entry-spelled = strong (λ i. i < count → EntrySpelled (m .size) scratch i) (λ i before h. go i before h (ℕ-discrete (backAt scratch i) (m .size)))
+  entry-spelled = strong-induction (λ i. i < count → EntrySpelled (m .size) scratch i) (λ i before h. go i before h (ℕ-discrete (backAt scratch i) (m .size)))
     where
       go : (i : ℕ) → ((j : ℕ) → j < i → j < count → EntrySpelled (m .size) scratch j) → i < count → Dec (backAt scratch i ≡ m .size) → EntrySpelled (m .size) scratch i
       go i before h (yes e) = record { word = []; spells = spells-none e; short = omega arith }

@@ -17,7 +17,7 @@ use Rattle.mark_search.specs.declared.Escape.{Escape}
 use Rattle.mark_search.specs.declared.Escape.the-variants.{At as Escape-at, Nothing as No-escape}
 use Rattle.mark_grade_search.specs.GradeSearch.{HighestBelow, GradeEscaped}
 use Rattle.mark_grade_search.specs.declared.GradeEscape.the-variants.{At, Nothing}
-use Rattle.mark_grade_search.proofs.Skips.{skipped, none-above}
+use Rattle.mark_grade_search.proofs.Skips.{skipped-grade, none-above}
 
 -- less the grade and modulo 256, a mark below the grade stands above those that are not, as far as it is high
 pub shifted : (shift : ℕ) {mark below : ℕ} → (shift + below) % 2 ^ 8 ≡ mark → mark < below → 256 + mark ≤ shift + below
@@ -111,7 +111,7 @@ module _ {m : Morphism} {first second : ℕ} {entry : List ℕ} (small : m .size
         where
           go : (above ≤ g) ⊎ (g < above) → ⊥
           go (inl l) = k .none F S low t t′ g l s hs v x
-          go (inr l) = k .none F S low t t′ above (le-refl above) s hs v (skipped (place .lawful) F S g above s (omega arith) (λ e he. past F t g s e hs he h) x)
+          go (inr l) = k .none F S low t t′ above (le-refl above) s hs v (skipped-grade (place .lawful) F S g above s (omega arith) (λ e he. past F t g s e hs he h) x)
 
       -- the first marking has no lower grade
       pub escaped-none : grade ≡ 0 → GradeEscaped m first second entry now Nothing

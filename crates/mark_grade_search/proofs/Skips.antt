@@ -10,9 +10,9 @@ use Rattle.theory.proofs.Gradings.{level-up, level-down, level-falls}
 
 module _ {m : Morphism} (law : Lawful m) (F S : Marking) where
   -- no mark of s lies between the two grades
-  pub skipped : (g h s : ℕ) {v : List ℕ} → g ≤ h → ((e : ℕ) → e < m .size → g ≤ F s e → h ≤ F s e) → Escapes m (level g F) (level g S) s v
+  pub skipped-grade : (g h s : ℕ) {v : List ℕ} → g ≤ h → ((e : ℕ) → e < m .size → g ≤ F s e → h ≤ F s e) → Escapes m (level g F) (level g S) s v
       → Escapes m (level h F) (level h S) s v
-  skipped g h s l above x = record {
+  skipped-grade g h s l above x = record {
     over = x .over;
     cycle-element = x .cycle-element;
     cycle-value = x .cycle-value;

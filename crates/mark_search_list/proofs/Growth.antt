@@ -11,7 +11,7 @@ use lib.Arith.{digits-lt, digits-div, digits-mod}
 use lib.ListN.{getD, set, length-set}
 use lib.Seq.{getD-set-same, getD-set-other}
 use Rattle.finite.proofs.Pigeonhole.{injection-le, update, update-cases, update-apart}
-use Rattle.finite.proofs.Numbers.{below-cases, Compared, lesser, level, greater, compared}
+use Rattle.finite.proofs.Numbers.{below-cases, Compared, lesser, level, greater, compared-numbers}
 use Rattle.finite.proofs.Worklist.{Entry}
 use Rattle.scratch.specs.Map.{firstPreimagesBase, tablesEnd}
 use Rattle.scratch.proofs.Unchanged.{unchanged-none, unchanged-both}
@@ -79,14 +79,14 @@ module _ {n s : ℕ} {scratch : List ℕ} {count : ℕ} (q : Queue n s scratch c
 
   -- there are no more entries than states
   pub queue-few : count ≤ 4225
-  queue-few = injection-le {f = codeAt scratch} (record { maps = entry-code; apart = λ i j l r d. same-entries i j l r d (compared i j) })
+  queue-few = injection-le {f = codeAt scratch} (record { maps = entry-code; apart = λ i j l r d. same-entries i j l r d (compared-numbers i j) })
 
   -- nor than there are pairs of values of n elements
   pub queue-bound : count ≤ (n + 1) * (n + 1)
   unfolding codeAt
   queue-bound = injection-le {f = λ i. frontAt scratch i * (n + 1) + backAt scratch i} (record {
     maps = λ i h. digits-lt (let f = q .front-inside i h in omega arith) (inside i h);
-    apart = λ i j l r d. same-entries i j l r (same i j l r d) (compared i j);
+    apart = λ i j l r d. same-entries i j l r (same i j l r d) (compared-numbers i j);
   })
     where
       inside : (i : ℕ) → i < count → backAt scratch i < n + 1
@@ -104,7 +104,7 @@ module _ {n s : ℕ} {scratch : List ℕ} {count : ℕ} (q : Queue n s scratch c
   some-left {c} h f = injection-le {f = update (codeAt scratch) count c} (record {
     maps = λ i l. ⊎-elim (λ d. omega (arith, d .1)) (λ d. omega (arith, d .0, d .1, entry-code i (omega (arith, d .0)))) (update-cases (codeAt scratch) count c i);
     apart = λ i j l r d.
-        ⊎-elim (λ g. g) (λ g. same-entries i j (omega (arith, g .0)) (omega (arith, g .1)) (g .2) (compared i j))
+        ⊎-elim (λ g. g) (λ g. same-entries i j (omega (arith, g .0)) (omega (arith, g .1)) (g .2) (compared-numbers i j))
         (update-apart (codeAt scratch) count c i j (λ o. other i (omega arith)) (λ o. other j (omega arith)) d);
   })
     where

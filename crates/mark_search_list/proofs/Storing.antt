@@ -38,9 +38,9 @@ module _ (scratch : List ℕ) (count x y from letter : ℕ) where
           parent = rw (low, high);
         }
 
-    pub stored : Stored scratch after-stores count x y from letter
+    pub stored-entry : Stored scratch after-stores count x y from letter
     unfolding frontAt backAt letterAt parentAt stores Apart all
-    stored =
+    stored-entry =
         let room = place .room in
         let few = place .few in
         let low : getD after-stores (32768 + count) 0 ≡ from % 256 = stores-at all scratch (later (later (later (here (omega arith, tt))))) (omega arith) in

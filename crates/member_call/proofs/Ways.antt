@@ -78,17 +78,17 @@ module _ (bytes u v entry : List ℕ) where
     good : GoodRule bytes
     good = called-good 1 bytes entry (p .refusal)
 
-    pub table : Table bytes (shape .elements) (shape .letters)
-    table = shape-table (p .scratch .shape-is) (good .table)
+    pub member-table : Table bytes (shape .elements) (shape .letters)
+    member-table = shape-table (p .scratch .shape-is) (good .table)
 
-    pub lawful : Lawful (morphismAt bytes (shape .elements) (shape .letters))
-    lawful = subst Lawful (sym (shape-morphism (p .scratch .shape-is))) (good .lawful)
+    pub member-lawful : Lawful (morphismAt bytes (shape .elements) (shape .letters))
+    member-lawful = subst Lawful (sym (shape-morphism (p .scratch .shape-is))) (good .lawful)
 
     marks-good : GradedMarks (morphismAt bytes (shape .elements) (shape .letters)) (markingOf bytes)
     marks-good = subst (λ (m : Morphism). GradedMarks m (markingOf bytes)) (sym (shape-morphism (p .scratch .shape-is))) (graded-marks good)
 
-    pub long : scratchSize ≤ length mid
-    long = omega (arith, scratch-long 1 bytes entry (p .refusal), checked-length (p .scratch))
+    pub member-long : scratchSize ≤ length mid
+    member-long = omega (arith, scratch-long 1 bytes entry (p .refusal), checked-length (p .scratch))
 
     -- the file's marking stands in the table of marks in scratch
     stands : MarkingAt (shape .elements) (markingOf bytes) mid 0
@@ -122,19 +122,19 @@ module _ (bytes u v entry : List ℕ) where
 
       -- the value of the cycle is an element
       pub cycle-inside : {x : ℕ} → value (morphismAt bytes (shape .elements) (shape .letters)) v ≡ element x → x < shape .elements
-      cycle-inside = inside-of lawful (cycle-word .over)
+      cycle-inside = inside-of member-lawful (cycle-word .over)
 
       -- the lasso is decided
-      pub decided : {r x e turns : ℕ}
+      pub member-decided : {r x e turns : ℕ}
           → Raised (λ g. accepts-test (morphismAt bytes (shape .elements) (shape .letters)) (level g (marksFrom mid 0)) (start-or-turn u v) v) 0 r
           → value (morphismAt bytes (shape .elements) (shape .letters)) v ≡ element x
           → LeastPower (morphismAt bytes (shape .elements) (shape .letters)) x e turns
           → (was exit : List ℕ) → length was ≡ length mid → exit ≡ replicate (length was) 0 → MemberPromise bytes u v entry exit (Decided r turns)
-      decided {r} {x} {turns = turns} answer cycle power was exit kept z = record {
+      member-decided {r} {x} {turns = turns} answer cycle power was exit kept z = record {
         refusal = passed-before _ _ (p .refusal) words-passed;
         answered = (
           subst (λ (m : Morphism). Graded m (markingOf bytes) u v r) (shape-morphism (p .scratch .shape-is))
-              (graded-same (λ g some. started-accepts u v (cycle-word .some)) (graded-told table lawful marks-good start-word cycle-word mid stands answer)),
+              (graded-same (λ g some. started-accepts u v (cycle-word .some)) (graded-told member-table member-lawful marks-good start-word cycle-word mid stands answer)),
           subst (λ (m : Morphism). TurnsOf m v turns) (shape-morphism (p .scratch .shape-is))
               (record { cycle = x; cycle-value = cycle; turns-are = power .exponent-is }),
         );

@@ -12,7 +12,7 @@ use lib.ListN.{length, getD}
 use lib.Seq.{ext-getD}
 use mir.Facts.{yes-eqb}
 use Rattle.finite.proofs.Tests.{T-and, T-and-left, T-and-right}
-use Rattle.finite.proofs.Numbers.{le-or-lt, Compared, lesser, level, greater, compared}
+use Rattle.finite.proofs.Numbers.{le-or-lt, Compared, lesser, level, greater, compared-numbers}
 use Rattle.finite.proofs.Search.{allBelow, all-intro, all-elim, leastBelow, least-holds, least-bound, least-first}
 use Rattle.theory.specs.Rules.{Morphism, Lawful}
 use Rattle.theory.specs.Rounds.{SameOutcomes, StillTogether, Together, IsBlocks}
@@ -112,7 +112,7 @@ pub one-blocks : {n : ℕ} {R S : ℕ → ℕ → Type 0} {blocks blocks′ : Li
 one-blocks {n} {blocks = blocks} {blocks′ = blocks′} agree b c = ext-getD 0 blocks blocks′ (b .count ∙ sym (c .count)) (λ s h. same s (rw (b .count) at h))
   where
     same : (s : ℕ) → s < n → getD blocks s 0 ≡ getD blocks′ s 0
-    same s h = go (compared (getD blocks s 0) (getD blocks′ s 0))
+    same s h = go (compared-numbers (getD blocks s 0) (getD blocks′ s 0))
       where
         go : Compared (getD blocks s 0) (getD blocks′ s 0) → getD blocks s 0 ≡ getD blocks′ s 0
         go (lesser l) = absurd (c .least s (getD blocks s 0) h l (agree (getD blocks s 0) s (omega (arith, b .at-most s h)) h .0 (b .related s h)))

@@ -12,7 +12,7 @@ use Rattle.theory.specs.Grades.{AtLeast, StrongMarking}
 use Rattle.theory.specs.Smallest.{Complement}
 use Rattle.theory.proofs.Gradings.{GradedMarks}
 use Rattle.minimality.proofs.Smallest.{outcome, LassoValues, lasso-values, values-outcome}
-use Rattle.minimality.proofs.Saturation.{DependsOnWord, saturated, Saturates, saturates, saturated-at, saturated-other}
+use Rattle.minimality.proofs.Saturation.{DependsOnWord, saturated, Saturates, saturates-marking, saturated-at, saturated-other}
 use Rattle.minimality.proofs.GradeOutcomes.{grading, grading-outcome, grading-depends, grading-lassos}
 
 -- a number computed from an outcome is an outcome
@@ -39,7 +39,7 @@ complement-marks m marks = saturated m (lack m marks)
 module _ {m : Morphism} {marks : Marking} (law : Lawful m) (reached : AllReached m) (good : GradedMarks m marks) (strong : StrongMarking m marks) where
   pub complement-saturates : Saturates m (lack m marks) (complement-marks m marks)
   unfolding lack complement-marks
-  complement-saturates = saturates law reached (depends-after law (grading m marks) (λ n. 3 - n) (grading-depends law reached good strong))
+  complement-saturates = saturates-marking law reached (depends-after law (grading m marks) (λ n. 3 - n) (grading-depends law reached good strong))
 
   -- "in the complement, those of 4 − g or more are the rest"
   pub complement-rest : {u v : List ℕ} (g : ℕ) → 1 ≤ g → g ≤ 3 → Lasso (m .letters) u v

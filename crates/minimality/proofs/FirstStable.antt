@@ -8,7 +8,7 @@ use mathlib.Core.Logic.{_⊎_, inl, inr, ⊎-elim, by-cases, Dec·and, Dec·not}
 use lib.Dec.{T}
 use Rattle.theory.specs.Rules.{Morphism}
 use Rattle.finite.proofs.Tests.{decide, decide-intro, decide-elim}
-use Rattle.finite.proofs.Numbers.{Compared, lesser, level, greater, compared}
+use Rattle.finite.proofs.Numbers.{Compared, lesser, level, greater, compared-numbers}
 use Rattle.finite.proofs.Search.{First, least-dec, dec-all, dec-any, countBelow, count-le, count-strict}
 use Rattle.theory.specs.Rounds.{Together, Stable}
 use Rattle.minimality.proofs.Rounds.{together-refl, together-sym, together-trans, together-before, together-dec}
@@ -79,7 +79,7 @@ module _ (m : Morphism) (acc : ℕ → ℕ → ℕ) where
   split-grows i p = go (leader-of (suc i) (p .s)) (leader-of (suc i) (p .t))
     where
       go : Leader m acc (suc i) (p .s) → Leader m acc (suc i) (p .t) → blockCount m acc i < blockCount m acc (suc i)
-      go x y = cases (compared (x .at) (y .at))
+      go x y = cases (compared-numbers (x .at) (y .at))
         where
           related : Together m acc i (x .at) (y .at)
           related =

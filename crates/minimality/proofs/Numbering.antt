@@ -7,7 +7,7 @@ use mathlib.Core.List.{List}
 use lib.Dec.{T}
 use lib.ListN.{length, getD}
 use Rattle.finite.proofs.Tests.{decide, decide-intro, decide-elim}
-use Rattle.finite.proofs.Numbers.{Compared, lesser, level, greater, compared}
+use Rattle.finite.proofs.Numbers.{Compared, lesser, level, greater, compared-numbers}
 use Rattle.finite.proofs.Search.{leastBelow, least-holds, least-bound}
 use Rattle.theory.specs.Rules.{Morphism, Lawful, AllReached}
 use Rattle.theory.specs.Rounds.{Together, Stable}
@@ -88,7 +88,7 @@ module _ (m : Morphism) (acc : ℕ → ℕ → ℕ) (i : ℕ) where
 
   -- two leaders in one block are one
   pub leaders-equal : (s t : ℕ) → T (leads m acc i s) → T (leads m acc i t) → Together m acc i s t → s ≡ t
-  leaders-equal s t p q r = go (compared s t)
+  leaders-equal s t p q r = go (compared-numbers s t)
     where
       go : Compared s t → s ≡ t
       go (lesser o) = absurd (leads-elim m acc i t q s o r)

@@ -13,7 +13,7 @@ use Rattle.theory.specs.Smallest.{SameGrades, Smallest, Reduction}
 use Rattle.theory.proofs.Gradings.{GradedMarks}
 use Rattle.minimality.proofs.Smallest.{outcome, Factors, Syntactic, smallest-size, smallest-copy}
 use Rattle.minimality.proofs.Quotient.{Numbering, quotient, quotient-acc, quotient-lawful, quotient-reached, quotient-outcome, quotient-syntactic}
-use Rattle.minimality.proofs.Saturation.{DependsOnWord, GradesAreOutcomes, saturated, Saturates, saturates}
+use Rattle.minimality.proofs.Saturation.{DependsOnWord, GradesAreOutcomes, saturated, Saturates, saturates-marking}
 use Rattle.minimality.proofs.GradeOutcomes.{grading, grading-outcome, grading-depends, outcomes-same}
 
 -- c numbered blocks of the rule's elements, with the grade for the outcome
@@ -79,7 +79,7 @@ module _ {c : ℕ} (r : Rule) (reached : AllReached (r .morphism)) (good : Grade
 
   -- the reduced rule marks the linked pairs by that outcome
   pub reduced-saturates : Saturates (quotient b) (quotient-acc b) (saturated (quotient b) (quotient-acc b))
-  reduced-saturates = saturates (quotient-lawful (r .lawful) b) (quotient-reached (r .lawful) b reached) blocks-depend
+  reduced-saturates = saturates-marking (quotient-lawful (r .lawful) b) (quotient-reached (r .lawful) b reached) blocks-depend
 
   pub reduced-linked : LinkedOnly (reduced-rule r b .morphism) (level 1 (reduced-rule r b .marks))
   unfolding reduced-rule

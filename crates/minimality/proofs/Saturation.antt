@@ -18,7 +18,7 @@ use Rattle.theory.specs.Smallest.{MarksGrades}
 use Rattle.theory.proofs.Values.{inside-of}
 use Rattle.theory.proofs.Gradings.{level-up, level-down, graded-by}
 use Rattle.theory.proofs.Starts.{start-or-turn, first-value, same-started}
-use Rattle.theory.proofs.Strength.{settled-cycle, settled-start, Settled, settled-linked, settle}
+use Rattle.theory.proofs.Strength.{settled-cycle, settled-start, Settled, settled-linked, settle-strength}
 use Rattle.theory.proofs.Closure.{linked-test, linked-intro, linked-elim}
 use Rattle.minimality.proofs.Contexts.{HasValue}
 use Rattle.minimality.proofs.Smallest.{valueOutcome, outcome, outcome-at, elements-lasso, LassoValues, lasso-values}
@@ -66,7 +66,7 @@ module _ {m : Morphism} {acc : ℕ → ℕ → ℕ} {marks : Marking} (by-outcom
     outcome-accepted : {u v : List ℕ} → Lasso (m .letters) u v → g ≤ outcome m acc u v → Accepts m (level g marks) u v
     outcome-accepted {u} {v} l h =
         let k : LassoValues m u v = lasso-values law l in
-        let t : Settled m (start-or-turn u v) v (k .start) (k .cycle) = settle law (k .start-has .over) (l .cycle-over) (k .start-has .is) (k .cycle-has .is) in
+        let t : Settled m (start-or-turn u v) v (k .start) (k .cycle) = settle-strength law (k .start-has .over) (l .cycle-over) (k .start-has .is) (k .cycle-has .is) in
         let same : (i : ℕ) → endless (t .start) (t .cycle) i ≡ endless u v i = λ i. t .same i ∙ same-started u v (l .cycle-some) i in
         let p : HasValue m (t .start) (element (settled-start m (k .start) (k .cycle))) = record { over = t .start-over; is = t .start-value } in
         let w : HasValue m (t .cycle) (element (settled-cycle m (k .cycle))) = record { over = t .cycle-over; is = t .cycle-value } in
@@ -167,5 +167,5 @@ saturated-small m acc bound s e h = go (linked-test m s e)
     go true = h
     go false = omega arith
 
-pub saturates : {m : Morphism} {acc : ℕ → ℕ → ℕ} → Lawful m → AllReached m → DependsOnWord m acc → Saturates m acc (saturated m acc)
-saturates {acc = acc} law reached depends = marks-saturate law reached depends (saturated-marks acc)
+pub saturates-marking : {m : Morphism} {acc : ℕ → ℕ → ℕ} → Lawful m → AllReached m → DependsOnWord m acc → Saturates m acc (saturated m acc)
+saturates-marking {acc = acc} law reached depends = marks-saturate law reached depends (saturated-marks acc)

@@ -133,6 +133,6 @@ module _ {m : Morphism} (law : Lawful m) {entry : List ℕ} {count p x : ℕ} (l
       subst (MoreWords (m .letters) (SameNextClass m)) (f .full) (search-full (tail-congruence law) (l .search) inside letter (λ i h. other-class h (f .new .none i h))) in
       record { word = w .word; over = λ i h. w .words i h .over; some = λ i h. w .words i h .some; apart = w .apart }
 
-  pub followed : {exit : List ℕ} (answer : ClassCount) → Added entry exit count p x (pair .tail) (pair .whole) answer → Followed m entry exit count p x answer
-  followed (Listed total) a = record { kept = a .kept; says = added-grown (a .kept .same-length) (a .says) }
-  followed TooMany a = record { kept = a .kept; says = full-more (a .says) }
+  pub followed-pair : {exit : List ℕ} (answer : ClassCount) → Added entry exit count p x (pair .tail) (pair .whole) answer → Followed m entry exit count p x answer
+  followed-pair (Listed total) a = record { kept = a .kept; says = added-grown (a .kept .same-length) (a .says) }
+  followed-pair TooMany a = record { kept = a .kept; says = full-more (a .says) }

@@ -156,9 +156,9 @@ module _ {first : List ℕ} {n₁ : ℕ} {second : List ℕ} {n₂ k : ℕ} (tab
         }
 
       -- what the step answers
-      pub tried : {exit : List ℕ} (answer : PairCount) → Added scratch exit count s t p a answer → Tried first n₁ second n₂ k scratch exit p a answer
-      tried (Listed total) d = record { kept = d .kept; says = search-add (d .says) }
-      tried TooMany d = record { kept = d .kept; says = search-full (d .says) }
+      pub tried-letter : {exit : List ℕ} (answer : PairCount) → Added scratch exit count s t p a answer → Tried first n₁ second n₂ k scratch exit p a answer
+      tried-letter (Listed total) d = record { kept = d .kept; says = search-add (d .says) }
+      tried-letter TooMany d = record { kept = d .kept; says = search-full (d .says) }
 
   -- every letter was tried at the entry
   search-next : {scratch : List ℕ} {count p a : ℕ} → Searching first n₁ second n₂ k scratch count p a → a ≡ k → Searching first n₁ second n₂ k scratch count (p + 1) 0

@@ -8,7 +8,7 @@ use Rattle.theory.specs.Rules.{Morphism}
 use Rattle.theory.specs.Pairs.{Linked}
 use Rattle.formats.specs.Sections.{twoBytes}
 use Rattle.formats.specs.RuleFile.{lettersAt, lettersOf, marksAt, marksOf, ruleEnd}
-use Rattle.formats.proofs.Limits.{Asks, asks}
+use Rattle.formats.proofs.Limits.{Asks, section-asks}
 use Rattle.promises.specs.Classes.{classesSize, ClassNumber, not-linked}
 use Rattle.promises.specs.EventWords.{LogTooLongAt}
 use Rattle.promises.specs.FilePart.{filePart}
@@ -22,25 +22,25 @@ use Rattle.promises.specs.Stretch.{unread, stretchOf, unreadPlace, stret
 -- ---- the lengths of buffers
 
 classes-buffer : Asks classesSize 8192
-classes-buffer = asks refl
+classes-buffer = section-asks refl
 
 u-buffer : Asks startSize 64
-u-buffer = asks refl
+u-buffer = section-asks refl
 
 v-buffer : Asks cycleSize 4224
-v-buffer = asks refl
+v-buffer = section-asks refl
 
 points-buffer : Asks pointsSize 24
-points-buffer = asks refl
+points-buffer = section-asks refl
 
 map-buffer : Asks mapSize 64
-map-buffer = asks refl
+map-buffer = section-asks refl
 
 blocks-buffer : Asks blocksSize 64
-blocks-buffer = asks refl
+blocks-buffer = section-asks refl
 
 successors-buffer : Asks successorsSize 65
-successors-buffer = asks refl
+successors-buffer = section-asks refl
 
 -- ---- limits
 

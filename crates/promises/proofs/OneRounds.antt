@@ -12,7 +12,7 @@ use Rattle.answer.specs.Checks.{passed, refused, FirstFailure}
 use Rattle.answer.proofs.Order.{first-fails, passed-before, AllSingle, single-nil, single-at, single-cons, single-append, one-verdict}
 use Rattle.answer.proofs.Verdicts.{same-refusal, not-passed}
 use Rattle.finite.proofs.Tells.{tells-same, one-telling}
-use Rattle.finite.proofs.Numbers.{Compared, lesser, level, greater, compared}
+use Rattle.finite.proofs.Numbers.{Compared, lesser, level, greater, compared-numbers}
 use Rattle.theory.specs.Rounds.{Together, Stable}
 use Rattle.theory.proofs.Gradings.{one-lassos-grade}
 use Rattle.minimality.proofs.Rounds.{together-carry, stable-carry}
@@ -82,7 +82,7 @@ module _ {bytes before after after′ : List ℕ} {limit limit′ rounds rounds�
 -- with one limit they are after as many rounds
 pub same-rounds : {bytes before after after′ : List ℕ} {limit rounds rounds′ : ℕ} {finished finished′ : Bool} → PartitionedTo bytes limit before after rounds finished
     → PartitionedTo bytes limit before after′ rounds′ finished′ → rounds ≡ rounds′
-same-rounds {rounds = rounds} {rounds′ = rounds′} a b = go (compared rounds rounds′)
+same-rounds {rounds = rounds} {rounds′ = rounds′} a b = go (compared-numbers rounds rounds′)
   where
     go : Compared rounds rounds′ → rounds ≡ rounds′
     go (lesser h) = absurd (omega (arith, earlier-at-limit a b h, b .within))
@@ -93,7 +93,7 @@ same-rounds {rounds = rounds} {rounds′ = rounds′} a b = go (compared rounds 
 module _ {bytes before after after′ : List ℕ} {limit limit′ rounds rounds′ : ℕ} {finished′ : Bool} (larger : limit ≤ limit′)
     (a : PartitionedTo bytes limit before after rounds true) (b : PartitionedTo bytes limit′ before after′ rounds′ finished′) where
   pub larger-rounds : rounds ≡ rounds′
-  larger-rounds = go (compared rounds rounds′)
+  larger-rounds = go (compared-numbers rounds rounds′)
     where
       go : Compared rounds rounds′ → rounds ≡ rounds′
       go (lesser h) = absurd (finished-not-earlier a b refl h)
@@ -116,7 +116,7 @@ module _ {bytes before after : List ℕ} {limit rounds : ℕ} {finished : Bool} 
   finished-within enough = go finished refl
     where
       unstable : finished ≡ false → (i : ℕ) → i < rounds + 1 → Stable (morphismOf bytes) (a .grades) i → ⊥
-      unstable e i h s = pick (compared i rounds)
+      unstable e i h s = pick (compared-numbers i rounds)
         where
           pick : Compared i rounds → ⊥
           pick (lesser l) = a .first i l s

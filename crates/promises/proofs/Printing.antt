@@ -43,11 +43,11 @@ reduced-to p = p .promised .answered
 print-is : {bytes file : List ℕ} (p : Prints bytes file) → fileOf (reduced-to p .reduced .morphism) (reduced-to p .reduced .marks) ≡ file
 print-is p = one-front (reduced-to p .written .front) (p .printed)
 
-pub reads : {bytes file : List ℕ} (p : Prints bytes file) → ReadsBack (reduced-to p .reduced .morphism) (reduced-to p .reduced .marks) file
-reads p = subst (ReadsBack (reduced-to p .reduced .morphism) (reduced-to p .reduced .marks)) (print-is p) (reduced-to p .written .reads-back)
+pub written-reads : {bytes file : List ℕ} (p : Prints bytes file) → ReadsBack (reduced-to p .reduced .morphism) (reduced-to p .reduced .marks) file
+written-reads p = subst (ReadsBack (reduced-to p .reduced .morphism) (reduced-to p .reduced .marks)) (print-is p) (reduced-to p .written .reads-back)
 
 pub print-lawful : {bytes file : List ℕ} → Prints bytes file → Lawful (morphismOf file)
-print-lawful p = agree-lawful (reads-agree (reads p)) (reduced-to p .reduced .lawful)
+print-lawful p = agree-lawful (reads-agree (written-reads p)) (reduced-to p .reduced .lawful)
 
 pub read-same : (x : Rule) {file : List ℕ} → ReadsBack (x .morphism) (x .marks) file → (law : Lawful (morphismOf file)) → SameGrades x (ruleOf file law)
 read-same x r law = record {
@@ -56,7 +56,7 @@ read-same x r law = record {
 }
 
 pub print-grades : {bytes file : List ℕ} → Prints bytes file → (law : Lawful (morphismOf bytes)) (law′ : Lawful (morphismOf file)) → SameGrades (ruleOf bytes law) (ruleOf file law′)
-print-grades {bytes} p law law′ = same-on (same-rule bytes) (same-on (reduced-to p .reduction .same) (read-same (reduced-to p .reduced) (reads p) law′))
+print-grades {bytes} p law law′ = same-on (same-rule bytes) (same-on (reduced-to p .reduction .same) (read-same (reduced-to p .reduced) (written-reads p) law′))
 
 -- ---- equal prints
 
@@ -110,7 +110,7 @@ print-again p q = same-print p q (reduced-to p .lawful) (print-lawful p) (print-
 -- "reducing a reduced file returns it": whatever the promise allows for a printed file, with buffers that are long enough
 module _ {bytes file : List ℕ} (p : Prints bytes file) where
   print-strong : StrongMarking (morphismOf file) (markingOf file)
-  print-strong = reads-strong (reduced-to p .reduced .lawful) (reads p) (reduced-to p .reduction .smallest .strong)
+  print-strong = reads-strong (reduced-to p .reduced .lawful) (written-reads p) (reduced-to p .reduction .smallest .strong)
 
   checks-pass : FirstFailure (ruleChecks 1 file) passed
   checks-pass = subst (λ (f : List ℕ). FirstFailure (ruleChecks 1 f) passed) (print-is p) (reduced-to p .written .passes 1)

@@ -9,7 +9,7 @@ use Rattle.promises.specs.Reduce.{ruleOf}
 use Rattle.promises.specs.Printed.{Prints}
 use Rattle.promises.specs.SmallestTheorem.{SmallestPrinted, SmallestTheorem}
 use Rattle.promises.proofs.Confirmed.{own-reduces}
-use Rattle.promises.proofs.Printing.{reduced-to, reads}
+use Rattle.promises.proofs.Printing.{reduced-to, written-reads}
 
 module _ {bytes file : List ℕ} (p : Prints bytes file) where
   printed-smallest : SmallestPrinted bytes file
@@ -23,7 +23,7 @@ module _ {bytes file : List ℕ} (p : Prints bytes file) where
         lawful = own .first-lawful;
         file-lawful = own .second-lawful;
         strong = smallest .strong;
-        marked = reads-marks (a .reduced .lawful) (reads p) (a .reduction .marks);
+        marked = reads-marks (a .reduced .lawful) (written-reads p) (a .reduction .marks);
         same = own .reduced .same;
         no-larger = λ rival strong s. smallest .at-least rival strong (over rival s);
         copy = λ rival strong s size. smallest .copy rival strong (over rival s) size;

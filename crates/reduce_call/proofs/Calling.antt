@@ -28,7 +28,7 @@ use Rattle.promises.specs.declared.Written.the-variants.{Rule as Is-rule, Refus
 use Rattle.reduce_output.specs.Steps.{ReduceNeeds, ReducedWritten}
 use Rattle.promises.specs.Reduce.{mapSize, ruleOf, ReducedTo, reduceLeft, ReducePromise}
 use Rattle.promises.proofs.ReduceOrder.{file-first, weak-last, none-fails}
-use Rattle.reduce_call.proofs.Reducing.{reduces}
+use Rattle.reduce_call.proofs.Reducing.{call-reduces}
 
 -- a short buffer is refused, and all are left as they came
 pub out-short : (bytes out map scratch : List ℕ) → length out < ruleSize → ReducePromise bytes out out map map scratch scratch (Refused BufferTooShort 1 0)
@@ -103,7 +103,7 @@ module _ (bytes out map entry : List ℕ) (out-long : ruleSize ≤ length out) w
         reduced-to : ReducedTo bytes out after map map-after length-of
         reduced-to =
             let t = good .table in
-            let q = reduces (ruleOf bytes (good .lawful)) (t .small) (good .letters-some) (t .letters-small) (good .reached) (graded-marks good) strong (closure-stands 1 bytes entry p d) written in
+            let q = call-reduces (ruleOf bytes (good .lawful)) (t .small) (good .letters-some) (t .letters-small) (good .reached) (graded-marks good) strong (closure-stands 1 bytes entry p d) written in
             record {
               lawful = good .lawful;
               reduced = q .reduced;

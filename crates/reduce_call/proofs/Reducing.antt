@@ -111,9 +111,9 @@ module _ (r : Rule) (small : r .morphism .size ≤ 64) (letters-some : 1 ≤ r .
   }
 
   -- what was written is its file
-  pub reduces : Reduces r before after (w .map) end
+  pub call-reduces : Reduces r before after (w .map) end
   unfolding reduced-rule numbering-carry
-  reduces = record {
+  call-reduces = record {
     reduced = reduced-rule r by-grade;
     reduction = reduction-right r reached good strong by-grade;
     numbered = carried-order (r .lawful) outcomes-agree (w .numbering) (w .in-order);

@@ -9,7 +9,7 @@ use native.Mathlib.Omega.{arith}
 use native.Mathlib.Decide.{ℕ-discrete}
 use lib.ListN.{length, getD, set}
 use lib.Seq.{getD-set-same, getD-set-other}
-use Rattle.finite.proofs.Numbers.{Compared, lesser, level, greater, compared}
+use Rattle.finite.proofs.Numbers.{Compared, lesser, level, greater, compared-numbers}
 use Rattle.minimality.proofs.Blocks.{tabFrom, length-tab, getD-tab, equal-related, related-equal}
 use Rattle.theory.specs.Rounds.{IsBlocks}
 use Rattle.reduce_first_round.specs.Map.{BlocksAt}
@@ -51,7 +51,7 @@ least-carry {r = r} f l = record {
 
 -- there is one least element
 pub least-unique : {R : ℕ → ℕ → Type 0} {s r q : ℕ} → LeastRelated R s r → LeastRelated R s q → r ≡ q
-least-unique {r = r} {q = q} l k = go (compared r q)
+least-unique {r = r} {q = q} l k = go (compared-numbers r q)
   where
     go : Compared r q → r ≡ q
     go (lesser h) = absurd (k .least r h (l .related))

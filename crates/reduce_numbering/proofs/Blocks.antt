@@ -7,7 +7,7 @@ use mathlib.Core.List.{List}
 use native.Mathlib.Omega.{arith}
 use lib.ListN.{getD, replicate, length-replicate, getD-replicate}
 use Rattle.scratch.specs.Map.{blocksBase}
-use Rattle.finite.proofs.Numbers.{Compared, lesser, level, greater, compared}
+use Rattle.finite.proofs.Numbers.{Compared, lesser, level, greater, compared-numbers}
 use Rattle.finite.specs.Shortlex.{NotAfter}
 use Rattle.finite.proofs.Shortlex.{before-not-after}
 use Rattle.theory.specs.Rules.{Morphism, Lawful, AllReached, element}
@@ -69,7 +69,7 @@ module _ {bytes : List ℕ} {n k : ℕ} (table : Table bytes n k) (law : Lawful 
 
   -- leaders of one block are one
   leaders-apart : (i j : ℕ) → i < c → j < c → blockAt entry (leaderAt exit i) ≡ blockAt entry (leaderAt exit j) → i ≡ j
-  leaders-apart i j hi hj e = go (compared i j)
+  leaders-apart i j hi hj e = go (compared-numbers i j)
     where
       go : Compared i j → i ≡ j
       go (lesser h) = absurd (w .apart i j h hj e)
@@ -124,7 +124,7 @@ module _ {bytes : List ℕ} {n k : ℕ} (table : Table bytes n k) (law : Lawful 
 
   -- an entry that stands no later has no later word
   earlier : (i j : ℕ) (v : List ℕ) → i ≤ j → j ≤ count → NotAfter (wordAt queue j) v → NotAfter (wordAt queue i) v
-  earlier i j v h l a = go (compared i j)
+  earlier i j v h l a = go (compared-numbers i j)
     where
       go : Compared i j → NotAfter (wordAt queue i) v
       go (lesser o) = inr (before-not-after (entries-increase order i j o l) a)

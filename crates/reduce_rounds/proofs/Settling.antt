@@ -58,10 +58,10 @@ pub record Started (m : Morphism) (entry start : List ℕ) : Type 0 where
   pub kept : UnchangedOutside outcomesBase numbersBase entry start
 
 -- after the outcomes and the blocks of round 0
-pub started : {m : Morphism} {entry now start : List ℕ} → m .size ≤ 64 → OutcomesWritten m (m .size) entry now
+pub rounds-started : {m : Morphism} {entry now start : List ℕ} → m .size ≤ 64 → OutcomesWritten m (m .size) entry now
     → BlocksWritten (m .size) (Together m (outcomeAt now) 0) blocksBase now start → Started m entry start
 unfolding Together
-started small o w = record {
+rounds-started small o w = record {
   blocks = blocks-carry (same-outcomes-carry (o .outcomes)) (w .blocks);
   outcomes = λ s z hs hz. outcome-below s z (omega arith) (omega arith) (omega arith) (w .kept) ∙ o .outcomes s z hs hz;
   kept = unchanged-both (unchanged-wider (omega arith) (omega arith) (o .kept)) (unchanged-wider (omega arith) (omega arith) (w .kept));

@@ -22,9 +22,9 @@ abbrev pub Noted : ℕ → ℕ → Bool → Bool → Type 0
 Noted left right same next = (next ≡ false) ⊎ ((left ≡ right) × (next ≡ same))
 
 -- where it still stands they are equal, and it stood before
-pub noted : {left right : ℕ} {same next : Bool} → Noted left right same next → next ≡ true → (left ≡ right) × (same ≡ true)
-noted (inl e) w = absurd (let z : _≡_ {A = ℕ} 0 1 = cc in omega arith)
-noted (inr d) w = (d .0, sym (d .1) ∙ w)
+pub noted-difference : {left right : ℕ} {same next : Bool} → Noted left right same next → next ≡ true → (left ≡ right) × (same ≡ true)
+noted-difference (inl e) w = absurd (let z : _≡_ {A = ℕ} 0 1 = cc in omega arith)
+noted-difference (inr d) w = (d .0, sym (d .1) ∙ w)
 
 -- where nothing was seen to differ, (y·p)·h = y·s for every y before x, with h the element of column j
 pub record AlongBefore (bytes : List ℕ) (n k : ℕ) (columns : List ℕ) (j p s : ℕ) (same : Bool) (x : ℕ) : Type 0 where
@@ -44,7 +44,7 @@ module _ {bytes : List ℕ} {n k : ℕ} {columns : List ℕ} {j p s : ℕ} where
     column = b .column;
     inside = b .inside;
     passed = λ w.
-        let z = noted d w in
+        let z = noted-difference d w in
         below-more (λ y. getD columns (64 * j + productAt bytes n y p) 0 ≡ productAt bytes n y s) x (b .passed (z .1)) (let u = z .0 in cc);
   }
 

@@ -8,7 +8,7 @@ use mathlib.Core.List.{List}
 use native.Mathlib.Omega.{arith}
 use native.Mathlib.Numerals.{sub-one}
 use lib.ListN.{getD}
-use Rattle.finite.proofs.Numbers.{strong, le-or-lt}
+use Rattle.finite.proofs.Numbers.{strong-induction, le-or-lt}
 use Rattle.theory.specs.Rules.{element, join}
 use Rattle.theory.proofs.Values.{element-same}
 use Rattle.theory.proofs.Associating.{ByLetters, one, more, LettersAssociate, letters-associate}
@@ -50,7 +50,7 @@ module _ {bytes : List ℕ} {n k : ℕ} {queue : List ℕ} {count : ℕ} (f : Al
     -- so letters make every element
     module _ (w : WordsAlong bytes n k queue letters count) where
       entry-made : (i : ℕ) → i < count → ByLetters (morphismAt bytes n k) (getD queue i 0)
-      entry-made = strong (λ i. i < count → ByLetters (morphismAt bytes n k) (getD queue i 0)) go
+      entry-made = strong-induction (λ i. i < count → ByLetters (morphismAt bytes n k) (getD queue i 0)) go
         where
           go : (i : ℕ) → ((j : ℕ) → j < i → j < count → ByLetters (morphismAt bytes n k) (getD queue j 0)) → i < count
               → ByLetters (morphismAt bytes n k) (getD queue i 0)

@@ -11,7 +11,7 @@ use Rattle.formats.proofs.Tables.{Table}
 use Rattle.formats.specs.Table.{productAt, morphismAt}
 use Rattle.rule_letter_columns.specs.Columns.{Column}
 use Rattle.rule_along_words.specs.Tests.{ColumnInside}
-use Rattle.rule_along_words.proofs.Passed.{true-apart, Noted, noted}
+use Rattle.rule_along_words.proofs.Passed.{true-apart, Noted, noted-difference}
 use Rattle.rule_associating.specs.Tests.{Between, ColumnBetween, BetweenAnswer, LettersBetween}
 
 -- where nothing was seen to differ, (g·y)·h = g·(y·h) for every y before x, with h the element of column j
@@ -33,7 +33,7 @@ module _ {bytes : List ℕ} {n k : ℕ} {columns : List ℕ} {j g : ℕ} where
     column = b .column;
     inside = b .inside;
     passed = λ w.
-        let z = noted d w in
+        let z = noted-difference d w in
         below-more (λ y. getD columns (64 * j + productAt bytes n g y) 0 ≡ productAt bytes n g (getD columns (64 * j + y) 0)) x (b .passed (z .1)) (let u = z .0 in cc);
   }
 

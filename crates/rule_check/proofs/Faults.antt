@@ -45,8 +45,8 @@ module _ (checks : ℕ → List Check) (answer : Fault) (known : FaultAnswer che
 module _ (bytes : List ℕ) (n k : ℕ) (t : Table bytes n k) (all : AllAssociate (morphismAt bytes n k)) {entry exit : List ℕ} {count : ℕ}
     (order : WordOrder bytes n k entry exit count) (answer : Found) (known : WithoutAnswer exit n answer) where
   -- an element that no word reaches
-  pub unreached : {s : ℕ} → answer ≡ At s → (input : ℕ) → FirstFailure (reachChecks input (morphismAt bytes n k)) (refused Unreachable input s)
-  unreached e input =
+  pub fault-unreached : {s : ℕ} → answer ≡ At s → (input : ℕ) → FirstFailure (reachChecks input (morphismAt bytes n k)) (refused Unreachable input s)
+  fault-unreached e input =
       first-fails (record { refusal = Unreachable; input = input; Fails = UnreachedAt (morphismAt bytes n k) })
       (first-unreached order (table-lawful t all) (subst (WithoutAnswer exit n) e known))
 
@@ -68,14 +68,14 @@ not-associative {m} f input =
     first-fails (record { refusal = NotAssociative; input = input; Fails = NotAssociativeAt m }) (first-triple-place f)
 
 -- after an associative table the reached elements decide
-pub associative : (m : Morphism) (answer : Fault) → AllAssociate m → FaultAnswer (λ input. reachChecks input m) answer → FaultAnswer (λ input. tableChecks input m) answer
-associative m No-fault all f = λ input. first-passes (record { nowhere = λ place u. all-associate-none all u }) (f input)
-associative m (Refused r place) all f = λ input. first-passes (record { nowhere = λ place u. all-associate-none all u }) (f input)
+pub fault-associative : (m : Morphism) (answer : Fault) → AllAssociate m → FaultAnswer (λ input. reachChecks input m) answer → FaultAnswer (λ input. tableChecks input m) answer
+fault-associative m No-fault all f = λ input. first-passes (record { nowhere = λ place u. all-associate-none all u }) (f input)
+fault-associative m (Refused r place) all f = λ input. first-passes (record { nowhere = λ place u. all-associate-none all u }) (f input)
 
 -- the checks after the sections
 module _ (bytes : List ℕ) where
-  pub trailing : {end : ℕ} → end ≡ ruleEnd bytes → 0 < length (drop end bytes) → (input : ℕ) → FirstFailure (contentChecks input bytes) (refused TrailingBytes input end)
-  trailing {end} e h input =
+  pub fault-trailing : {end : ℕ} → end ≡ ruleEnd bytes → 0 < length (drop end bytes) → (input : ℕ) → FirstFailure (contentChecks input bytes) (refused TrailingBytes input end)
+  fault-trailing {end} e h input =
       first-fails (trailingCheck input (ruleEnd bytes) bytes) (record { longer = omega (arith, length-drop end bytes, e); is-place = e })
 
   module _ {end : ℕ} (e : end ≡ ruleEnd bytes) (h : length (drop end bytes) ≤ 0) where
@@ -111,4 +111,4 @@ pub letters-pass : (bytes : List ℕ) (n k : ℕ) → Table bytes n k → {entry
     → (input : ℕ) → FirstFailure (tableChecks input (morphismAt bytes n k)) passed
 letters-pass bytes n k t order answer known e r a h input =
     let all : AllAssociate (morphismAt bytes n k) = subst (AssociatesAnswer (morphismAt bytes n k)) h a in
-    associative (morphismAt bytes n k) No-fault all (all-reached bytes n k t all order answer known e) input
+    fault-associative (morphismAt bytes n k) No-fault all (all-reached bytes n k t all order answer known e) input

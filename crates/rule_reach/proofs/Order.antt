@@ -5,7 +5,7 @@ use mathlib.Core.Path.{_≡_, sym, ap, subst, _∙_}
 use mathlib.Core.Logic.{_⊎_, inl, inr, _≢_, ⊎-elim}
 use mathlib.Core.List.{List, []}
 use native.Mathlib.Omega.{arith}
-use Rattle.finite.proofs.Numbers.{below-cases, strong}
+use Rattle.finite.proofs.Numbers.{below-cases, strong-induction}
 use Rattle.finite.specs.Letters.{Over, over-nil}
 use Rattle.finite.proofs.Shortlex.{snoc, over-snoc}
 use Rattle.finite.proofs.FirstWords.{Sooner, sooner-parent, sooner-letter, after, after-snoc, FirstOrder}
@@ -185,7 +185,7 @@ module _ {A : Type 0} {x₀ : A} {δ : ℕ → A → A} {k : ℕ} where
   -- a word leads to every entry, also while the search runs
   pub ordered-word : {q : ℕ → A} {c : ℕ} {parent letter : ℕ → ℕ} → Ordered x₀ δ k q c parent letter → (i : ℕ) → i < c → LeadingWord x₀ δ k (q i)
   unfolding after
-  ordered-word {q} {c} {parent} {letter} o = strong (λ i. i < c → LeadingWord x₀ δ k (q i)) go
+  ordered-word {q} {c} {parent} {letter} o = strong-induction (λ i. i < c → LeadingWord x₀ δ k (q i)) go
     where
       go : (i : ℕ) → ((j : ℕ) → j < i → j < c → LeadingWord x₀ δ k (q j)) → i < c → LeadingWord x₀ δ k (q i)
       go zero before l = record { word = []; over = over-nil; leads = sym (o .first) }

@@ -100,10 +100,10 @@ module _ {bytes work entry : List ℕ} (p : CheckedNeeds bytes work entry) where
         record { reduces = (λ strong. not-refused (reduce-single bytes work map entry) (all-pass strong) (known .refusal), refl); scratch = reduction-left }
 
   -- the rule was counted, its classes listed, its reduction measured, and work cleared
-  pub measured : (answer : Listed) {elements letters marks linked classes joins reduced : ℕ} {strong : Bool} {listed mid after exit : List ℕ} {n : ℕ} → RuleCounts bytes elements letters marks
+  pub measured-summary : (answer : Listed) {elements letters marks linked classes joins reduced : ℕ} {strong : Bool} {listed mid after exit : List ℕ} {n : ℕ} → RuleCounts bytes elements letters marks
       → ListPromise bytes work listed entry mid answer → answer ≡ Listed-counts linked classes joins → SizeFound bytes mid exit strong reduced
       → n ≡ length work → after ≡ replicate n 0 → Measured bytes work after entry exit (Counts elements letters marks linked classes strong reduced)
-  measured answer {joins = joins} {listed = listed} {mid = mid} k q e f l z =
+  measured-summary answer {joins = joins} {listed = listed} {mid = mid} k q e f l z =
       let known = subst (ListPromise bytes work listed entry mid) e q in
       let left = classes-left q in
       record {

@@ -3,7 +3,7 @@
 use Prim.Native.Nat.{ℕ}
 use mathlib.Core.Path.{_≡_, sym, _∙_, subst}
 use mathlib.Core.List.{List}
-use Rattle.finite.proofs.Numbers.{Compared, lesser, level, greater, compared}
+use Rattle.finite.proofs.Numbers.{Compared, lesser, level, greater, compared-numbers}
 use Rattle.answer.proofs.Order.{AllSingle, Single, single-nil, single-at, single-cons}
 use Rattle.theory.specs.Words.{Lasso}
 use Rattle.theory.specs.Rules.{Rule}
@@ -17,7 +17,7 @@ use Rattle.temporal_promises.proofs.OneFormed.{OneFile, one-formed}
 
 -- the least letter of the set that is not below the number of letters is one
 set-single : (letters set : ℕ) → Single (setCheck letters set)
-set-single letters set = record { one-place = λ p q a b. go p q a b (compared p q) }
+set-single letters set = record { one-place = λ p q a b. go p q a b (compared-numbers p q) }
   where
     go : (p q : ℕ) → ForeignInSetAt letters set p → ForeignInSetAt letters set q → Compared p q → p ≡ q
     go p q a b (lesser h) = absurd (b .least p (a .foreign) h (a .in-set))

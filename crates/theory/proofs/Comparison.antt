@@ -19,7 +19,7 @@ use Rattle.theory.proofs.Values.{Inside, value-inside}
 use Rattle.theory.proofs.Splits.{turn-square}
 use Rattle.theory.proofs.Codes.{same-value, value-equality, value-code, value-at, value-code-below, value-at-code, value-at-inside}
 use Rattle.theory.proofs.Searches.{some-in, Hit, hit-elim, hit-intro, coding-of, reached-map}
-use Rattle.theory.proofs.Escapes.{Escapes, State, Begins, Moves, split-state, Known, known, ends-escapes, escapes-reached}
+use Rattle.theory.proofs.Escapes.{Escapes, State, Begins, Moves, split-state, Known, known-escape, ends-escapes, escapes-reached}
 
 -- a cycle that escapes, with fewer letters than there are codes of states
 pub record ShortEscape (m : Morphism) (P P′ : Pairs) (s : ℕ) : Type 0 where
@@ -178,7 +178,7 @@ module _ {m : Morphism} (law : Lawful m) (P P′ : Pairs) (s : ℕ) where
 
   module _ {x : State} (r : Reachable (Starts m P s) (Steps m P′ s) x) where
     knows : Known m P P′ s (r .word) x
-    knows = known law (listed-reached (r .reached))
+    knows = known-escape law (listed-reached (r .reached))
 
     front-inside : Inside m (x .front)
     front-inside = knows .inside

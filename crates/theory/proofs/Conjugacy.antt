@@ -61,9 +61,9 @@ module _ {m : Morphism} (law : Lawful m) where
   }
 
   -- (a·b)·(c·d) = a·((b·c)·d)
-  pub middle : (a b c d : ℕ) → a < m .size → b < m .size → c < m .size → d < m .size
+  pub conjugate-middle : (a b c d : ℕ) → a < m .size → b < m .size → c < m .size → d < m .size
       → m .product (m .product a b) (m .product c d) ≡ m .product a (m .product (m .product b c) d)
-  middle a b c d ha hb hc hd =
+  conjugate-middle a b c d ha hb hc hd =
       law .associative a b (m .product c d) ha hb (law .closed c d hc hd)
       ∙ ap (m .product a) (sym (law .associative b c d hb hc hd))
 
@@ -72,7 +72,7 @@ module _ {m : Morphism} (law : Lawful m) where
       → (f : ℕ) → m .product y x ≡ f → m .product x (m .product f y) ≡ e
   around-idempotent x y e hx hy i p f q =
       ap (λ (a : ℕ). m .product x (m .product a y)) (sym q)
-      ∙ sym (middle x y x y hx hy hx hy) ∙ ap (λ (a : ℕ). m .product a a) p ∙ i .square
+      ∙ sym (conjugate-middle x y x y hx hy hx hy) ∙ ap (λ (a : ℕ). m .product a a) p ∙ i .square
 
   pub conjugate-trans : {s e t f r g : ℕ} → Conjugate m s e t f → Conjugate m t f r g → Conjugate m s e r g
   conjugate-trans {s} {e} {t} {f} {r} {g} c d = record {
@@ -86,11 +86,11 @@ module _ {m : Morphism} (law : Lawful m) where
         sym (law .associative s (c .x) (d .x) (c .left-linked .inside) (c .x-inside) (d .x-inside))
         ∙ ap (λ (a : ℕ). m .product a (d .x)) (c .moves) ∙ d .moves;
     around =
-        middle (c .x) (d .x) (d .y) (c .y) (c .x-inside) (d .x-inside) (d .y-inside) (c .y-inside)
+        conjugate-middle (c .x) (d .x) (d .y) (c .y) (c .x-inside) (d .x-inside) (d .y-inside) (c .y-inside)
         ∙ ap (λ (a : ℕ). m .product (c .x) (m .product a (c .y))) (d .around)
         ∙ around-idempotent (c .x) (c .y) e (c .x-inside) (c .y-inside) (c .left-linked .idempotent) (c .around) f (c .turned);
     turned =
-        middle (d .y) (c .y) (c .x) (d .x) (d .y-inside) (c .y-inside) (c .x-inside) (d .x-inside)
+        conjugate-middle (d .y) (c .y) (c .x) (d .x) (d .y-inside) (c .y-inside) (c .x-inside) (d .x-inside)
         ∙ ap (λ (a : ℕ). m .product (d .y) (m .product a (d .x))) (c .turned)
         ∙ around-idempotent (d .y) (d .x) g (d .y-inside) (d .x-inside) (d .right-linked .idempotent) (d .turned) f (d .around);
   }

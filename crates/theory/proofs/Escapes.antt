@@ -135,15 +135,15 @@ module _ {m : Morphism} (law : Lawful m) {P P′ : Pairs} {s : ℕ} where
     }
 
   -- every reached state knows this of its letters
-  pub known : {w : List ℕ} {x : State} → Reached (Begins m P s) (Moves m P′ s) w x → Known m P P′ s w x
-  known (begin b) = known-begin b
-  known (onward a r g) = known-onward (known r) g
+  pub known-escape : {w : List ℕ} {x : State} → Reached (Begins m P s) (Moves m P′ s) w x → Known m P P′ s w x
+  known-escape (begin b) = known-begin b
+  known-escape (onward a r g) = known-onward (known-escape r) g
 
   -- a state with nothing left in front: its letters are a cycle that escapes
   pub ends-escapes : {w : List ℕ} {x : State} → Reached (Begins m P s) (Moves m P′ s) w x → x .front ≡ none → Escapes m P P′ s w
   unfolding join
   ends-escapes {w} {x} r e =
-      let k = known r in
+      let k = known-escape r in
       record {
         over = k .over;
         cycle-element = k .cycle-element;

@@ -6,7 +6,7 @@ use mathlib.Core.List.{List}
 use mathlib.Core.Logic.{_⊎_, inl, inr}
 use native.Mathlib.Omega.{arith}
 use native.Mathlib.Numerals.{add-one}
-use Rattle.finite.proofs.Numbers.{le-or-lt, Compared, lesser, level, greater, compared}
+use Rattle.finite.proofs.Numbers.{le-or-lt, Compared, lesser, level, greater, compared-numbers}
 use Rattle.theory.specs.Rules.{Morphism, Lawful}
 use Rattle.theory.specs.PowersTheorem.{PowersTheorem}
 use Rattle.theory.specs.Pairs.{Idempotent, power, HasIdempotentPower, LeastExponent, LeastPower, TurnsOf}
@@ -83,7 +83,7 @@ least-power-idempotent {m} l = subst (Idempotent m) (sym (l .is-power)) (l .expo
 
 -- there is one least exponent
 pub one-exponent : {m : Morphism} {x exponent exponent′ : ℕ} → LeastExponent m x exponent → LeastExponent m x exponent′ → exponent ≡ exponent′
-one-exponent {exponent = exponent} {exponent′} a b = go (compared (a .index) (b .index))
+one-exponent {exponent = exponent} {exponent′} a b = go (compared-numbers (a .index) (b .index))
   where
     go : Compared (a .index) (b .index) → exponent ≡ exponent′
     go (lesser h) = absurd (b .least (a .index) h (a .idempotent))

@@ -12,7 +12,7 @@ use Rattle.theory.specs.Smallest.{SameGrades, Renumbered, Smallest, Mark
 use Rattle.theory.proofs.Closure.{linked-elim}
 use Rattle.theory.proofs.Gradings.{GradedMarks, one-grade, strong-lassos, same-grade}
 use Rattle.theory.proofs.Computing.{computing, lasso-elim, graded-is}
-use Rattle.theory.proofs.SmallRules.{entry, table, marks, meet-rows, parity-rows, W, Z, Z₀, W₀, no-marks, first-mark, three-marks, three-grades, turned-grades, four-marks, two-grades, Sound, sound, sound-test, grades-test, sound-grades, W-sound, Z₀-sound, W-grades, W-graded-grades, W-rule, W-all, W-graded, W-lower, Z-rule}
+use Rattle.theory.proofs.SmallRules.{entry, table, marks, meet-rows, parity-rows, W, Z, Z₀, W₀, no-marks, first-mark, three-marks, three-grades, turned-grades, four-marks, two-grades, Sound, small-rule-sound, sound-test, grades-test, sound-grades, W-sound, Z₀-sound, W-grades, W-graded-grades, W-rule, W-all, W-graded, W-lower, Z-rule}
 use Rattle.theory.proofs.EveryLasso.{GradesEvery, one-strong, one, one-every, one-rule}
 use Rattle.theory.proofs.Examples.{W-ones, W-graded-strong, graded-zeros, graded-ones, lower-zeros, W-all-every, W-all-same, Z-weak, Z₀-every}
 use Rattle.theory.proofs.Exclusions.{no-word, not-stays}
@@ -108,7 +108,7 @@ mark-left-out k =
 -- with 2 it is too low; too high no mark can be, as it gives its grade to the lassos with its values
 Z₀-two-sound : Sound Z₀ (marks (two-grades 3 2))
 unfolding sound-test
-Z₀-two-sound = sound Z₀ (marks (two-grades 3 2)) tt
+Z₀-two-sound = small-rule-sound Z₀ (marks (two-grades 3 2)) tt
 
 Z₀-two-grades : GradedMarks Z₀ (entry (two-grades 3 2))
 unfolding grades-test

@@ -93,9 +93,9 @@ unfoldable pub sound-test : Morphism → Pairs → Bool
 unfolding computing
 sound-test m P = lawful-test m && (leb (m .size) (unreached m) && linked-only-test m P)
 
-pub sound : (m : Morphism) (P : Pairs) → T (sound-test m P) → Sound m P
+pub small-rule-sound : (m : Morphism) (P : Pairs) → T (sound-test m P) → Sound m P
 unfolding sound-test
-sound m P t =
+small-rule-sound m P t =
     let t₁ = T-and-right (lawful-test m) _ t in
     let law = lawful-elim m (T-and-left (lawful-test m) _ t) in
     record {
@@ -119,27 +119,27 @@ sound-grades m marking k t = record {
 -- each passes
 pub W-sound : Sound W (marks first-mark)
 unfolding sound-test
-W-sound = sound W (marks first-mark) tt
+W-sound = small-rule-sound W (marks first-mark) tt
 
 pub W-all-sound : Sound W (marks three-marks)
 unfolding sound-test
-W-all-sound = sound W (marks three-marks) tt
+W-all-sound = small-rule-sound W (marks three-marks) tt
 
 pub Z-sound : Sound Z (marks first-mark)
 unfolding sound-test
-Z-sound = sound Z (marks first-mark) tt
+Z-sound = small-rule-sound Z (marks first-mark) tt
 
 pub Z₀-sound : Sound Z₀ (marks first-mark)
 unfolding sound-test
-Z₀-sound = sound Z₀ (marks first-mark) tt
+Z₀-sound = small-rule-sound Z₀ (marks first-mark) tt
 
 pub W-graded-sound : Sound W (marks three-grades)
 unfolding sound-test
-W-graded-sound = sound W (marks three-grades) tt
+W-graded-sound = small-rule-sound W (marks three-grades) tt
 
 pub W-lower-sound : Sound W (marks lower-grade)
 unfolding sound-test
-W-lower-sound = sound W (marks lower-grade) tt
+W-lower-sound = small-rule-sound W (marks lower-grade) tt
 
 pub W-grades : GradedMarks W (entry first-mark)
 unfolding grades-test

@@ -154,9 +154,9 @@ module _ {m : Morphism} (law : Lawful m) where
       (ap (m .product s) q ∙ l .stays, q)
 
   -- every lasso can be written so
-  pub settle : {u v : List ℕ} {s z : ℕ} → Over (m .letters) u → Over (m .letters) v → value m u ≡ element s → value m v ≡ element z → Settled m u v s z
+  pub settle-strength : {u v : List ℕ} {s z : ℕ} → Over (m .letters) u → Over (m .letters) v → value m u ≡ element s → value m v ≡ element z → Settled m u v s z
   unfolding idempotent-of
-  settle {u} {v} {s} {z} ou ov eu ev = record {
+  settle-strength {u} {v} {s} {z} ou ov eu ev = record {
     start = u ++ repeat (suc σ) v;
     cycle = repeat (suc σ) v;
     start-over = over-append ou (repeat-over (suc σ) ov);
@@ -188,7 +188,7 @@ module _ {m : Morphism} (law : Lawful m) {P : Pairs} (linked : LinkedOnly m P) w
   pub accepted-settled : {u v : List ℕ} {s z : ℕ} → Over (m .letters) u → Over (m .letters) v → value m u ≡ element s → value m v ≡ element z
       → Accepts m P u v → Closed m P (settled-start m s z) (settled-cycle m z)
   accepted-settled {u} {v} {s} {z} ou ov eu ev a =
-      let t = settle law ou ov eu ev in
+      let t = settle-strength law ou ov eu ev in
       accepted-closed law linked (settled-linked law (inside-of law ou eu) (inside-of law ov ev)) (t .start-over) (t .cycle-over) (t .start-value) (t .cycle-value)
       (accepts-same (value-some m (t .cycle) (settled-cycle m z) (t .cycle-value)) (λ i. sym (t .same i)) a)
 
@@ -196,7 +196,7 @@ module _ {m : Morphism} (law : Lawful m) {P : Pairs} (linked : LinkedOnly m P) w
   pub settled-accepted : AllAccepted m P → {u v : List ℕ} {s z : ℕ} → Over (m .letters) u → Over (m .letters) v → value m u ≡ element s → value m v ≡ element z
       → Closed m P (settled-start m s z) (settled-cycle m z) → Accepts m P u v
   settled-accepted all {u} {v} {s} {z} ou ov eu ev c =
-      let t = settle law ou ov eu ev in
+      let t = settle-strength law ou ov eu ev in
       accepts-same (value-some m v z ev) (t .same) (all .accepted c (t .start-over) (t .cycle-over) (t .start-value) (t .cycle-value))
 
   one-way : AllAccepted m P → {u v u′ v′ : List ℕ} → Lasso (m .letters) u v → Lasso (m .letters) u′ v′

@@ -6,7 +6,7 @@ use Rattle.theory.specs.Rules.{Morphism, Lawful, Value, none, element, j
 use Rattle.theory.specs.Pairs.{Idempotent, Linked, Conjugate}
 use Rattle.theory.proofs.Values.{Inside, inside-none, inside-element, element-same}
 use Rattle.theory.proofs.Powers.{times, idempotent-of, idempotent-is}
-use Rattle.theory.proofs.Conjugacy.{semigroup, middle, conjugate-by}
+use Rattle.theory.proofs.Conjugacy.{semigroup, conjugate-middle, conjugate-by}
 
 -- the element y·x, where y may be none
 unfoldable pub turned : Morphism → Value → ℕ → ℕ
@@ -56,14 +56,14 @@ module _ {m : Morphism} (law : Lawful m) where
     -- f·f = y·(e·x)
     square-as : m .product f f ≡ m .product y (m .product e x)
     unfolding f
-    square-as = middle law y x y x hy hx hy hx ∙ ap (λ (a : ℕ). m .product y (m .product a x)) p
+    square-as = conjugate-middle law y x y x hy hx hy hx ∙ ap (λ (a : ℕ). m .product y (m .product a x)) p
 
     -- f·f·f = f·f
     cube : m .product (m .product f f) f ≡ m .product f f
     unfolding f
     cube =
         ap (λ (a : ℕ). m .product a f) square-as
-        ∙ middle law y (m .product e x) y x hy (law .closed e x he hx) hy hx
+        ∙ conjugate-middle law y (m .product e x) y x hy (law .closed e x he hx) hy hx
         ∙ ap (λ (a : ℕ). m .product y (m .product a x)) (law .associative e x y he hx hy ∙ ap (m .product e) p ∙ l .idempotent .square)
         ∙ sym square-as
 
@@ -75,7 +75,7 @@ module _ {m : Morphism} (law : Lawful m) where
     moved : m .product (m .product s x) f ≡ m .product s x
     unfolding f
     moved =
-        middle law s x y x (l .inside) hx hy hx
+        conjugate-middle law s x y x (l .inside) hx hy hx
         ∙ ap (λ (a : ℕ). m .product s (m .product a x)) p
         ∙ sym (law .associative s e x (l .inside) he hx)
         ∙ ap (λ (a : ℕ). m .product a x) (l .stays)

@@ -12,7 +12,7 @@ use Rattle.formats.specs.AutomatonFile.{automatonLettersAt, transitionsAt, tran
 use Rattle.formats.specs.AutomatonChecks.{RepeatedTransitionAt, repeatedChecks, automatonLayoutChecks, automatonContentChecks, automatonChecks, readChecks}
 use Rattle.automaton_file.proofs.Passed.{good-sections}
 use Rattle.promises.specs.Automaton.{TooManyMatricesAt, matricesCheck}
-use Rattle.unpacking.proofs.Limits.{Near, near, at-zero, buffer-limited}
+use Rattle.unpacking.proofs.Limits.{Near, near-limit, at-zero, buffer-limited}
 
 module _ (bytes : List ℕ) where
   -- 1 to 3
@@ -20,8 +20,8 @@ module _ (bytes : List ℕ) where
   layout-limited =
       subst (Limited Near) (automaton-list 1 bytes)
       (list-limited automatonSections 1 0 bytes (
-        λ m place h l. near (omega arith) (omega arith),
-        λ m small. (λ k place h l. near (omega arith) (omega arith), λ k few c place h l. near (omega arith) (omega arith)),
+        λ m place h l. near-limit (omega arith) (omega arith),
+        λ m small. (λ k place h l. near-limit (omega arith) (omega arith), λ k few c place h l. near-limit (omega arith) (omega arith)),
       ))
 
   -- 8
@@ -29,7 +29,7 @@ module _ (bytes : List ℕ) where
   unfolding repeatedChecks transitionAt
   repeated-limited i zero l = limited-nil
   repeated-limited i (suc count) l =
-      limited-cons (λ place (f : RepeatedTransitionAt _ _ place). near (omega arith) (omega (arith, f .is-place)))
+      limited-cons (λ place (f : RepeatedTransitionAt _ _ place). near-limit (omega arith) (omega (arith, f .is-place)))
       (λ _. repeated-limited (suc i) count (omega arith))
 
   -- 4, 8
@@ -37,7 +37,7 @@ module _ (bytes : List ℕ) where
   unfolding automatonEnd transitionAt transitionsAt automatonLettersAt
   content-limited all =
       let good = good-sections 1 bytes all in
-      limited-cons (λ place (f : TrailingAt _ _ place). near (omega arith) (omega (arith, f .is-place, good .states-small, good .transitions-small)))
+      limited-cons (λ place (f : TrailingAt _ _ place). near-limit (omega arith) (omega (arith, f .is-place, good .states-small, good .transitions-small)))
       (λ _. repeated-limited 0 (transitionsOf bytes) (omega (arith, good .states-small, good .transitions-small)))
 
   -- an automaton, with the scratch that is lent; then 14

@@ -17,7 +17,7 @@ use Rattle.promises.specs.Advance.{standingChecks}
 use Rattle.board_promises.specs.declared.Board.{Board}
 use Rattle.board_promises.specs.Boards.{boardNamesCount, fileAt, presentAt, monitorAt}
 use Rattle.board_promises.specs.Checks.{NotFreeAt, NotPresentAt, freeCheck, nameChecks, namesChecks, allChecks, letterChecks, lettersChecks, enterChecks, leaveChecks, boardEventChecks, boardMarkChecks}
-use Rattle.unpacking.proofs.Limits.{Near, near, at-zero, buffer-limited, rule-limited}
+use Rattle.unpacking.proofs.Limits.{Near, near-limit, at-zero, buffer-limited, rule-limited}
 
 -- a name that passed its check is one of the eight
 pub free-named : (b : Board) (name : ℕ) → Passes (freeCheck b name) → name ≤ 7
@@ -30,8 +30,8 @@ module _ (b : Board) (files : List ℕ) where
       go : (there : Bool) → Limited Near (cond there (ruleChecks i (fileAt files i) ++ standingChecks i (fileAt files i) (monitorAt b i)) [])
       go true =
           limited-append (ruleChecks i (fileAt files i)) (rule-limited i (fileAt files i) (omega arith))
-          (λ _. limited-cons (λ place (a : MonitorValueOutOfRangeAt _ _ place). near (omega arith) (omega (arith, a .is-place)))
-          (λ _. limited-cons (λ place (a : WeakAt _ place). near (omega arith) (omega (arith, a .is-place))) (λ _. limited-nil)))
+          (λ _. limited-cons (λ place (a : MonitorValueOutOfRangeAt _ _ place). near-limit (omega arith) (omega (arith, a .is-place)))
+          (λ _. limited-cons (λ place (a : WeakAt _ place). near-limit (omega arith) (omega (arith, a .is-place))) (λ _. limited-nil)))
       go false = limited-nil
 
   names-limited : (i count : ℕ) → i + count ≤ boardNamesCount → Limited Near (namesChecks b files i count)
@@ -48,7 +48,7 @@ module _ (b : Board) (files : List ℕ) where
       where
         go : (there : Bool)
             → Limited Near (cond there (loneLetterCheck i (lettersOf (fileAt files i)) letter ∷ []) [])
-        go true = limited-cons (λ place (a : LoneUnknownLetterAt _ _ place). near (omega arith) (omega (arith, a .is-place))) (λ _. limited-nil)
+        go true = limited-cons (λ place (a : LoneUnknownLetterAt _ _ place). near-limit (omega arith) (omega (arith, a .is-place))) (λ _. limited-nil)
         go false = limited-nil
 
     letters-limited : (i count : ℕ) → i + count ≤ boardNamesCount → Limited Near (lettersChecks b files letter i count)
@@ -63,7 +63,7 @@ module _ (b : Board) (files : List ℕ) where
         buffer-limited (buffer-limited (limited-cons (λ place (a : NotFreeAt b name place). at-zero (a .is-place))
         (λ free. limited-append (allChecks b files) all-limited
         (λ _. limited-append (ruleChecks name file) (rule-limited name file (free-named b name free))
-        (λ _. limited-cons (λ place (a : WeakAt _ place). near (free-named b name free) (omega (arith, a .is-place))) (λ _. limited-nil))))))
+        (λ _. limited-cons (λ place (a : WeakAt _ place). near-limit (free-named b name free) (omega (arith, a .is-place))) (λ _. limited-nil))))))
 
     pub leave-limited : (name : ℕ) → Limited Near (leaveChecks b name files scratch)
     leave-limited name = buffer-limited (buffer-limited (limited-cons (λ place (a : NotPresentAt b name place). at-zero (a .is-place)) (λ _. all-limited)))

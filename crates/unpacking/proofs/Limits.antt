@@ -31,8 +31,8 @@ pub record Near (input place : ℕ) : Type 0 where
   pub input-small : input ≤ 7
   pub place-small : place < longestLog
 
-pub near : {input place : ℕ} → input ≤ 7 → place < longestLog → Near input place
-near i l = record { input-small = i; place-small = l }
+pub near-limit : {input place : ℕ} → input ≤ 7 → place < longestLog → Near input place
+near-limit i l = record { input-small = i; place-small = l }
 
 -- a refusal that lies there is packed whole
 pub refused-fits : {checks : List Check} (r : Refusal) {input place : ℕ} → Limited Near checks → FirstFailure checks (refused r input place)
@@ -48,7 +48,7 @@ refused-fits r l f =
     }
 
 pub at-zero : {place : ℕ} → place ≡ 0 → Near 1 place
-at-zero e = near (omega arith) (omega arith)
+at-zero e = near-limit (omega arith) (omega arith)
 
 pub buffer-limited : {needed : ℕ} {buffer : List ℕ} {checks : List Check} → Limited Near checks → Limited Near (bufferCheck needed buffer ∷ checks)
 buffer-limited l = limited-cons (λ place (f : ShortAt _ _ place). at-zero (f .is-place)) (λ _. l)
@@ -57,8 +57,8 @@ buffer-limited l = limited-cons (λ place (f : ShortAt _ _ place). at-zero (f .i
 table-limited : (input : ℕ) (m : Morphism) → input ≤ 7 → m .size ≤ 64 → Limited Near (tableChecks input m)
 table-limited input m known small =
     limited-cons
-    (λ place (f : NotAssociativeAt m place). near known (omega (arith, f .is-place, f .a-inside, f .b-inside, f .c-inside)))
-    (λ _. limited-cons (λ place (f : UnreachedAt m place). near known (omega (arith, f .inside))) (λ _. limited-nil))
+    (λ place (f : NotAssociativeAt m place). near-limit known (omega (arith, f .is-place, f .a-inside, f .b-inside, f .c-inside)))
+    (λ _. limited-cons (λ place (f : UnreachedAt m place). near-limit known (omega (arith, f .inside))) (λ _. limited-nil))
 
 -- 7, 8
 marks-limited : (input : ℕ) (m : Morphism) (bytes : List ℕ) (at i count : ℕ) → input ≤ 7 → at + (2 + markWidth * (i + count)) ≤ ruleSize
@@ -66,8 +66,8 @@ marks-limited : (input : ℕ) (m : Morphism) (bytes : List ℕ) (at i count : �
 unfolding markChecks
 marks-limited input m bytes at i zero known l = limited-nil
 marks-limited input m bytes at i (suc count) known l =
-    limited-cons (λ place (f : UnlinkedAt _ _ _ _ place). near known (omega (arith, f .is-place)))
-    (λ _. limited-cons (λ place (f : RepeatedAt _ _ _ place). near known (omega (arith, f .is-place)))
+    limited-cons (λ place (f : UnlinkedAt _ _ _ _ place). near-limit known (omega (arith, f .is-place)))
+    (λ _. limited-cons (λ place (f : RepeatedAt _ _ _ place). near-limit known (omega (arith, f .is-place)))
     (λ _. marks-limited input m bytes at (suc i) count known (omega arith)))
 
 module _ (input : ℕ) (bytes : List ℕ) (known : input ≤ 7) where
@@ -76,10 +76,10 @@ module _ (input : ℕ) (bytes : List ℕ) (known : input ≤ 7) where
   layout-limited =
       subst (Limited Near) (rule-list input bytes)
       (list-limited ruleSections input 0 bytes (
-        λ n place h l. near known (omega (arith, mul-le-mul h h)),
+        λ n place h l. near-limit known (omega (arith, mul-le-mul h h)),
         λ n small. (
-          λ k place h l. near known (omega (arith, mul-le-mul small small)),
-          λ k few c place h l. near known (omega (arith, mul-le-mul small small)),
+          λ k place h l. near-limit known (omega (arith, mul-le-mul small small)),
+          λ k few c place h l. near-limit known (omega (arith, mul-le-mul small small)),
         ),
       ))
 
@@ -92,7 +92,7 @@ module _ (input : ℕ) (bytes : List ℕ) (known : input ≤ 7) where
       let square : elementsOf bytes * elementsOf bytes ≤ 64 * 64 = mul-le-mul n-small n-small in
       let k-small = letters-small bytes as-first in
       let c-small = marks-small bytes as-first in
-      limited-cons (λ place (f : TrailingAt _ _ place). near known (omega (arith, f .is-place)))
+      limited-cons (λ place (f : TrailingAt _ _ place). near-limit known (omega (arith, f .is-place)))
       (λ _. limited-append (tableChecks input (morphismOf bytes)) (table-limited input (morphismOf bytes) known n-small)
       (λ _. marks-limited input (morphismOf bytes) bytes (marksAt bytes) 0 (marksOf bytes) known (omega arith)))
 
@@ -110,23 +110,23 @@ pub second-limited : (rule bytes : List ℕ) → Limited Near (secondMarksChecks
 unfolding secondMarksChecks
 second-limited rule bytes =
     limited-append (sectionChecks (marksSection (elementsOf rule)) 2 0 bytes)
-    (section-limited _ 2 0 bytes (λ c place h l. near (omega arith) (omega arith)))
+    (section-limited _ 2 0 bytes (λ c place h l. near-limit (omega arith) (omega arith)))
     (λ section.
     let c-small = passed-good (marksSection (elementsOf rule)) 2 0 bytes section .within in
-    limited-cons (λ place (f : TrailingAt _ _ place). near (omega arith) (omega (arith, f .is-place)))
+    limited-cons (λ place (f : TrailingAt _ _ place). near-limit (omega arith) (omega (arith, f .is-place)))
     (λ _. marks-limited 2 (morphismOf rule) bytes 0 0 (twoBytes bytes 0) (omega arith) (omega arith)))
 
 -- a word whose length passed
 word-short : {input shortest : ℕ} {w : List ℕ} {place : ℕ} → ((p : ℕ) → LengthOutAt shortest w p → ⊥) → input ≤ 7 → place < length w → Near input place
 word-short {w = w} passes known l =
     let h : longestWord < length w → ⊥ = λ g. passes 0 (record { outside = inr g; is-place = refl }) in
-    near known (omega arith)
+    near-limit known (omega arith)
 
 -- 11 and 10 of u and v
 pub lasso-limited : (k : ℕ) (u v : List ℕ) → Limited Near (lassoChecks k u v)
 lasso-limited k u v =
     limited-cons (λ place (f : LengthOutAt _ u place). at-zero (f .is-place))
-    (λ pu. limited-cons (λ place (f : LengthOutAt _ v place). near (omega arith) (omega (arith, f .is-place)))
+    (λ pu. limited-cons (λ place (f : LengthOutAt _ v place). near-limit (omega arith) (omega (arith, f .is-place)))
     (λ pv. limited-cons (λ place (f : UnknownLetterAt k u place). word-short (pu .nowhere) (omega arith) (f .inside))
     (λ _. limited-cons (λ place (f : UnknownLetterAt k v place). word-short (pv .nowhere) (omega arith) (f .inside)) (λ _. limited-nil))))
 
@@ -134,5 +134,5 @@ lasso-limited k u v =
 pub log-limited : (k : ℕ) (w : List ℕ) → Limited Near (logChecks 1 k w)
 log-limited k w =
     limited-cons (λ place (f : LogTooLongAt w place). at-zero (f .is-place))
-    (λ passes. limited-cons (λ place (f : UnknownLetterAt k w place). near (omega arith)
+    (λ passes. limited-cons (λ place (f : UnknownLetterAt k w place). near-limit (omega arith)
     (let h : longestLog < length w → ⊥ = λ g. passes .nowhere 0 (record { above = g; is-place = refl }) in omega (arith, f .inside))) (λ _. limited-nil))

@@ -82,7 +82,7 @@ use Rattle.packing_decisions.proofs.Contents.{strength-told, lasso-verdict-told
 use Rattle.packing_monitors.proofs.Contents.{moved-told, advanced-told}
 use Rattle.exports.specs.Exports.{Exported}
 use Rattle.exports.specs.BoardExports.{ExportedBoardCall, ExportedBoardEmpty, ExportedBoardEnter, ExportedBoardLeave, ExportedBoardEvent, ExportedBoardMark}
-use Rattle.unpacking.proofs.Limits.{Near, near, refused-fits, at-zero, buffer-limited, rule-limited, checked-limited, second-limited, lasso-limited}
+use Rattle.unpacking.proofs.Limits.{Near, near-limit, refused-fits, at-zero, buffer-limited, rule-limited, checked-limited, second-limited, lasso-limited}
 use Rattle.unpacking.proofs.Advances.{advance-fits, advance-held, advance-word-fits, advance-word-held}
 use Rattle.unpacking.proofs.AutomatonLimits.{translated-limited}
 use Rattle.unpacking.proofs.BoardGrades.{board-enter-fits, board-leave-fits, board-event-fits, board-mark-fits}
@@ -165,7 +165,7 @@ pair-limited : (first second : List ℕ) → Limited Near (pairChecks first seco
 pair-limited first second =
     limited-cons (λ place (f : LettersDifferAt _ _ place). at-zero (f .is-place))
     (λ _. limited-cons (λ place (f : WeakAt _ place). at-zero (f .is-place))
-    (λ _. limited-cons (λ place (f : WeakAt _ place). near (omega arith) (omega (arith, f .is-place)))
+    (λ _. limited-cons (λ place (f : WeakAt _ place). near-limit (omega arith) (omega (arith, f .is-place)))
     (λ _. limited-cons (λ place (f : TooManyPairsAt _ _ place). at-zero (f .is-place)) (λ _. limited-nil))))
 
 combine-fits : {first second : List ℕ} {operation : Operation} {before after entry exit : List ℕ} (answer : Written)
@@ -184,7 +184,7 @@ numbers-limited letters grade l =
 
 set-limited : {letters set : ℕ} → set < 2 ^ 64 → Limited Near (setCheck letters set ∷ [])
 set-limited {letters} {set} small =
-    limited-cons (λ place (f : ForeignInSetAt letters set place). ⊎-elim (λ h. absurd (none-beyond small h (f .in-set))) (λ h. near (omega arith) (omega arith)) (le-or-lt 64 place))
+    limited-cons (λ place (f : ForeignInSetAt letters set place). ⊎-elim (λ h. absurd (none-beyond small h (f .in-set))) (λ h. near-limit (omega arith) (omega arith)) (le-or-lt 64 place))
     (λ _. limited-nil)
 
 first-letter-fits : {letters set grade : ℕ} {before after : List ℕ} → set < 2 ^ 64 → (answer : Written) → FirstLetterPromise letters set grade before after answer

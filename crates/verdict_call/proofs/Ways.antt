@@ -85,8 +85,8 @@ module _ (bytes : List ℕ) (f : Monitor) (entry : List ℕ) where
       }
 
       -- the values are judged
-      pub judged : {start : ℕ} {exit : List ℕ} {answer : LassoVerdict} → start ≡ startElement f
+      pub judged-verdict : {start : ℕ} {exit : List ℕ} {answer : LassoVerdict} → start ≡ startElement f
           → Judges (morphismAt bytes (shape .elements) (shape .letters)) start (f .since) mid exit answer → VerdictPromise bytes f entry exit answer
-      judged {exit = exit} {answer = answer} e given =
+      judged-verdict {exit = exit} {answer = answer} e given =
           let j = subst (λ (s : ℕ). Judges (morphismAt bytes (shape .elements) (shape .letters)) s (f .since) mid exit answer) e given in
           says answer (left (j .zeros)) (file-says j)

@@ -3,7 +3,7 @@ use Prim.Native.Nat.{ℕ, zero, suc, _≤_, _<_}
 use native.Mathlib.Omega.{arith}
 use mathlib.Core.Path.{_≡_, refl, ap, ap₂, _∙_}
 use mathlib.Core.List.{List, [], _∷_, _++_}
-use Rattle.finite.proofs.Numbers.{strong}
+use Rattle.finite.proofs.Numbers.{strong-induction}
 use Rattle.finite.proofs.Shortlex.{over-snoc, length-snoc}
 use Rattle.theory.specs.Words.{Over, over-nil}
 use Rattle.temporal.proofs.WordClasses.{Word}
@@ -56,7 +56,7 @@ module _ {scratch : List ℕ} {count : ℕ} (r : Rooted scratch count) where
 
   module _ {k : ℕ} (letters : (j : ℕ) → j < count → letterAt scratch j < k) where
     pub word-over : (i : ℕ) → i ≤ count → Over k (wordAt scratch i)
-    word-over = strong (λ i. i ≤ count → Over k (wordAt scratch i)) go
+    word-over = strong-induction (λ i. i ≤ count → Over k (wordAt scratch i)) go
       where
         go : (i : ℕ) → ((j : ℕ) → j < i → j ≤ count → Over k (wordAt scratch j)) → i ≤ count → Over k (wordAt scratch i)
         go zero before h = rw (word-empty scratch) over-nil

@@ -3,7 +3,7 @@ use Prim.Native.Nat.{ℕ, zero, suc, _+_, _≤_, _<_}
 use mathlib.Core.Path.{_≡_, sym, ap, ap₂, _∙_}
 use mathlib.Core.List.{List}
 use native.Mathlib.Omega.{arith}
-use Rattle.finite.proofs.Numbers.{strong}
+use Rattle.finite.proofs.Numbers.{strong-induction}
 use Rattle.finite.proofs.FirstWords.{after, after-snoc}
 use Rattle.scratch.specs.Bytes.{UnchangedOutside}
 use Rattle.scratch.specs.Map.{laidProductsBase, laidEnd}
@@ -55,7 +55,7 @@ module _ {a b : List ℕ} {count i : ℕ} (kept : LaidBehind a b) (l : TableNeed
 
   leads-alike : (e : ℕ) → e ≤ count → LeadsAlike a b count i e
   unfolding after
-  leads-alike = strong (λ e. e ≤ count → LeadsAlike a b count i e) go
+  leads-alike = strong-induction (λ e. e ≤ count → LeadsAlike a b count i e) go
     where
       nothing : (c : List ℕ) → after (stepFrom c) i (wordAt c 0) ≡ i
       nothing c = ap (after (stepFrom c) i) (word-empty c)

@@ -6,7 +6,7 @@ use mathlib.Core.List.{List, [], _∷_, _++_}
 use native.Mathlib.Numerals.{add-one}
 use native.Mathlib.Omega.{arith}
 use lib.ListN.{length}
-use Rattle.finite.proofs.Numbers.{Compared, lesser, level, greater, compared}
+use Rattle.finite.proofs.Numbers.{Compared, lesser, level, greater, compared-numbers}
 use Rattle.finite.proofs.FirstWords.{Sooner, sooner-parent, sooner-letter}
 use Rattle.finite.proofs.Discovery.{Discovery}
 use Rattle.finite.proofs.Explore.{sooner-le}
@@ -25,7 +25,7 @@ use Rattle.word_table.specs.Laying.{stepFrom, laidRule, TableNeeds, Alon
 module _ {R : List ℕ → List ℕ → Type 0} {k : ℕ} {scratch : List ℕ} {count : ℕ} (s : Search R k scratch count count k) where
   -- every letter was followed from every entry
   step : (q y : ℕ) → q ≤ count → y < k → StepNumber R scratch count q y
-  step q y h l = s .steps q y l (go (compared q count))
+  step q y h l = s .steps q y l (go (compared-numbers q count))
     where
       go : Compared q count → Sooner q y count k
       go (lesser g) = sooner-parent g

@@ -2,7 +2,7 @@
 use mathlib.Core.Path.{refl}
 use native.Mathlib.Omega.{arith}
 use borrow.Author.Needs.{needs}
-use Rattle.automaton_file.proofs.Content.{m-small, count-small, end-in, transitions-place, trailing, transitions-decide}
+use Rattle.automaton_file.proofs.Content.{m-small, count-small, end-in, transitions-place, trailing-automaton-bytes, transitions-decide}
 use Rattle.automaton_file.proofs.content_fault.Statement.{statement}
 use Rattle.automaton_file.proofs.content_fault.Tie as tie
 
@@ -25,7 +25,7 @@ rest-after-requires : tie.Need-rest-after-requires
 rest-after-requires c κs = end-in _ _ (c .before .before .pre .0)
 
 returns : tie.Need-returns
-returns c = (trailing _ _ (c .before .before .before .before .pre .0) (c .before .rest-after .ensures) (c .if1 .taken), refl)
+returns c = (trailing-automaton-bytes _ _ (c .before .before .before .before .pre .0) (c .before .rest-after .ensures) (c .if1 .taken), refl)
 
 repeated-fault-requires : tie.Need-repeated-fault-requires
 repeated-fault-requires c κs = (transitions-place _ _ (c .before .before .before .before .before .pre .0), c .before .before .before .before .before .pre .1)

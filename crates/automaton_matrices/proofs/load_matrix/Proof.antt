@@ -3,7 +3,7 @@ use Prim.Native.Nat.{_-_, _≤_}
 use borrow.Author.Needs.{needs}
 use Rattle.automaton_matrices.specs.Bytes.{matrixFrom}
 use Rattle.automaton_products.proofs.Rows.{RowsOf, rows-none, rows-more}
-use Rattle.automaton_matrices.proofs.Storing.{row-room, row-loaded, loaded}
+use Rattle.automaton_matrices.proofs.Storing.{row-room, row-loaded, loaded-matrix}
 use Rattle.automaton_matrices.proofs.load_matrix.Statement.{statement}
 use Rattle.automaton_matrices.proofs.load_matrix.Tie as tie
 
@@ -23,7 +23,7 @@ loop-again : tie.Need-loop-again Inv-loop μ-loop
 loop-again c = (search needs, rows-more (c .before .before .loop .inv .1) (search needs) (row-loaded _ _ _ _ (c .load-row .ensures)))
 
 returns : tie.Need-returns Inv-loop μ-loop
-returns c = loaded (c .before .loop .inv .0) (c .loop-test .left) (c .before .loop .inv .1)
+returns c = loaded-matrix (c .before .loop .inv .0) (c .loop-test .left) (c .before .loop .inv .1)
 
 pub load-matrix-spec : {M : Type 1} → statement M
 load-matrix-spec =

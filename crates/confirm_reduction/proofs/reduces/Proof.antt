@@ -3,7 +3,7 @@ use native.Mathlib.Omega.{arith}
 use borrow.Author.Needs.{needs}
 use Rattle.scratch.proofs.Unchanged.{unchanged-room}
 use Rattle.two_rules.proofs.StrongFiles.{first-read, second-read, second-law, second-read-too}
-use Rattle.confirm_reduction.proofs.Confirming.{letters-differ, length-differs, not-mapped, not-alone, grades-place, judged}
+use Rattle.confirm_reduction.proofs.Confirming.{letters-differ, length-differs, not-mapped, not-alone, grades-place, judged-map}
 use Rattle.confirm_reduction.proofs.reduces.Statement.{statement}
 use Rattle.confirm_reduction.proofs.reduces.Tie as tie
 
@@ -69,7 +69,7 @@ returns-5 c =
     let at-if2 = at-if3 .before .before in
     let at-if1 = at-if2 .before in
     let start = at-if1 .before .before .before .before .before in
-    judged _ (start .pre) (at-if1 .if1 .left) (at-if3 .before .maps-onto .ensures) (at-if3 .if3 .left) (at-if2 .if2 .left) (at-refine .refine .ensures)
+    judged-map _ (start .pre) (at-if1 .if1 .left) (at-if3 .before .maps-onto .ensures) (at-if3 .if3 .left) (at-if2 .if2 .left) (at-refine .refine .ensures)
     (at-alone .each-alone .ensures) (at-if4 .if4 .left) (c .grades-kept .ensures)
 
 pub reduces-spec : {M : Type 1} → statement M

@@ -1,11 +1,11 @@
 -- `example_lists::store_mark` meets its contract: each way through the tests is one case of the definition. Assumes nothing.
-use Rattle.example_lists.proofs.Listing.{unmarked, unmarked-odd, marked-all}
+use Rattle.example_lists.proofs.Listing.{listed-unmarked, unmarked-odd, marked-all}
 use borrow.Author.Needs.{needs}
 use Rattle.example_lists.proofs.store_mark.Statement.{statement}
 use Rattle.example_lists.proofs.store_mark.Tie as tie
 
 returns : tie.Need-returns
-returns c = unmarked _ _ (c .if1 .taken) (c .before .before .pre)
+returns c = listed-unmarked _ _ (c .if1 .taken) (c .before .before .pre)
 
 returns-2 : tie.Need-returns-2
 returns-2 c = unmarked-odd _ _ (c .if2 .taken) (c .before .before .before .pre)

@@ -1,12 +1,12 @@
 -- The three sections are written one after the other, and each leaves room for the next. Assumes nothing.
 use native.Mathlib.Omega.{arith}
 use borrow.Author.Needs.{needs}
-use Rattle.first_letter_call.proofs.Files.{cells, elements-place, letters-place, marks-place, sections-kept, sections-written}
+use Rattle.first_letter_call.proofs.Files.{first-letter-cells, elements-place, letters-place, marks-place, sections-kept, sections-written}
 use Rattle.first_letter_call.proofs.write_sections.Statement.{statement}
 use Rattle.first_letter_call.proofs.write_sections.Tie as tie
 
 mul-write-counted : tie.Need-mul-write-counted
-mul-write-counted c = omega (arith, cells (c .before .before .before .before .pre))
+mul-write-counted c = omega (arith, first-letter-cells (c .before .before .before .before .pre))
 
 write-counted-requires : tie.Need-write-counted-requires
 write-counted-requires c κs = elements-place (c .before .before .before .before .before .pre)

@@ -3,7 +3,7 @@
 use native.Mathlib.Omega.{arith}
 use lib.ListN.{length-set}
 use borrow.Author.Needs.{needs}
-use Rattle.keep_and_return_call.proofs.Ways.{Keepable, keep-refused, points-room, keep-fault, keepable, keep-stored}
+use Rattle.keep_and_return_call.proofs.Ways.{Keepable, keep-refused, points-room, keep-fault, keepable-point, keep-stored}
 use Rattle.keep_and_return_call.proofs.keep.Statement.{statement}
 use Rattle.keep_and_return_call.proofs.keep.Tie as tie
 
@@ -39,7 +39,7 @@ known c =
     let at-fault = c .before .before in
     let at-n = at-fault .before .before .before in
     let at-begin = at-n .before .before .before .before in
-    keepable _ _ _ _ _ _ (at-begin .begin .result) (at-begin .begin .ensures) (at-n .n .given .1) (at-fault .keep-fault .result) (at-fault .keep-fault .ensures) (c .enum-told .given .1)
+    keepable-point _ _ _ _ _ _ (at-begin .begin .result) (at-begin .begin .ensures) (at-n .n .given .1) (at-fault .keep-fault .result) (at-fault .keep-fault .ensures) (c .enum-told .given .1)
 
 mul-points : tie.Need-mul-points
 mul-points c = omega (arith, known c .named)

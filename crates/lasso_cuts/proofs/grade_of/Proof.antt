@@ -4,7 +4,7 @@ use native.Mathlib.Omega.{arith}
 use borrow.Author.Needs.{needs}
 use Rattle.formats.specs.Table.{morphismAt}
 use Rattle.theory.proofs.Values.{inside-of}
-use Rattle.lasso_turns.proofs.Cutting.{BothTables, both-tables, cut-values, membership, marks-up-to, greatest-up-to}
+use Rattle.lasso_turns.proofs.Cutting.{BothTables, both-tables, cut-values, cut-membership, marks-up-to, greatest-up-to}
 use Rattle.lasso_cuts.proofs.grade_of.Statement.{statement}
 use Rattle.lasso_cuts.proofs.grade_of.Tie as tie
 
@@ -66,7 +66,7 @@ returns c =
     let e = c .before .before .before .before in
     let w = e .before .before .before .before .before .before in
     let p = w .before .before .before .before .before .before .before .pre in
-    (membership (p .1 .0) (p .0 .small) (p .1 .1 .0 .over) (p .1 .1 .1 .0 .over) (w .word-value .ensures) (tables e) (c .highest-cut .ensures), e .before .before .before .before .beginnings .ensures .0)
+    (cut-membership (p .1 .0) (p .0 .small) (p .1 .1 .0 .over) (p .1 .1 .1 .0 .over) (w .word-value .ensures) (tables e) (c .highest-cut .ensures), e .before .before .before .before .beginnings .ensures .0)
 
 pub grade-of-spec : {M : Type 1} → statement M
 grade-of-spec =

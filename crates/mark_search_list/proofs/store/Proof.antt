@@ -1,6 +1,6 @@
 use borrow.Author.Needs.{needs}
 use lib.ListN.{length-set}
-use Rattle.mark_search_list.proofs.Storing.{stored}
+use Rattle.mark_search_list.proofs.Storing.{stored-entry}
 use Rattle.mark_search_list.proofs.store.Statement.{statement}
 use Rattle.mark_search_list.proofs.store.Tie as tie
 
@@ -22,7 +22,7 @@ slice-write-scratch-5 c = simp length-set (search needs)
 
 -- src/lib.rt:17:1
 returns : tie.Need-returns
-returns c = stored _ _ _ _ _ _ (c .pre)
+returns c = stored-entry _ _ _ _ _ _ (c .pre)
 
 pub store-spec : {M : Type 1} → statement M
 store-spec =

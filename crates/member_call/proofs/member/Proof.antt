@@ -1,6 +1,6 @@
 -- `member_call::member` meets its contract: the rule's checks decide, then the words', and else the cuts of one turn. Assumes nothing.
 use Rattle.rule_check.proofs.Calls.{checked-rule, checked-refused}
-use Rattle.member_call.proofs.Ways.{words-good, words-refused, rule-refused, table, lawful, long, word-refused, start-word, cycle-word, cycle-inside, decided}
+use Rattle.member_call.proofs.Ways.{words-good, words-refused, rule-refused, member-table, member-lawful, member-long, word-refused, start-word, cycle-word, cycle-inside, member-decided}
 use borrow.Author.Needs.{needs}
 use Rattle.member_call.proofs.member.Statement.{statement}
 use Rattle.member_call.proofs.member.Tie as tie
@@ -26,7 +26,7 @@ lasso-grade-requires c κs =
     let a = start .args in
     let p = (checked-rule 1 _ _ _ (at-check .check .result) (at-check .check .ensures) (at-shape .shape .given .1)) in
     let g = (words-good _ _ _ (at-lasso-fault .lasso-fault .result) (at-lasso-fault .lasso-fault .ensures) (c .before .enum-told .given .1)) in
-    (table _ (a .u .now) (a .v .now) _ p, (lawful _ (a .u .now) (a .v .now) _ p, (start-word _ _ _ _ p g, (cycle-word _ _ _ _ p g, long _ (a .u .now) (a .v .now) _ p))))
+    (member-table _ (a .u .now) (a .v .now) _ p, (member-lawful _ (a .u .now) (a .v .now) _ p, (start-word _ _ _ _ p g, (cycle-word _ _ _ _ p g, member-long _ (a .u .now) (a .v .now) _ p))))
 
 idempotent-power-requires : tie.Need-idempotent-power-requires
 idempotent-power-requires c κs =
@@ -39,7 +39,7 @@ idempotent-power-requires c κs =
     let a = start .args in
     let p = checked-rule 1 _ _ _ (at-check .check .result) (at-check .check .ensures) (at-shape .shape .given .1) in
     let g = words-good _ _ _ (at-lasso-fault .lasso-fault .result) (at-lasso-fault .lasso-fault .ensures) (at-enum-told .enum-told .given .1) in
-    (table _ (a .u .now) (a .v .now) _ p, (lawful _ (a .u .now) (a .v .now) _ p, cycle-inside _ _ _ _ p g (c .before .before .lasso-grade .ensures .1)))
+    (member-table _ (a .u .now) (a .v .now) _ p, (member-lawful _ (a .u .now) (a .v .now) _ p, cycle-inside _ _ _ _ p g (c .before .before .lasso-grade .ensures .1)))
 
 returns-3 : tie.Need-returns-3
 returns-3 c =
@@ -52,7 +52,7 @@ returns-3 c =
     let p = checked-rule 1 _ _ _ (at-check .check .result) (at-check .check .ensures) (at-shape .shape .given .1) in
     let g = words-good _ _ _ (at-lasso-fault .lasso-fault .result) (at-lasso-fault .lasso-fault .ensures) (at-enum-told .enum-told .given .1) in
     let a = at-lasso-grade .lasso-grade in
-    decided _ _ _ _ p g (a .ensures .0) (a .ensures .1) (at-idempotent-power .idempotent-power .ensures) (a .last .1 .1 .1 .1 .1 .0) _ (a .kept .1 .1 .1 .1 .1 .0) (c .before .before .zero2 .ensures)
+    member-decided _ _ _ _ p g (a .ensures .0) (a .ensures .1) (at-idempotent-power .idempotent-power .ensures) (a .last .1 .1 .1 .1 .1 .0) _ (a .kept .1 .1 .1 .1 .1 .0) (c .before .before .zero2 .ensures)
 
 pub member-spec : {M : Type 1} → statement M
 member-spec =

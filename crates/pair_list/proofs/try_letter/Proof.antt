@@ -1,6 +1,6 @@
 -- The two halves are found in the parts of scratch where they stand, and the pair of them is added. Assumes nothing.
 use borrow.Author.Needs.{needs}
-use Rattle.pair_list.proofs.Laws.{left-place, right-place, add-place, tried}
+use Rattle.pair_list.proofs.Laws.{left-place, right-place, add-place, tried-letter}
 use Rattle.pair_list.proofs.try_letter.Statement.{statement}
 use Rattle.pair_list.proofs.try_letter.Tie as tie
 
@@ -26,7 +26,7 @@ returns c =
     let at-step = at-step2 .before .before .before in
     let at-scratch = at-step .before .before in
     let start = at-scratch .before .before .before .before in
-    tried (start .pre .0) (start .pre .1 .0) (start .pre .1 .1) (at-step .step .ensures) (at-step2 .step2 .ensures) _ (c .before .before .add-pair .ensures)
+    tried-letter (start .pre .0) (start .pre .1 .0) (start .pre .1 .1) (at-step .step .ensures) (at-step2 .step2 .ensures) _ (c .before .before .add-pair .ensures)
 
 pub try-letter-spec : {M : Type 1} → statement M
 try-letter-spec =

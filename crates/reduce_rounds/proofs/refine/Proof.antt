@@ -6,7 +6,7 @@ use native.Mathlib.Omega.{arith}
 use borrow.Author.Tests.{not-true, not-false}
 use Rattle.formats.specs.Table.{morphismAt}
 use Rattle.scratch.proofs.Unchanged.{unchanged-room}
-use Rattle.reduce_rounds.proofs.Settling.{Started, started, Running, running-start, running-bound, running-next, running-finished, running-stopped}
+use Rattle.reduce_rounds.proofs.Settling.{Started, rounds-started, Running, running-start, running-bound, running-next, running-finished, running-stopped}
 use Rattle.reduce_rounds.proofs.refine.Statement.{statement}
 use Rattle.reduce_rounds.proofs.refine.Tie as tie
 
@@ -48,7 +48,7 @@ begun d =
     let at-scratch = d .before .before .before .before .before in
     let at-outcomes = at-scratch .before in
     let start = at-outcomes .before .before .before .before in
-    started (start .pre .0 .small)
+    rounds-started (start .pre .0 .small)
     (at-outcomes .outcomes .ensures) (d .before .before .first-blocks .ensures)
 
 look-requires : tie.Need-look-requires Inv-loop μ-loop

@@ -8,7 +8,7 @@ use lib.ListN.{length, drop}
 use Rattle.answer.specs.Checks.{passed, FirstFailure}
 use Rattle.formats.specs.RuleFile.{morphismOf, markWidth, marksAt, marksOf}
 use Rattle.formats.specs.RuleChecks.{tableChecks, markChecks}
-use Rattle.rule_check.proofs.Faults.{no-fault, fault-refused, trailing, table-refuses, marks-decide}
+use Rattle.rule_check.proofs.Faults.{no-fault, fault-refused, fault-trailing, table-refuses, marks-decide}
 use Rattle.rule_check.proofs.Content.{square-small, k-small, count-small, end-is, end-in, table-is, marks-room, of-table, of-marks, of-laid, laid-said, kept-said}
 use borrow.Author.Needs.{needs}
 use Rattle.rule_check.proofs.content_fault.Statement.{statement}
@@ -41,7 +41,7 @@ rest-after-requires c κs = end-in _ _ (c .before .before .pre .0)
 returns : tie.Need-returns
 returns c =
     let b = c .before .before .before .before in
-    (trailing (b .args .rule .now) (end-is _ _ (b .pre .0)) (subst (λ (l : List ℕ). 0 < length l) (c .before .rest-after .ensures) (c .if1 .taken)), refl)
+    (fault-trailing (b .args .rule .now) (end-is _ _ (b .pre .0)) (subst (λ (l : List ℕ). 0 < length l) (c .before .rest-after .ensures) (c .if1 .taken)), refl)
 
 table-fault-requires : tie.Need-table-fault-requires
 table-fault-requires c κs = table-is _ _ (c .before .before .before .before .pre .0)

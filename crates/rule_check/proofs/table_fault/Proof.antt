@@ -4,7 +4,7 @@ use native.Mathlib.Omega.{arith}
 use lib.ListN.{length-replicate}
 use Prim.Native.Nat.{ℕ}
 use borrow.Author.Needs.{needs}
-use Rattle.rule_check.proofs.Faults.{blank-queue, all-found, unreached, all-reached, letters-pass}
+use Rattle.rule_check.proofs.Faults.{blank-queue, all-found, fault-unreached, all-reached, letters-pass}
 use Rattle.rule_check.proofs.table_fault.Statement.{statement}
 use Rattle.rule_check.proofs.table_fault.Tie as tie
 
@@ -19,7 +19,7 @@ triples-fault-requires c κs =
     let start = at-reach .before .before .before in
     let b = start in (
       b .pre,
-      λ all. unreached (b .args .rule .now) (b .args .n) (b .args .k) (b .pre) all (at-reach .reach .ensures)
+      λ all. fault-unreached (b .args .rule .now) (b .args .n) (b .args .k) (b .pre) all (at-reach .reach .ensures)
           (at-least-without .least-without .result) (at-least-without .least-without .ensures) (at-s .s .given .1),
     )
 

@@ -3,7 +3,7 @@
 use native.Mathlib.Omega.{arith}
 use Rattle.formats.specs.Table.{morphismAt}
 use Rattle.formats.proofs.Tables.{FirstTriple}
-use Rattle.rule_check.proofs.Faults.{triple-at, triple-none, not-associative, associative}
+use Rattle.rule_check.proofs.Faults.{triple-at, triple-none, not-associative, fault-associative}
 use borrow.Author.Needs.{needs}
 use Rattle.rule_check.proofs.triples_fault.Statement.{statement}
 use Rattle.rule_check.proofs.triples_fault.Tie as tie
@@ -35,7 +35,7 @@ returns-2 : tie.Need-returns-2
 returns-2 c =
     let b = c .before .before .before .before in
     let all = triple-none (b .args .rule .now) (b .args .n) (b .args .k) (c .before .before .first-not-associative .result) (c .before .before .first-not-associative .ensures) (c .enum-told .given .1) in
-    associative _ (b .args .told) all (b .pre .1 all)
+    fault-associative _ (b .args .told) all (b .pre .1 all)
 
 pub triples-fault-spec : {M : Type 1} → statement M
 triples-fault-spec =

@@ -2,7 +2,7 @@
 -- reduction and then cleared. Assumes nothing.
 use mathlib.Core.Path.{_∙_}
 use borrow.Author.Needs.{needs}
-use Rattle.summarize_call.proofs.Summing.{place-again, classes-not-refused, measured}
+use Rattle.summarize_call.proofs.Summing.{place-again, classes-not-refused, measured-summary}
 use Rattle.summarize_call.proofs.measure.Statement.{statement}
 use Rattle.summarize_call.proofs.measure.Tie as tie
 
@@ -26,7 +26,7 @@ returns c =
     let at-list-classes-arg = at-list-classes .before .before in
     let start = at-list-classes-arg .before .before .before .before in
     let pre = start .pre in
-    measured (pre .0) (at-list-classes .list-classes .result) (pre .1) (at-list-classes .list-classes .ensures) (at-linked .linked .given .1)
+    measured-summary (pre .0) (at-list-classes .list-classes .result) (pre .1) (at-list-classes .list-classes .ensures) (at-linked .linked .given .1)
     (at-reduced-size .reduced-size .ensures) (at-work2 .work2 .given ∙ at-work .work .given) (at-zero .zero .ensures)
 
 returns-2 : tie.Need-returns-2

@@ -3,7 +3,7 @@ use borrow.Author.Needs.{needs}
 use Rattle.rule_check.proofs.Calls.{checked-rule, checked-refused}
 use Rattle.mark_strong.proofs.Calling.{checked-table, decide-place}
 use Rattle.verdict_call.proofs.Values.{start-below, said-judgeable, said-fault}
-use Rattle.verdict_call.proofs.Ways.{rule-refused, value-refused, judged}
+use Rattle.verdict_call.proofs.Ways.{rule-refused, value-refused, judged-verdict}
 use Rattle.verdict_call.proofs.verdict.Statement.{statement}
 use Rattle.verdict_call.proofs.verdict.Tie as tie
 
@@ -35,7 +35,7 @@ returns-3 c =
     let a = e .before .before .before .before .before .before .before .before .check in
     let p = checked-rule 1 _ _ _ (a .result) (a .ensures) (e .before .before .before .before .shape .given .1) in
     let v = e .before .before .values-fault in
-    judged _ _ _ p (said-judgeable _ _ (v .result) (v .ensures) (e .enum-told .given .1)) (j .before .before .start-element .ensures) (j .judge .ensures)
+    judged-verdict _ _ _ p (said-judgeable _ _ (v .result) (v .ensures) (e .enum-told .given .1)) (j .before .before .start-element .ensures) (j .judge .ensures)
 
 pub verdict-spec : {M : Type 1} → statement M
 verdict-spec =
