@@ -16,7 +16,7 @@ pub fn greater(x: u8, y: u8) -> u8
 }
 
 // The greater of two entries, 0 where one of them is 0.
-pub fn entriesThrough(x: u8, y: u8) -> u8
+pub fn through(x: u8, y: u8) -> u8
     ensures { λ r. ⌜ r ≡ entriesThrough x y ⌝ }
 {
     if x == 0 {
@@ -39,7 +39,7 @@ pub fn product_row(n: usize, row: &[u8; 6], right: &[[u8; 6]; 6]) -> [u8; 6]
         if x != 0 {
             for q in 0..n {
                 let y = right[r][q];
-                let z = entriesThrough(x, y);
+                let z = through(x, y);
                 let best = out[q];
                 out[q] = greater(z, best);
             }

@@ -13,7 +13,7 @@ use Rattle.finite.specs.Search.{anyBelow}
 use Rattle.finite.proofs.Numbers.{below-cases, le-or-lt, Compared, lesser, level, greater, compared-numbers}
 use Rattle.finite.proofs.Tests.{T-and, T-and-left, T-and-right, T-or-left, T-or-right, T-or-cases, T-not, T-dec, true-T}
 unfoldable pub use Rattle.finite.proofs.Count.{countBelow}
-pub use Rattle.finite.proofs.Count.{search-bit, bit-le, bit-passes, count-zero, count-suc, count-add-one, count-in, count-out, count-le, count-all, count-mono, count-strict, count-same}
+pub use Rattle.finite.proofs.Count.{bit, bit-le, bit-passes, count-zero, count-suc, count-add-one, count-in, count-out, count-le, count-all, count-mono, count-strict, count-same}
 
 -- every i below n passes p
 unfoldable pub allBelow : ℕ → (ℕ → Bool) → Bool

@@ -9,7 +9,7 @@ use native.Mathlib.Decide.{ℕ-discrete}
 use lib.ListN.{length, getD, set, length-set}
 use lib.Seq.{getD-set-same, getD-set-other}
 use Rattle.theory.specs.Rules.{Morphism}
-use Rattle.scratch.specs.Preimages.{afterLetter, LastBelow, firstAt, nextAt, PreimagesListed, PreimagesRoom, PreimagesListed}
+use Rattle.scratch.specs.Preimages.{afterLetter, LastBelow, firstAt, nextAt, LetterPreimages, PreimagesRoom, PreimagesListed}
 use Rattle.mark_preimages.specs.Listing.{ValueNeeds, ValueListed, LetterRoom, OthersKept, LetterListed, LettersListed}
 use Rattle.mark_preimages.proofs.LastBelow.{last-none, last-found, last-kept}
 use Rattle.scratch.specs.Map.{firstPreimagesBase, nextPreimagesBase, searchEnd}
@@ -57,7 +57,7 @@ module _ {a c x : ℕ} {entry exit : List ℕ} (s : ValueListed entry exit a c x
   }
 
   -- the value stands in the list of the element that the letter takes it to
-  value-more : {m : Morphism} → m .size ≤ 64 → x < m .size → x ≡ afterLetter m a c → PreimagesListed m a c entry → PreimagesListed m a (c + 1) exit
+  value-more : {m : Morphism} → m .size ≤ 64 → x < m .size → x ≡ afterLetter m a c → LetterPreimages m a c entry → LetterPreimages m a (c + 1) exit
   value-more {m} small inside e l = record {
     firsts = λ y h. first-case y h (ℕ-discrete y x);
     nexts = λ d h. next-case d h (ℕ-discrete d c);
@@ -115,7 +115,7 @@ module _ {m : Morphism} {a : ℕ} {entry now : List ℕ} (l : LettersListed m a 
     kept = unchanged-both (l .kept) (s .others .kept);
   }
     where
-      letter-case : (b : ℕ) → b < a + 1 → Dec (b ≡ a) → PreimagesListed m b (m .size + 1) next
+      letter-case : (b : ℕ) → b < a + 1 → Dec (b ≡ a) → LetterPreimages m b (m .size + 1) next
       letter-case b h (yes e) = rw e (s .listed)
       letter-case b h (no f) =
           let g : b ≢ a = f in

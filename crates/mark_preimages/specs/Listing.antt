@@ -4,7 +4,7 @@ use mathlib.Core.Path.{_≡_}
 use mathlib.Core.List.{List}
 use lib.ListN.{length, getD}
 use Rattle.theory.specs.Rules.{Morphism}
-use Rattle.scratch.specs.Preimages.{firstAt, nextAt, PreimagesListed}
+use Rattle.scratch.specs.Preimages.{firstAt, nextAt, LetterPreimages}
 use Rattle.scratch.specs.Map.{firstPreimagesBase, nextPreimagesBase, searchEnd}
 use Rattle.scratch.specs.Bytes.{UnchangedOutside}
 
@@ -35,11 +35,11 @@ pub record OthersKept (a : ℕ) (entry exit : List ℕ) : Type 0 where
 
 -- the values below a number are in the lists of one letter, and nothing else changed
 pub record LetterListed (m : Morphism) (a below : ℕ) (entry exit : List ℕ) : Type 0 where
-  pub listed : PreimagesListed m a below exit
+  pub listed : LetterPreimages m a below exit
   pub others : OthersKept a entry exit
 
 -- the lists of the letters before a are there, and no value of another letter is listed yet
 pub record LettersListed (m : Morphism) (a : ℕ) (entry exit : List ℕ) : Type 0 where
-  pub listed : (b : ℕ) → b < a → PreimagesListed m b (m .size + 1) exit
+  pub listed : (b : ℕ) → b < a → LetterPreimages m b (m .size + 1) exit
   pub blank : (b x : ℕ) → a ≤ b → b < m .letters → x < 65 → firstAt exit b x ≡ 0
   pub kept : UnchangedOutside firstPreimagesBase searchEnd entry exit

@@ -11,7 +11,7 @@ use lib.ListN.{length, getD, length-append, List·getD-append}
 use lib.Seq.{getD-append-seam}
 use Rattle.finite.proofs.Tests.{true-T}
 use Rattle.finite.proofs.Numbers.{below-cases, Compared, lesser, level, greater, compared-numbers}
-use Rattle.finite.proofs.Search.{countBelow, count-zero, count-suc, search-bit}
+use Rattle.finite.proofs.Search.{countBelow, count-zero, count-suc, bit}
 
 -- the numbers below n that pass p
 unfoldable pub passing : ℕ → (ℕ → Bool) → List ℕ
@@ -76,7 +76,7 @@ module _ (n : ℕ) (p : ℕ → Bool) (l : List ℕ) (g : Listed n p l) where
 
     listed-more : Listed (suc n) p (l ++ (n ∷ []))
     listed-more = record {
-      count = omega (arith, length-more l n, g .count, count-suc n p, ap search-bit t);
+      count = omega (arith, length-more l n, g .count, count-suc n p, ap bit t);
       below = λ i h. more-below i (entry-of l n i h);
       passes = λ i h. more-passes i (entry-of l n i h);
       increasing = λ i j o h. more-increasing i j o (entry-of l n i (omega arith)) (entry-of l n j h);
@@ -86,7 +86,7 @@ module _ (n : ℕ) (p : ℕ → Bool) (l : List ℕ) (g : Listed n p l) where
 
   listed-same : p n ≡ false → Listed (suc n) p l
   listed-same f = record {
-    count = omega (arith, g .count, count-suc n p, ap search-bit f);
+    count = omega (arith, g .count, count-suc n p, ap bit f);
     below = λ i h. omega (arith, g .below i h);
     passes = g .passes;
     increasing = g .increasing;

@@ -29,13 +29,13 @@ unfoldable pub nextAt : List ℕ → ℕ → ℕ → ℕ
 nextAt scratch a c = getD scratch (nextPreimagesBase + (a * 65 + c)) 0
 
 -- the lists of one letter, of the values below a number
-pub record PreimagesListed (m : Morphism) (a below : ℕ) (scratch : List ℕ) : Type 0 where
+pub record LetterPreimages (m : Morphism) (a below : ℕ) (scratch : List ℕ) : Type 0 where
   pub firsts : (x : ℕ) → x < m .size → LastBelow (λ c. afterLetter m a c ≡ x) below (firstAt scratch a x)
   pub nexts : (c : ℕ) → c < below → LastBelow (λ d. afterLetter m a d ≡ afterLetter m a c) c (nextAt scratch a c)
 
 -- the lists of every letter
 pub record Preimages (m : Morphism) (scratch : List ℕ) : Type 0 where
-  pub listed : (a : ℕ) → a < m .letters → PreimagesListed m a (m .size + 1) scratch
+  pub listed : (a : ℕ) → a < m .letters → LetterPreimages m a (m .size + 1) scratch
 
 -- room for the lists, and no value listed yet
 pub record PreimagesRoom (scratch : List ℕ) : Type 0 where

@@ -9,7 +9,7 @@ use lib.Dec.{T, eqb, ltb}
 use mir.Facts.{eqb-yes, yes-eqb, ltb-yes, yes-ltb}
 use Rattle.finite.proofs.Tests.{T-and, T-and-left, T-and-right}
 use Rattle.finite.specs.Search.{anyBelow}
-use Rattle.finite.proofs.Search.{any-intro, any-elim, search-bit, bit-le, bit-passes}
+use Rattle.finite.proofs.Search.{any-intro, any-elim, bit, bit-le, bit-passes}
 use Rattle.theory.specs.Words.{Over}
 use Rattle.theory.specs.Rules.{Morphism, Lawful, Pairs, element, value, AllReached}
 use Rattle.theory.specs.Acceptance.{Accepts, Strong}
@@ -89,7 +89,7 @@ closure-elim {m} {P} law linked s e t =
 
 -- 1 where the lassos with the values (s, z) are accepted under a strong marking, else 0
 unfoldable pub acceptance : Morphism → Pairs → ℕ → ℕ → ℕ
-acceptance m P s z = search-bit (closure-test m P (settled-start m s z) (settled-cycle m z))
+acceptance m P s z = bit (closure-test m P (settled-start m s z) (settled-cycle m z))
 
 -- the settled pair is in the closure exactly where this number is 1
 pub acceptance-passes : (m : Morphism) (P : Pairs) (s z : ℕ)

@@ -10,7 +10,7 @@ use native.Mathlib.Omega.{arith}
 use lib.Dec.{T, leb, ltb, eqb, leb→le, le→leb}
 use mir.Facts.{eqb-yes, yes-eqb, ltb-yes}
 use Rattle.finite.proofs.Tests.{T-and, T-and-left, T-and-right}
-use Rattle.finite.proofs.Search.{allBelow, all-intro, all-elim, countBelow, search-bit}
+use Rattle.finite.proofs.Search.{allBelow, all-intro, all-elim, countBelow, bit}
 use Rattle.theory.specs.Rules.{Morphism, Lawful, Pairs, AllReached}
 use Rattle.theory.specs.Pairs.{Linked, LinkedOnly, Conjugate, LeastConjugate, pair-number, Counted, counted-none, counted-one, counted-other, LinkedPairs, Classes, ClassCounts}
 use Rattle.theory.proofs.Strength.{Closed}
@@ -160,7 +160,7 @@ unfolding countBelow
 counted-by p h zero = counted-none
 counted-by {P} p h (suc n) = go (p n) (h n) (counted-by p h n)
   where
-    go : (b : Bool) → T b ↔ P n → Counted P n (countBelow n p) → Counted P (suc n) (countBelow n p + search-bit b)
+    go : (b : Bool) → T b ↔ P n → Counted P n (countBelow n p) → Counted P (suc n) (countBelow n p + bit b)
     go true k c = rw add-one (counted-one (k .0 tt) c)
     go false k c = rw add-zero (counted-other (k .1) c)
 
