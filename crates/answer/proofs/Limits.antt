@@ -5,7 +5,7 @@ use native.Mathlib.Omega.{arith}
 use mathlib.Core.Path.{_≡_, subst}
 use mathlib.Core.List.{List, [], _∷_, _++_}
 use Rattle.answer.specs.declared.Refusal.{Refusal}
-use Rattle.answer.specs.declared.Refusal.the-variants.{Truncated, CountOutOfRange, EntryOutOfRange, TrailingBytes, NotAssociative, Unreachable, NotLinked, Duplicate, UnknownLetter, WordLength, NotStrong, BufferTooShort, TooManyMatrices, NameOutOfRange, NameNeverKept, NoSuchState, LettersDiffer, TooManyPairs, LimitOutOfRange, NameNotFree, NameNotPresent, TooManyClasses}
+use Rattle.answer.specs.declared.Refusal.the-variants.{Truncated, CountOutOfRange, EntryOutOfRange, TrailingBytes, NotAssociative, Unreachable, NotLinked, Duplicate, UnknownLetter, WordLength, NotStrong, BufferTooShort, TooManyMatrices, NameOutOfRange, NameNeverKept, NoSuchState, LettersDiffer, TooManyPairs, LimitOutOfRange, NameNotFree, NameNotPresent, TooManyClasses, UnbalancedFormula}
 use Rattle.answer.specs.Refusals.{numberOf}
 use Rattle.answer.specs.Checks.{passed, numbered, Check, Passes, firstOf, FirstFailure}
 use Rattle.answer.proofs.Order.{FirstCase, decides-now, hands-on, first-case, first-passes, first-fails, none-left}
@@ -41,8 +41,8 @@ module _ {Within : ℕ → ℕ → Type 0} where
       limited-cons (λ place f. first .refusals _ _ place (first-fails c f))
       (λ p. limited-append before (record { refusals = λ number input place f. first .refusals number input place (first-passes p f) }) (λ f. later (first-passes p f)))
 
--- the numbers of the table are 1 to 23
-pub number-range : (r : Refusal) → (1 ≤ numberOf r) × (numberOf r ≤ 23)
+-- the numbers of the table are 1 to 24
+pub number-range : (r : Refusal) → (1 ≤ numberOf r) × (numberOf r ≤ 24)
 number-range Truncated = (omega arith, omega arith)
 number-range CountOutOfRange = (omega arith, omega arith)
 number-range EntryOutOfRange = (omega arith, omega arith)
@@ -65,3 +65,4 @@ number-range LimitOutOfRange = (omega arith, omega arith)
 number-range NameNotFree = (omega arith, omega arith)
 number-range NameNotPresent = (omega arith, omega arith)
 number-range TooManyClasses = (omega arith, omega arith)
+number-range UnbalancedFormula = (omega arith, omega arith)

@@ -4,20 +4,20 @@ use mathlib.Core.Path.{_≡_, refl, sym, ap, _∙_}
 use mathlib.Core.List.{List, [], _∷_}
 use native.Mathlib.Omega.{arith}
 use Rattle.answer.specs.declared.Refusal.{Refusal}
-use Rattle.answer.specs.declared.Refusal.the-variants.{Truncated, CountOutOfRange, EntryOutOfRange, TrailingBytes, NotAssociative, Unreachable, NotLinked, Duplicate, UnknownLetter, WordLength, NotStrong, BufferTooShort, TooManyMatrices, NameOutOfRange, NameNeverKept, NoSuchState, LettersDiffer, TooManyPairs, LimitOutOfRange, NameNotFree, NameNotPresent, TooManyClasses}
+use Rattle.answer.specs.declared.Refusal.the-variants.{Truncated, CountOutOfRange, EntryOutOfRange, TrailingBytes, NotAssociative, Unreachable, NotLinked, Duplicate, UnknownLetter, WordLength, NotStrong, BufferTooShort, TooManyMatrices, NameOutOfRange, NameNeverKept, NoSuchState, LettersDiffer, TooManyPairs, LimitOutOfRange, NameNotFree, NameNotPresent, TooManyClasses, UnbalancedFormula}
 use Rattle.answer.specs.Refusals.{numberOf}
 use Rattle.answer.specs.NumbersTheorem.{NumbersTheorem}
 
 -- the place of a number in a list, the last refusal where the list ends
 unfoldable at : List Refusal → ℕ → Refusal
-at [] n = TooManyClasses
+at [] n = UnbalancedFormula
 at (r ∷ rs) zero = r
 at (r ∷ rs) (suc n) = at rs n
 
 -- the refusal of a number; 0, 9 and others that none has have the last
 unfoldable refusalOf : ℕ → Refusal
 unfolding at
-refusalOf n = at (TooManyClasses ∷ Truncated ∷ CountOutOfRange ∷ EntryOutOfRange ∷ TrailingBytes ∷ NotAssociative ∷ Unreachable ∷ NotLinked ∷ Duplicate ∷ TooManyClasses ∷ UnknownLetter ∷ WordLength ∷ NotStrong ∷ BufferTooShort ∷ TooManyMatrices ∷ NameOutOfRange ∷ NameNeverKept ∷ NoSuchState ∷ LettersDiffer ∷ TooManyPairs ∷ LimitOutOfRange ∷ NameNotFree ∷ NameNotPresent ∷ []) n
+refusalOf n = at (UnbalancedFormula ∷ Truncated ∷ CountOutOfRange ∷ EntryOutOfRange ∷ TrailingBytes ∷ NotAssociative ∷ Unreachable ∷ NotLinked ∷ Duplicate ∷ UnbalancedFormula ∷ UnknownLetter ∷ WordLength ∷ NotStrong ∷ BufferTooShort ∷ TooManyMatrices ∷ NameOutOfRange ∷ NameNeverKept ∷ NoSuchState ∷ LettersDiffer ∷ TooManyPairs ∷ LimitOutOfRange ∷ NameNotFree ∷ NameNotPresent ∷ TooManyClasses ∷ UnbalancedFormula ∷ []) n
 
 back : (r : Refusal) → refusalOf (numberOf r) ≡ r
 unfolding refusalOf at
@@ -43,6 +43,7 @@ back LimitOutOfRange = refl
 back NameNotFree = refl
 back NameNotPresent = refl
 back TooManyClasses = refl
+back UnbalancedFormula = refl
 
 pub same-number : (r r′ : Refusal) → numberOf r ≡ numberOf r′ → r ≡ r′
 same-number r r′ e = sym (back r) ∙ ap refusalOf e ∙ back r′
@@ -71,6 +72,7 @@ nine-unused LimitOutOfRange e = omega (arith, e)
 nine-unused NameNotFree e = omega (arith, e)
 nine-unused NameNotPresent e = omega (arith, e)
 nine-unused TooManyClasses e = omega (arith, e)
+nine-unused UnbalancedFormula e = omega (arith, e)
 
 pub numbers-theorem : NumbersTheorem
 numbers-theorem = record { no-nine = nine-unused; one-refusal = same-number }

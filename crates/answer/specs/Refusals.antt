@@ -2,7 +2,7 @@
 -- number of each kind. Assumes nothing.
 use Prim.Native.Nat.{ℕ}
 use Rattle.answer.specs.declared.Refusal.{Refusal}
-use Rattle.answer.specs.declared.Refusal.the-variants.{Truncated, CountOutOfRange, EntryOutOfRange, TrailingBytes, NotAssociative, Unreachable, NotLinked, Duplicate, UnknownLetter, WordLength, NotStrong, BufferTooShort, TooManyMatrices, NameOutOfRange, NameNeverKept, NoSuchState, LettersDiffer, TooManyPairs, LimitOutOfRange, NameNotFree, NameNotPresent, TooManyClasses}
+use Rattle.answer.specs.declared.Refusal.the-variants.{Truncated, CountOutOfRange, EntryOutOfRange, TrailingBytes, NotAssociative, Unreachable, NotLinked, Duplicate, UnknownLetter, WordLength, NotStrong, BufferTooShort, TooManyMatrices, NameOutOfRange, NameNeverKept, NoSuchState, LettersDiffer, TooManyPairs, LimitOutOfRange, NameNotFree, NameNotPresent, TooManyClasses, UnbalancedFormula}
 
 -- the column "Number", by the column "Trade word"; 9 is no kind's number (document 02, Job 10), and those from 15 to 22 are of document 02
 abbrev pub numberOf : Refusal → ℕ
@@ -28,3 +28,4 @@ numberOf LimitOutOfRange = 20  -- "New: 20, limit above 64" (Job 9)
 numberOf NameNotFree = 21  -- "New: 21, entering under a name above 7 or taken" (Job 14)
 numberOf NameNotPresent = 22  -- "22, leaving a name not there" (Job 14)
 numberOf TooManyClasses = 23  -- more than 64 elements of `next` or `until`
+numberOf UnbalancedFormula = 24  -- operands that lack, more than eight rules at once, or not exactly one at the end

@@ -49,6 +49,8 @@ pub enum Refusal {
     NameNotPresent,
     // More than 64 classes of words, each an element of the rule of `next` or `until`.
     TooManyClasses,
+    // A formula in postfix form that lacks operands, has too many rules at once, or does not end with exactly one.
+    UnbalancedFormula,
 }
 
 // The number of a refusal in the table. 9 is no refusal's number.
@@ -78,5 +80,6 @@ pub fn number(r: Refusal) -> u8
         Refusal::NameNotFree => 21,
         Refusal::NameNotPresent => 22,
         Refusal::TooManyClasses => 23,
+        Refusal::UnbalancedFormula => 24,
     }
 }
