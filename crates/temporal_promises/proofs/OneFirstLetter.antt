@@ -1,7 +1,8 @@
 -- Two answers of `first_letter`, or of `constant`, for the same numbers and buffer are one: of the smallest rules with the same grades only one is numbered by
 -- first words. Assumes nothing.
-use Prim.Native.Nat.{ℕ}
+use Prim.Native.Nat.{ℕ, _≤_}
 use mathlib.Core.Path.{_≡_, sym, _∙_, subst}
+use mathlib.Core.Logic.{_↔_}
 use mathlib.Core.List.{List}
 use Rattle.finite.proofs.Numbers.{Compared, lesser, level, greater, compared-numbers}
 use Rattle.answer.proofs.Order.{AllSingle, Single, single-nil, single-at, single-cons}
@@ -34,23 +35,25 @@ constant-single letters grade out =
     buffer-single (single-cons (single-at (λ place (a : LettersOutOfRangeAt letters place). a .is-place))
     (single-cons (single-at (λ place (a : GradeOutOfRangeAt grade place). a .is-place)) single-nil))
 
--- two rules of one meaning have the same grades
-module _ {letters : ℕ} {Has : ℕ → List ℕ → List ℕ → Type 0} where
-  smallest-grades : {x y : Rule} → SmallestFor letters Has x → SmallestFor letters Has y → SameGrades x y
-  smallest-grades {x} {y} p q = record {
-    same-letters = p .same-letters ∙ sym (q .same-letters);
-    both-or-neither = λ h some u v l.
-        let l′ : Lasso letters u v = subst (λ (n : ℕ). Lasso n u v) (p .same-letters) l in
-        let a = p .grades h some u v l′ in
-        let b = q .grades h some u v l′ in
-        (λ k. b .1 (a .0 k), λ k. a .1 (b .0 k));
-  }
+-- the smallest rules of two meanings that are alike have the same grades
+pub meaning-grades : {letters : ℕ} {Has Has′ : ℕ → List ℕ → List ℕ → Type 0} {x y : Rule}
+    → ((h : ℕ) → 1 ≤ h → (u v : List ℕ) → Lasso letters u v → Has h u v ↔ Has′ h u v) → SmallestFor letters Has x → SmallestFor letters Has′ y → SameGrades x y
+meaning-grades {letters} alike p q = record {
+  same-letters = p .same-letters ∙ sym (q .same-letters);
+  both-or-neither = λ h some u v l.
+      let l′ : Lasso letters u v = subst (λ (n : ℕ). Lasso n u v) (p .same-letters) l in
+      let a = p .grades h some u v l′ in
+      let b = q .grades h some u v l′ in
+      let c = alike h some u v l′ in
+      (λ k. b .1 (c .0 (a .0 k)), λ k. a .1 (c .1 (b .0 k)));
+}
 
-  own-reduction : {x : Rule} → SmallestFor letters Has x → Reduction x x
+module _ {letters : ℕ} {Has : ℕ → List ℕ → List ℕ → Type 0} where
+  pub own-reduction : {x : Rule} → SmallestFor letters Has x → Reduction x x
   own-reduction {x} p = record { same = same-self x; smallest = p .smallest; marks = p .marks }
 
   pub smallest-file : OneFile (SmallestFor letters Has)
-  smallest-file = record { same = λ x y p q. reductions-file (smallest-grades p q) (own-reduction p) (own-reduction q) (p .numbered) (q .numbered) }
+  smallest-file = record { same = λ x y p q. reductions-file (meaning-grades (λ h some u v l. (λ k. k, λ k. k)) p q) (own-reduction p) (own-reduction q) (p .numbered) (q .numbered) }
 
 pub one-first-letter : {letters set grade : ℕ} {before after after′ : List ℕ} (a b : Written) → FirstLetterPromise letters set grade before after a
     → FirstLetterPromise letters set grade before after′ b → (a ≡ b) × (after ≡ after′)

@@ -10,14 +10,14 @@ use Rattle.answer.proofs.Order.{first-passes, first-fails, none-left, refused-b
 use Rattle.temporal.specs.Clamps.{MoreUntilClasses}
 use Rattle.temporal.proofs.OneRefusal.{pairs-more-classes}
 use Rattle.promises.specs.Combine.{pairChecks}
-use Rattle.temporal_promises.specs.Until.{PairGrades, untilClassesCheck, untilOwnChecks}
+use Rattle.temporal_promises.specs.Until.{FilesGrades, untilClassesCheck, untilOwnChecks}
 
 module _ (first second : List ℕ) where
   -- a refusal that `combine` has too
   pub pairs-refused : (r : Refusal) (input place : ℕ) → FirstFailure (pairChecks first second) (refused r input place) → FirstFailure (untilOwnChecks first second) (refused r input place)
   pairs-refused r input place p = refused-before (pairChecks first second) (untilClassesCheck first second ∷ []) p
 
-  module _ (passes : FirstFailure (pairChecks first second) passed) (t : PairGrades first second) where
+  module _ (passes : FirstFailure (pairChecks first second) passed) (t : FilesGrades first second) where
     -- too many classes
     pub classes-last : MoreUntilClasses (t .table) (t .first-grade) (t .second-grade) 64 → FirstFailure (untilOwnChecks first second) (refused TooManyClasses 1 0)
     classes-last more =

@@ -7,7 +7,7 @@ use lib.ListN.{length, replicate}
 use lib.Dec.{ltb}
 use Rattle.answer.specs.declared.Refusal.the-variants.{TooManyClasses}
 use Rattle.answer.specs.Checks.{Check, FirstFailure}
-use Rattle.theory.specs.Rules.{Morphism, Lawful, Rule}
+use Rattle.theory.specs.Rules.{Morphism, Marking, Lawful, Rule}
 use Rattle.theory.specs.Grades.{RuleStrong}
 use Rattle.theory.specs.Smallest.{MarksGrades}
 use Rattle.theory.specs.Combined.{PairsOf}
@@ -26,21 +26,25 @@ use Rattle.temporal_promises.specs.Formed.{FormedAnswer}
 abbrev pub untilClassesSize : ℕ
 untilClassesSize = 262144
 
--- a table of the pairs of both rules' values that words reach, and the grades that the values decide: those of the first rule and of the second
-pub record PairGrades (first second : List ℕ) : Type 0 where
+-- a table of the pairs of the values that words reach in two rules, and the grades that the values decide: those of the first rule and of the second
+pub record PairGrades (m : Morphism) (marks : Marking) (m′ : Morphism) (marks′ : Marking) : Type 0 where
   pub table : Morphism
   pub lawful : Lawful table
   pub left : ℕ → ℕ
   pub right : ℕ → ℕ
-  pub pairs : PairsOf (morphismOf first) (morphismOf second) table left right
+  pub pairs : PairsOf m m′ table left right
   pub first-grade : ℕ → ℕ → ℕ
   pub second-grade : ℕ → ℕ → ℕ
-  pub first-decides : Decides table (morphismOf first) (markingOf first) first-grade
-  pub second-decides : Decides table (morphismOf second) (markingOf second) second-grade
+  pub first-decides : Decides table m marks first-grade
+  pub second-decides : Decides table m′ marks′ second-grade
+
+-- that of two files
+abbrev pub FilesGrades : List ℕ → List ℕ → Type 0
+FilesGrades first second = PairGrades (morphismOf first) (markingOf first) (morphismOf second) (markingOf second)
 
 -- "23 (more than 64 elements; input 1, place 0)": more in such a table. Then there are more in each (`temporal`, pairs-more-classes).
 pub record TooManyUntilAt (first second : List ℕ) (place : ℕ) : Type 0 where
-  pub over : PairGrades first second
+  pub over : FilesGrades first second
   pub more : MoreUntilClasses (over .table) (over .first-grade) (over .second-grade) 64
   pub is-place : place ≡ 0
 
@@ -59,7 +63,7 @@ untilChecks first second out classes scratch =
 -- "the rule whose grade of a lasso is the highest, over the places i of its endless word, of the lowest of: the second's grade from i on, the first's from each
 -- j < i on. Said by least grades as the design has it. Elements: the pair of values with the clamp at every context, numbered by first words; marks as above."
 pub record UntilMade (first second : List ℕ) (rule : Rule) : Type 0 where
-  pub over : PairGrades first second
+  pub over : FilesGrades first second
   pub pair : ℕ → ℕ
   pub low : ℕ → ℕ → ℕ → ℕ
   pub high : ℕ → ℕ → ℕ → ℕ

@@ -37,7 +37,7 @@ use Rattle.promises.proofs.CombineOrder as pair-order
 use Rattle.promises.specs.declared.Written.{Written}
 use Rattle.promises.specs.declared.Written.the-variants.{Refused}
 use Rattle.temporal_promises.specs.Formed.{WrittenAs}
-use Rattle.temporal_promises.specs.Until.{PairGrades, UntilMade}
+use Rattle.temporal_promises.specs.Until.{FilesGrades, UntilMade}
 use Rattle.temporal_promises.proofs.UntilOrder.{pairs-refused, classes-last, none-fails}
 use Rattle.until_grades.specs.Grades.{look, bothGrades}
 use Rattle.until_list.specs.Listing.{UntilTables, Listing}
@@ -175,7 +175,7 @@ module _ {first second : List ℕ} {one two : Shape} {entry classes out : List �
           }
 
           -- the table of the pairs decides both rules' grades
-          pair-table : PairGrades first second
+          pair-table : FilesGrades first second
           pair-table = record {
             table = m;
             lawful = law;

@@ -1,0 +1,2 @@
+pub mod OneFormula
+pub mod EqualFormulas

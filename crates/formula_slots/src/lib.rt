@@ -1,0 +1,1 @@
+// The slots of a formula's stack, each with room for a rule file.
