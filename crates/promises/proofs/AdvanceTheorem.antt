@@ -30,7 +30,7 @@ use Rattle.promises.specs.EventWords.{longestLog, logChecks, afterWord}
 use Rattle.promises.specs.Advance.{ForeignStep, standingChecks, strongMonitorChecks, foreignChecks, advancedVerdict, AdvanceAnswer, AdvancePromise, AdvanceWordPromise}
 use Rattle.promises.specs.AdvanceTheorem.{behindLetter, AdvanceTheorem}
 use Rattle.promises.proofs.CheckParts.{behind-same, behind-passed, rule-as}
-use Rattle.promises.proofs.EventWords.{log-single, known-step, behind-known, foreign-head, log-over, log-passes, log-foreign, log-refused}
+use Rattle.promises.proofs.EventWords.{log-single, known-step, log-passes, behindVerdict, letter-refused, letter-passes}
 use Rattle.promises.proofs.MonitorOrder.{Stray}
 use Rattle.promises.proofs.MonitorGoods.{step-fits, event-element}
 use Rattle.promises.proofs.OneAdvance.{one-answer, one-word-answer}
@@ -107,35 +107,19 @@ no-letters {input} {bytes} {f} {entry} p = record {
 
 -- a first letter that is refused
 module _ (input : ℕ) (bytes : List ℕ) (f : Monitor) (letter : ℕ) (w entry : List ℕ) (short : length (letter ∷ w) ≤ longestLog) where
-  letter-refused : (r : Refusal) (i place : ℕ) → FirstFailure (foreignChecks input (lettersOf bytes) (Event letter)) (refused r i place)
-      → FirstFailure (logChecks input (lettersOf bytes) (letter ∷ w)) (refused r i place)
-  letter-refused r i place g = go (first-case g)
-    where
-      go : FirstCase (loneLetterCheck input (lettersOf bytes) letter) [] (refused r i place) → FirstFailure (logChecks input (lettersOf bytes) (letter ∷ w)) (refused r i place)
-      go (decides-now d) =
-          subst (FirstFailure (logChecks input (lettersOf bytes) (letter ∷ w))) (ap (refused UnknownLetter input) (sym (d .fails .is-place)) ∙ sym (d .verdict))
-          (log-foreign input (lettersOf bytes) (letter ∷ w) short (foreign-head (d .fails .foreign)))
-      go (hands-on q h) = absurd (not-passed (one-verdict single-nil h none-left))
-
   first-refused : {g : Monitor} {exit exit′ : List ℕ} {r : Refusal} {i place : ℕ} {answer : Advanced} → AdvancePromise input bytes f (Event letter) entry exit (Refused g r i place)
       → AdvanceWordPromise input bytes f (letter ∷ w) entry exit′ answer → answer ≡ Refused f r i place
   first-refused {r = r} {i = i} {place = place} {answer = answer} p q =
       one-word-answer answer (Refused f r i place) q (record {
-        refusal = behind-same (strongMonitorChecks input bytes f entry) _ _ (letter-refused r i place) (p .refusal);
+        refusal = behind-same (strongMonitorChecks input bytes f entry) _ _ (letter-refused input (lettersOf bytes) letter w short not-passed) (p .refusal);
         answered = refl;
         scratch = refl;
       })
 
 -- a first letter that passes
-module _ (input k : ℕ) (f : Monitor) (letter : ℕ) (w : List ℕ) (short : length (letter ∷ w) ≤ longestLog) (known : letter < k) where
-  -- the checks of the word, by those of the other letters
-  letter-passes : (rest : Advanced) → FirstFailure (logChecks input k w) (advancedVerdict rest) → FirstFailure (logChecks input k (letter ∷ w)) (advancedVerdict (behindLetter f rest))
-  letter-passes (To g grade turns) q = log-passes input k (letter ∷ w) short (over-cons known (log-over input k w q))
-  letter-passes (Refused g r i place) q =
-      let u = log-refused input k w (omega arith) not-passed q in
-      let e = u .1 .1 in
-      let there : refused r i (suc place) ≡ refused UnknownLetter input (suc (u .0)) = (let here : place ≡ u .0 = cc in cc) in
-      subst (FirstFailure (logChecks input k (letter ∷ w))) (sym there) (log-foreign input k (letter ∷ w) short (behind-known known (u .1 .0)))
+same-verdict : (f : Monitor) (rest : Advanced) → behindVerdict (advancedVerdict rest) ≡ advancedVerdict (behindLetter f rest)
+same-verdict f (To g grade turns) = refl
+same-verdict f (Refused g r i place) = refl
 
 module _ {input : ℕ} {bytes : List ℕ} {f h : Monitor} {letter : ℕ} {entry exit : List ℕ} {grade turns : ℕ} (w : List ℕ) (short : length (letter ∷ w) ≤ longestLog)
     (p : AdvancePromise input bytes f (Event letter) entry exit (To h grade turns)) where
@@ -154,8 +138,9 @@ module _ {input : ℕ} {bytes : List ℕ} {f h : Monitor} {letter : ℕ} {entry 
         refusal =
             passed-before (strongMonitorChecks input bytes f entry″) _
             (monitor-passes input bytes f entry (step-standing p) input entry″ long″ f (values-fit input bytes f entry (step-standing p)))
-            (letter-passes input (lettersOf bytes) f letter w short letter-known rest
-            (behind-passed (strongMonitorChecks input bytes h entry′) _ (monitor-passes input bytes f entry (step-standing p) input entry′ long′ h (moved-fits p)) (q .refusal)));
+            (subst (FirstFailure (logChecks input (lettersOf bytes) (letter ∷ w))) (same-verdict f rest)
+            (letter-passes input (lettersOf bytes) letter w short letter-known (advancedVerdict rest)
+            (behind-passed (strongMonitorChecks input bytes h entry′) _ (monitor-passes input bytes f entry (step-standing p) input entry′ long′ h (moved-fits p)) (q .refusal))));
         answered = behind-answer rest (q .answered);
         scratch = refl;
       })

@@ -1,6 +1,6 @@
 -- The checks of a word of events, letter by letter, and those of a step. Assumes nothing.
 use Prim.Native.Nat.{ℕ, zero, suc, _≤_, _<_}
-use mathlib.Core.Path.{_≡_, refl}
+use mathlib.Core.Path.{_≡_, refl, sym, ap, subst, _∙_}
 use mathlib.Core.List.{List, [], _∷_}
 use native.Mathlib.Omega.{arith}
 use lib.ListN.{length, getD}
@@ -94,6 +94,10 @@ module _ (input k : ℕ) (w : List ℕ) where
   pub log-over : FirstFailure (logChecks input k w) passed → Over k w
   log-over f = letters-over k w (passes-head (passes-tail f) .nowhere)
 
+  -- whatever the number of its input is
+  pub log-as : (other : ℕ) → FirstFailure (logChecks input k w) passed → FirstFailure (logChecks other k w) passed
+  log-as other f = first-passes (record { nowhere = passes-head f .nowhere }) (first-passes (record { nowhere = passes-head (passes-tail f) .nowhere }) none-left)
+
   module _ (short : length w ≤ longestLog) where
     pub log-passes : Over k w → FirstFailure (logChecks input k w) passed
     log-passes o = first-passes (record { nowhere = λ place a. omega (arith, a .above) }) (first-passes (record { nowhere = over-letters o }) none-left)
@@ -114,3 +118,30 @@ module _ (input k : ℕ) (w : List ℕ) where
         first : FirstCase (record { refusal = WordLength; input = input; Fails = LogTooLongAt w }) (letters ∷ []) v → (place : ℕ) × (UnknownLetterAt k w place × (v ≡ refused UnknownLetter input place))
         first (decides-now r) = absurd (let z : ⊥ = omega (arith, r .fails .above) in z)
         first (hands-on p g) = second (first-case g)
+
+-- ---- a letter before a word
+
+-- what is told of the word with the letter before it: a place one further on
+abbrev pub behindVerdict : Verdict → Verdict
+behindVerdict passed = passed
+behindVerdict (numbered number input place) = numbered number input (suc place)
+
+module _ (input k letter : ℕ) (w : List ℕ) (short : length (letter ∷ w) ≤ longestLog) where
+  -- a letter that is refused by itself is refused as the first of the word
+  pub letter-refused : {v : Verdict} → (v ≡ passed → ⊥) → FirstFailure (loneLetterCheck input k letter ∷ []) v → FirstFailure (logChecks input k (letter ∷ w)) v
+  letter-refused {v} not g = go (first-case g)
+    where
+      go : FirstCase (loneLetterCheck input k letter) [] v → FirstFailure (logChecks input k (letter ∷ w)) v
+      go (decides-now d) =
+          subst (FirstFailure (logChecks input k (letter ∷ w))) (ap (refused UnknownLetter input) (sym (d .fails .is-place)) ∙ sym (d .verdict))
+          (log-foreign input k (letter ∷ w) short (foreign-head (d .fails .foreign)))
+      go (hands-on q h) = absurd (not (one-verdict single-nil h none-left))
+
+  -- behind one that is known the other letters decide
+  pub letter-passes : letter < k → (v : Verdict) → FirstFailure (logChecks input k w) v → FirstFailure (logChecks input k (letter ∷ w)) (behindVerdict v)
+  letter-passes known passed q = log-passes input k (letter ∷ w) short (over-cons known (log-over input k w q))
+  letter-passes known (numbered number i place) q =
+      let u = log-refused input k w (omega arith) not-passed q in
+      let e = u .1 .1 in
+      let there : numbered number i (suc place) ≡ refused UnknownLetter input (suc (u .0)) = ap behindVerdict e in
+      subst (FirstFailure (logChecks input k (letter ∷ w))) (sym there) (log-foreign input k (letter ∷ w) short (behind-known known (u .1 .0)))

@@ -18,8 +18,9 @@ use Rattle.promises.specs.declared.Step.{Step}
 use Rattle.promises.specs.declared.Step.the-variants.{Event, Mark, Stay}
 use Rattle.promises.specs.EventWords.{afterWord}
 use Rattle.promises.specs.Advance.{afterStep, ForeignStep, strongMonitorChecks, advanceChecks, advanceWordChecks}
+use Rattle.promises.specs.Feed.{feedChecks}
 use Rattle.promises.specs.Monitor.{noValue, valueOf, numberFor, freshMonitor, monitorChecks}
-use Rattle.promises.specs.Histories.{Action, event, mark, sinceWord, beforeWord, withStep, withWord, MonitorRun, begun, moved-by-event, moved-by-mark, moved-in-place, moved-by-advance, moved-by-word, event-refused, mark-refused, refused-in-place, advance-refused, word-refused, Follows}
+use Rattle.promises.specs.Histories.{Action, event, mark, sinceWord, beforeWord, withStep, withWord, MonitorRun, begun, moved-by-event, moved-by-mark, moved-in-place, moved-by-advance, moved-by-word, event-refused, mark-refused, refused-in-place, advance-refused, word-refused, moved-by-feed, feed-refused, Follows}
 use Rattle.promises.proofs.EventWords.{known-step, log-over}
 use Rattle.promises.proofs.MonitorValues.{value-none, value-element, number-of-value}
 
@@ -134,6 +135,13 @@ module _ (bytes : List ℕ) where
       same-follows e (after-word bytes (strong-monitor-good input f entry (passed-first (strongMonitorChecks input bytes f entry) _ all))
       (log-over input (lettersOf bytes) w (passed-last (strongMonitorChecks input bytes f entry) _ all)) p)
 
+  -- and one that was fed
+  feed-follows : {g : Monitor} {history : List Action} (f : Monitor) (w entry : List ℕ) → FirstFailure (feedChecks bytes f w entry) passed
+      → g ≡ afterWord (morphismOf bytes) f w → Follows bytes f history → Follows bytes g (withWord w history)
+  feed-follows f w entry all e p =
+      same-follows e (after-word bytes (monitor-good f entry (passed-first (monitorChecks bytes f entry) _ all))
+      (log-over 1 (lettersOf bytes) w (passed-last (monitorChecks bytes f entry) _ all)) p)
+
   -- a monitor that calls have led to has the values of its history's words
   pub run-follows : {f : Monitor} {history : List Action} → MonitorRun bytes f history → Follows bytes f history
   run-follows (begun e) = same-follows e fresh-follows
@@ -142,8 +150,10 @@ module _ (bytes : List ℕ) where
   run-follows (moved-in-place {f} {letter = letter} {entry = entry} r p) = event-follows f letter entry (p .refusal) (p .monitor) (run-follows r)
   run-follows (moved-by-advance {f} {input = input} {step = step} {entry = entry} r p) = step-follows input f step entry (p .refusal) (p .answered .moved) (run-follows r)
   run-follows (moved-by-word {f} {input = input} {w = w} {entry = entry} r p) = word-follows input f w entry (p .refusal) (p .answered .moved) (run-follows r)
+  run-follows (moved-by-feed {f} {w = w} {entry = entry} r p) = feed-follows f w entry (p .refusal) (p .monitor) (run-follows r)
   run-follows (event-refused r p) = same-follows (p .monitor) (run-follows r)
   run-follows (mark-refused r p) = same-follows (p .monitor) (run-follows r)
   run-follows (refused-in-place r p) = same-follows (p .monitor) (run-follows r)
   run-follows (advance-refused r p) = same-follows (p .answered) (run-follows r)
   run-follows (word-refused r p) = same-follows (p .answered) (run-follows r)
+  run-follows (feed-refused r p) = same-follows (p .monitor) (run-follows r)

@@ -6,6 +6,8 @@ pub mod CombinedGrades
 pub mod CombineOrder
 pub mod CheckParts
 pub mod EventWords
+pub mod FeedTheorem
+pub mod OneFeed
 pub mod ReduceOrder
 pub mod Histories
 pub mod HistoryGrades

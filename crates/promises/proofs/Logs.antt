@@ -33,11 +33,12 @@ use Rattle.promises.specs.declared.Advanced.{Advanced}
 use Rattle.promises.specs.declared.Advanced.the-variants.{To as Advanced-to, Refused as Not-advanced}
 use Rattle.promises.specs.EventWords.{afterWord}
 use Rattle.promises.specs.Advance.{afterStep, AdvancePromise, AdvanceWordPromise}
+use Rattle.promises.specs.Feed.{FeedPromise}
 use Rattle.promises.specs.Verdict.{VerdictPromise}
-use Rattle.promises.specs.Histories.{Action, event, MonitorRun, begun as run-begun, moved-by-event as run-event, moved-by-mark as run-mark, moved-in-place as run-in-place, moved-by-advance as run-advance, moved-by-word as run-word, event-refused as run-event-refused, mark-refused as run-mark-refused, refused-in-place as run-refused-in-place, advance-refused as run-advance-refused, word-refused as run-word-refused, withStep, withWord}
+use Rattle.promises.specs.Histories.{Action, event, MonitorRun, begun as run-begun, moved-by-event as run-event, moved-by-mark as run-mark, moved-in-place as run-in-place, moved-by-advance as run-advance, moved-by-word as run-word, moved-by-feed as run-feed, event-refused as run-event-refused, mark-refused as run-mark-refused, refused-in-place as run-refused-in-place, advance-refused as run-advance-refused, word-refused as run-word-refused, feed-refused as run-feed-refused, withStep, withWord}
 use Rattle.promises.specs.Points.{namesCount, pointsSize, NeverKept, pointAt, keptPoints, KeepPromise, ReturnPromise}
 use Rattle.promises.specs.PointsTheorem.{Logged, handedBack, advancedMonitor}
-use Rattle.promises.specs.Logs.{Stored, never, stored, storedAt, Log, begun, moved-by-event, moved-by-mark, moved-in-place, moved-by-advance, moved-by-word, kept, returned, event-refused, mark-refused, refused-in-place, advance-refused, word-refused, keep-refused, return-refused, afterHistory}
+use Rattle.promises.specs.Logs.{Stored, never, stored, storedAt, Log, begun, moved-by-event, moved-by-mark, moved-in-place, moved-by-advance, moved-by-word, moved-by-feed, kept, returned, event-refused, mark-refused, refused-in-place, advance-refused, word-refused, feed-refused, keep-refused, return-refused, afterHistory}
 use Rattle.promises.proofs.OneVerdict.{one-answer}
 use Rattle.promises.proofs.Points.{other-flag, other-point, kept-kept, kept-point, keep-room, keep-named, return-named, return-kept}
 
@@ -62,11 +63,13 @@ run-monitor bytes (run-mark r p) = p .monitor ∙ ap (afterMark (morphismOf byte
 run-monitor bytes (run-in-place {letter = letter} r p) = p .monitor ∙ ap (λ (x : Monitor). afterEvent (morphismOf bytes) x letter) (run-monitor bytes r)
 run-monitor bytes (run-advance {history = history} {step = step} r p) = p .answered .moved ∙ history-step (morphismOf bytes) history step (run-monitor bytes r)
 run-monitor bytes (run-word {history = history} {w = w} r p) = p .answered .moved ∙ history-word (morphismOf bytes) history w (run-monitor bytes r)
+run-monitor bytes (run-feed {history = history} {w = w} r p) = p .monitor ∙ history-word (morphismOf bytes) history w (run-monitor bytes r)
 run-monitor bytes (run-event-refused r p) = p .monitor ∙ run-monitor bytes r
 run-monitor bytes (run-mark-refused r p) = p .monitor ∙ run-monitor bytes r
 run-monitor bytes (run-refused-in-place r p) = p .monitor ∙ run-monitor bytes r
 run-monitor bytes (run-advance-refused r p) = p .answered ∙ run-monitor bytes r
 run-monitor bytes (run-word-refused r p) = p .answered ∙ run-monitor bytes r
+run-monitor bytes (run-feed-refused r p) = p .monitor ∙ run-monitor bytes r
 
 -- behind a buffer that is long enough the other checks have decided
 after-buffer : {needed : ℕ} {buffer : List ℕ} {checks : List Check} {v : Verdict} → needed ≤ length buffer → FirstFailure (bufferCheck needed buffer ∷ checks) v
@@ -125,6 +128,7 @@ module _ (bytes : List ℕ) where
   log-faithful (moved-in-place l p) = let k = log-faithful l in record { run = run-in-place (k .run) p; held = k .held }
   log-faithful (moved-by-advance l p) = let k = log-faithful l in record { run = run-advance (k .run) p; held = k .held }
   log-faithful (moved-by-word l p) = let k = log-faithful l in record { run = run-word (k .run) p; held = k .held }
+  log-faithful (moved-by-feed l p) = let k = log-faithful l in record { run = run-feed (k .run) p; held = k .held }
   log-faithful (kept {f} {points = points} {history = history} {names = names} {name = name} {entry = entry} l p) =
       let k = log-faithful l in
       let room = keep-room bytes f name points entry (p .refusal) in
@@ -143,6 +147,7 @@ module _ (bytes : List ℕ) where
   log-faithful (refused-in-place l p) = let k = log-faithful l in record { run = same-run (p .monitor) (k .run); held = k .held }
   log-faithful (advance-refused l p) = let k = log-faithful l in record { run = same-run (p .answered) (k .run); held = k .held }
   log-faithful (word-refused l p) = let k = log-faithful l in record { run = same-run (p .answered) (k .run); held = k .held }
+  log-faithful (feed-refused l p) = let k = log-faithful l in record { run = same-run (p .monitor) (k .run); held = k .held }
   log-faithful (keep-refused {names = names} l p) =
       let k = log-faithful l in
       record {
@@ -208,6 +213,10 @@ module _ {bytes : List ℕ} where
     pub advance-word-logged : {input : ℕ} {w : List ℕ} (answer : Advanced) → AdvanceWordPromise input bytes f w entry exit answer → Logged bytes (advancedMonitor answer) points
     advance-word-logged (Advanced-to g grade turns) p = record { history = _; names = _; log = moved-by-word (l .log) p }
     advance-word-logged (Not-advanced g refusal i place) p = record { history = _; names = _; log = word-refused (l .log) p }
+
+    pub feed-logged : {w : List ℕ} (answer : Moved) → FeedPromise bytes f w entry exit answer → Logged bytes (handedBack answer) points
+    feed-logged (To g) p = record { history = _; names = _; log = moved-by-feed (l .log) p }
+    feed-logged (Refused g refusal input place) p = record { history = _; names = _; log = feed-refused (l .log) p }
 
     pub keep-logged : {name : ℕ} {points-exit : List ℕ} (answer : Moved) → KeepPromise bytes f name points points-exit entry exit answer
         → Logged bytes (handedBack answer) points-exit

@@ -18,6 +18,7 @@ use Rattle.promises.proofs.OneMoveInPlace as in-place
 use Rattle.promises.proofs.OnePoint as named
 use Rattle.promises.proofs.OneVerdict as verdicts
 use Rattle.promises.proofs.OneAdvance as advances
+use Rattle.promises.proofs.OneFeed as feeds
 use Rattle.promises.proofs.OneSummary as summaries
 
 both : {A B : Type 0} {a a′ : A} {b b′ : B} → a ≡ a′ → b ≡ b′ → _≡_ {A = A × B} (a, b) (a′, b′)
@@ -58,5 +59,6 @@ one-answers = record {
   verdict = λ bytes f entry. record { one = λ x y a b p q. (verdicts.one-answer a b p q, verdicts.one-scratch p q) };
   advance = λ input bytes f step entry. record { one = λ x y a b p q. (advances.one-answer a b p q, advances.one-scratch p q) };
   advance-word = λ input bytes f w entry. record { one = λ x y a b p q. (advances.one-word-answer a b p q, advances.one-word-scratch p q) };
+  feed = λ bytes f w entry. record { one = λ x y a b p q. (feeds.one-feed p q, feeds.one-feed-scratch p q) };
   summarize = λ bytes work entry. record { one = λ x y a b p q. (summaries.one-answer a b p q, both (summaries.one-work a b p q) (summaries.one-scratch p q)) };
 }

@@ -1,6 +1,6 @@
 -- The theorem on named points, from what holds of every log. Assumes nothing.
 use Rattle.promises.specs.PointsTheorem.{PointsTheorem}
-use Rattle.promises.proofs.Logs.{log-run, return-stored, log-monitor, log-point, log-verdict, fresh-logged, event-logged, mark-logged, in-place-logged, advance-logged, advance-word-logged, keep-logged, return-logged}
+use Rattle.promises.proofs.Logs.{log-run, return-stored, log-monitor, log-point, log-verdict, fresh-logged, event-logged, mark-logged, in-place-logged, advance-logged, advance-word-logged, feed-logged, keep-logged, return-logged}
 use Rattle.promises.proofs.HistoryGrades.{log-graded, log-turns}
 
 pub points-theorem : PointsTheorem
@@ -18,6 +18,7 @@ points-theorem = record {
   in-place-logged = λ bytes f g points l letter entry exit answer p. in-place-logged l answer p;
   advance-logged = λ bytes f points l input step entry exit answer p. advance-logged l answer p;
   advance-word-logged = λ bytes f points l input w entry exit answer p. advance-word-logged l answer p;
+  feed-logged = λ bytes f points l w entry exit answer p. feed-logged l answer p;
   keep-logged = λ bytes f points l name points-exit entry exit answer p. keep-logged l answer p;
   return-logged = λ bytes f points l name entry exit answer p. return-logged l answer p;
 }

@@ -16,6 +16,7 @@ use Rattle.promises.specs.declared.Step.{Step}
 use Rattle.promises.specs.declared.Step.the-variants.{Event, Mark, Stay}
 use Rattle.promises.specs.declared.Advanced.the-variants.{To as Advanced-to, Refused as Not-advanced}
 use Rattle.promises.specs.Advance.{AdvancePromise, AdvanceWordPromise}
+use Rattle.promises.specs.Feed.{FeedPromise}
 
 -- what moves a monitor: an event with its letter, or a mark
 pub data Action : Type 0 where
@@ -60,6 +61,8 @@ pub data MonitorRun (bytes : List ℕ) : Monitor → List Action → Type 0 wher
       → MonitorRun bytes f history → AdvancePromise input bytes f step entry exit (Advanced-to g grade turns) → MonitorRun bytes g (withStep step history)
   moved-by-word : {f g : Monitor} {history : List Action} {input : ℕ} {w entry exit : List ℕ} {grade turns : ℕ}
       → MonitorRun bytes f history → AdvanceWordPromise input bytes f w entry exit (Advanced-to g grade turns) → MonitorRun bytes g (withWord w history)
+  moved-by-feed : {f g : Monitor} {history : List Action} {w entry exit : List ℕ}
+      → MonitorRun bytes f history → FeedPromise bytes f w entry exit (To g) → MonitorRun bytes g (withWord w history)
   event-refused : {f g : Monitor} {history : List Action} {letter : ℕ} {entry exit : List ℕ} {refusal : Refusal} {input place : ℕ}
       → MonitorRun bytes f history → EventPromise bytes f letter entry exit (Refused g refusal input place) → MonitorRun bytes g history
   mark-refused : {f g : Monitor} {history : List Action} {entry exit : List ℕ} {refusal : Refusal} {input place : ℕ}
@@ -70,6 +73,8 @@ pub data MonitorRun (bytes : List ℕ) : Monitor → List Action → Type 0 wher
       → MonitorRun bytes f history → AdvancePromise input bytes f step entry exit (Not-advanced g refusal i place) → MonitorRun bytes g history
   word-refused : {f g : Monitor} {history : List Action} {input : ℕ} {w entry exit : List ℕ} {refusal : Refusal} {i place : ℕ}
       → MonitorRun bytes f history → AdvanceWordPromise input bytes f w entry exit (Not-advanced g refusal i place) → MonitorRun bytes g history
+  feed-refused : {f g : Monitor} {history : List Action} {w entry exit : List ℕ} {refusal : Refusal} {input place : ℕ}
+      → MonitorRun bytes f history → FeedPromise bytes f w entry exit (Refused g refusal input place) → MonitorRun bytes g history
 
 -- the monitor has the values of its history's two words, and those are words over the rule's letters
 pub record Follows (bytes : List ℕ) (f : Monitor) (history : List Action) : Type 0 where

@@ -25,6 +25,8 @@ pub mod Confirm
 pub mod Advance
 pub mod AdvanceTheorem
 pub mod EventWords
+pub mod Feed
+pub mod FeedTheorem
 pub mod FilePart
 pub mod InclusionTheorem
 pub mod OneAnswers

@@ -16,6 +16,7 @@ use Rattle.promises.specs.InPlace.{EventInPlace}
 use Rattle.promises.specs.declared.Step.{Step}
 use Rattle.promises.specs.declared.Advanced.the-variants.{To as Advanced-to, Refused as Not-advanced}
 use Rattle.promises.specs.Advance.{AdvancePromise, AdvanceWordPromise}
+use Rattle.promises.specs.Feed.{FeedPromise}
 use Rattle.promises.specs.Histories.{Action, event, mark, withStep, withWord}
 use Rattle.promises.specs.Points.{namesCount, NeverKept, KeepPromise, ReturnPromise}
 
@@ -44,6 +45,8 @@ pub data Log (bytes : List ℕ) : Monitor → List ℕ → List Action → (ℕ 
       → Log bytes f points history names → AdvancePromise input bytes f step entry exit (Advanced-to g grade turns) → Log bytes g points (withStep step history) names
   moved-by-word : {f g : Monitor} {points : List ℕ} {history : List Action} {names : ℕ → Stored} {input : ℕ} {w entry exit : List ℕ} {grade turns : ℕ}
       → Log bytes f points history names → AdvanceWordPromise input bytes f w entry exit (Advanced-to g grade turns) → Log bytes g points (withWord w history) names
+  moved-by-feed : {f g : Monitor} {points : List ℕ} {history : List Action} {names : ℕ → Stored} {w entry exit : List ℕ}
+      → Log bytes f points history names → FeedPromise bytes f w entry exit (To g) → Log bytes g points (withWord w history) names
   kept : {f g : Monitor} {points points-exit : List ℕ} {history : List Action} {names : ℕ → Stored} {name : ℕ} {entry exit : List ℕ}
       → Log bytes f points history names → KeepPromise bytes f name points points-exit entry exit (To g) → Log bytes g points-exit history (storedAt names name history)
   returned : {f g : Monitor} {points : List ℕ} {history past : List Action} {names : ℕ → Stored} {name : ℕ} {entry exit : List ℕ}
@@ -58,6 +61,8 @@ pub data Log (bytes : List ℕ) : Monitor → List ℕ → List Action → (ℕ 
       → Log bytes f points history names → AdvancePromise input bytes f step entry exit (Not-advanced g refusal i place) → Log bytes g points history names
   word-refused : {f g : Monitor} {points : List ℕ} {history : List Action} {names : ℕ → Stored} {input : ℕ} {w entry exit : List ℕ} {refusal : Refusal} {i place : ℕ}
       → Log bytes f points history names → AdvanceWordPromise input bytes f w entry exit (Not-advanced g refusal i place) → Log bytes g points history names
+  feed-refused : {f g : Monitor} {points : List ℕ} {history : List Action} {names : ℕ → Stored} {w entry exit : List ℕ} {refusal : Refusal} {input place : ℕ}
+      → Log bytes f points history names → FeedPromise bytes f w entry exit (Refused g refusal input place) → Log bytes g points history names
   keep-refused : {f g : Monitor} {points points-exit : List ℕ} {history : List Action} {names : ℕ → Stored} {name : ℕ} {entry exit : List ℕ} {refusal : Refusal} {input place : ℕ}
       → Log bytes f points history names → KeepPromise bytes f name points points-exit entry exit (Refused g refusal input place) → Log bytes g points-exit history names
   return-refused : {f g : Monitor} {points : List ℕ} {history : List Action} {names : ℕ → Stored} {name : ℕ} {entry exit : List ℕ} {refusal : Refusal} {input place : ℕ}

@@ -38,6 +38,7 @@ use Rattle.promises.specs.InPlace.{EventInPlace}
 use Rattle.promises.specs.Points.{KeepPromise, ReturnPromise}
 use Rattle.promises.specs.Verdict.{VerdictPromise}
 use Rattle.promises.specs.Advance.{AdvancePromise, AdvanceWordPromise}
+use Rattle.promises.specs.Feed.{FeedPromise}
 use Rattle.promises.specs.Summary.{SummaryPromise}
 
 -- one answer, and one of what is left, by a promise of what is left and the answer
@@ -87,4 +88,5 @@ pub record OneAnswers : Type 0 where
       → OneAnswer (λ (exit : List ℕ) (answer : Advanced). AdvancePromise input bytes f step entry exit answer)
   pub advance-word : (input : ℕ) (bytes : List ℕ) (f : Monitor) (w entry : List ℕ)
       → OneAnswer (λ (exit : List ℕ) (answer : Advanced). AdvanceWordPromise input bytes f w entry exit answer)
+  pub feed : (bytes : List ℕ) (f : Monitor) (w entry : List ℕ) → OneAnswer (λ (exit : List ℕ) (answer : Moved). FeedPromise bytes f w entry exit answer)
   pub summarize : (bytes work entry : List ℕ) → OneAnswer (λ (left : TwoLists) (answer : Summary). SummaryPromise bytes work (left .0) entry (left .1) answer)

@@ -22,6 +22,7 @@ use Rattle.promises.specs.declared.Step.{Step}
 use Rattle.promises.specs.declared.Advanced.{Advanced}
 use Rattle.promises.specs.declared.Advanced.the-variants.{To as Advanced-to, Refused as Not-advanced}
 use Rattle.promises.specs.Advance.{AdvancePromise, AdvanceWordPromise}
+use Rattle.promises.specs.Feed.{FeedPromise}
 use Rattle.promises.specs.Verdict.{VerdictPromise}
 use Rattle.promises.specs.Points.{namesCount, NeverKept, pointAt, KeepPromise, ReturnPromise}
 use Rattle.promises.specs.Histories.{Action, sinceWord, beforeWord, MonitorRun}
@@ -74,6 +75,8 @@ pub record PointsTheorem : Type 0 where
       → AdvancePromise input bytes f step entry exit answer → Logged bytes (advancedMonitor answer) points
   pub advance-word-logged : (bytes : List ℕ) (f : Monitor) (points : List ℕ) → Logged bytes f points → (input : ℕ) (w entry exit : List ℕ) (answer : Advanced)
       → AdvanceWordPromise input bytes f w entry exit answer → Logged bytes (advancedMonitor answer) points
+  pub feed-logged : (bytes : List ℕ) (f : Monitor) (points : List ℕ) → Logged bytes f points → (w entry exit : List ℕ) (answer : Moved)
+      → FeedPromise bytes f w entry exit answer → Logged bytes (handedBack answer) points
   pub keep-logged : (bytes : List ℕ) (f : Monitor) (points : List ℕ) → Logged bytes f points → (name : ℕ) (points-exit entry exit : List ℕ) (answer : Moved)
       → KeepPromise bytes f name points points-exit entry exit answer → Logged bytes (handedBack answer) points-exit
   pub return-logged : (bytes : List ℕ) (f : Monitor) (points : List ℕ) → Logged bytes f points → (name : ℕ) (entry exit : List ℕ) (answer : Moved)
