@@ -2,7 +2,7 @@
 use mathlib.Core.Path.{refl}
 use borrow.Author.Needs.{needs}
 use Rattle.promises.proofs.EventWords.{log-passes}
-use Rattle.advance_call.proofs.Stepping.{said-good-log, said-bad-log}
+use Rattle.monitor_steps.proofs.WordFaults.{said-good-log, said-bad-log}
 use Rattle.advance_call.proofs.word_answer.Statement.{statement}
 use Rattle.advance_call.proofs.word_answer.Tie as tie
 
