@@ -9,8 +9,10 @@ use board_state::write_board;
 use board_state::write_posted;
 use packing::pack_fields;
 use packing::pack_refusal;
+use packing_counts::pack_inspected;
 use packing_counts::pack_listed;
 use packing_counts::pack_partition;
+use packing_counts::pack_stretch;
 use packing_counts::pack_successors;
 use packing_counts::pack_written;
 use packing_decisions::pack_confirmation;
@@ -31,7 +33,9 @@ ghost use Rattle.promises.specs.Classes.{ListPromise};
 ghost use Rattle.promises.specs.Combine.{CombinePromise};
 ghost use Rattle.promises.specs.Complement.{ComplementPromise};
 ghost use Rattle.promises.specs.Confirm.{ConfirmPromise};
+ghost use Rattle.promises.specs.Feed.{FeedPromise};
 ghost use Rattle.promises.specs.Inclusion.{InclusionPromise};
+ghost use Rattle.promises.specs.Inspect.{InspectPromise};
 ghost use Rattle.promises.specs.Member.{MemberPromise};
 ghost use Rattle.promises.specs.Monitor.{freshMonitor};
 ghost use Rattle.promises.specs.Moves.{EventPromise, MarkPromise};
@@ -39,6 +43,7 @@ ghost use Rattle.promises.specs.Points.{KeepPromise, ReturnPromise};
 ghost use Rattle.promises.specs.Reduce.{ReducePromise};
 ghost use Rattle.promises.specs.Rounds.{RoundsPromise};
 ghost use Rattle.promises.specs.RuleAutomaton.{KindPromise, SuccessorsPromise};
+ghost use Rattle.promises.specs.Stretch.{stretchNumbers};
 ghost use Rattle.promises.specs.Strong.{StrongPromise};
 ghost use Rattle.promises.specs.Verdict.{VerdictPromise};
 ghost use Rattle.promises.specs.declared.Operation.the-variants.{Both, Either, Without};
@@ -46,11 +51,19 @@ ghost use Rattle.promises.specs.declared.Step.the-variants.{Event, Mark, Stay};
 ghost use Rattle.temporal_promises.specs.FirstLetter.{FirstLetterPromise, ConstantPromise};
 ghost use Rattle.temporal_promises.specs.Next.{NextPromise};
 ghost use Rattle.temporal_promises.specs.Until.{UntilPromise};
-ghost use Rattle.packing_counts.specs.Counts.{listedContents, writtenContents, partitionContents, successorsContents};
+ghost use Rattle.packing_counts.specs.Counts.{inspectedContents, listedContents, writtenContents, partitionContents, successorsContents, packStretch};
 ghost use Rattle.packing_decisions.specs.Decisions.{strengthContents, lassoVerdictContents, inclusionContents, confirmationContents, kindContents};
 ghost use Rattle.packing_monitors.specs.Monitors.{packMonitor, movedContents, advancedContents};
 ghost use Rattle.exports.specs.Exports.{Exported};
 ghost use Rattle.exports.specs.BoardExports.{ExportedBoardEmpty, ExportedBoardEnter, ExportedBoardLeave, ExportedBoardEvent, ExportedBoardMark};
+
+// The elements, the letters and the marks of a rule file.
+#[no_mangle]
+pub extern "C" fn duknavet_inspect(rule: &[u8], scratch: &mut [u8]) -> u64
+    ensures { λ r. ⌜ Exported (InspectPromise (now (rule .entry)) (now (scratch .entry)) (now (scratch .exit))) inspectedContents r ⌝ }
+{
+    pack_inspected(rules::inspect(rule, scratch))
+}
 
 // The linked pairs, the classes and the joins; each pair's class in `out`.
 #[no_mangle]
@@ -127,6 +140,20 @@ pub extern "C" fn duknavet_mark(rule: &[u8], before: usize, since: usize, scratc
     ensures { λ r. ⌜ Exported (MarkPromise (now (rule .entry)) (record { before = before; since = since }) (now (scratch .entry)) (now (scratch .exit))) movedContents r ⌝ }
 {
     pack_moved(rules::mark(rule, Monitor { before, since }, scratch))
+}
+
+// The values of a monitor after an event for each letter of a word.
+#[no_mangle]
+pub extern "C" fn duknavet_feed(
+    rule: &[u8],
+    before: usize,
+    since: usize,
+    word: &[u8],
+    scratch: &mut [u8],
+) -> u64
+    ensures { λ r. ⌜ Exported (FeedPromise (now (rule .entry)) (record { before = before; since = since }) (now (word .entry)) (now (scratch .entry)) (now (scratch .exit))) movedContents r ⌝ }
+{
+    pack_moved(rules::feed(rule, Monitor { before, since }, word, scratch))
 }
 
 // The values of a monitor that is kept under a name in `points`.
@@ -231,6 +258,14 @@ pub extern "C" fn duknavet_advance_word(
     ensures { λ r. ⌜ Exported (AdvanceWordPromise 1 (now (rule .entry)) (record { before = before; since = since }) (now (word .entry)) (now (scratch .entry)) (now (scratch .exit))) advancedContents r ⌝ }
 {
     pack_advanced(rules::advance_word(rule, 1, Monitor { before, since }, word, scratch))
+}
+
+// The part of a lasso's word that is left to read at a position: 1 where it lies in u or 2 in v, where it begins there, and how many letters it has.
+#[no_mangle]
+pub extern "C" fn duknavet_stretch(u: &[u8], v: &[u8], position: usize) -> u64
+    ensures { λ r. ⌜ r ≡ packStretch (stretchNumbers (now (u .entry)) (now (v .entry)) position) ⌝ }
+{
+    pack_stretch(rules::stretch_place(u, v, position))
 }
 
 // How many bytes the reduction has, which stands in `out`; in `map` for each element of the rule the number of the element that it went to.

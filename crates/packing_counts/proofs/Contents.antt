@@ -4,6 +4,8 @@ use mathlib.Core.Path.{_≡_, refl, ap₂}
 use mathlib.Core.Bool.{Bool, true, false}
 use native.Mathlib.Omega.{arith}
 use Rattle.answer.proofs.Verdicts.{same-refusal}
+use Rattle.promises.specs.declared.Inspected.{Inspected}
+use Rattle.promises.specs.declared.Inspected.the-variants.{Rule as Inspected-rule, Refused as Inspected-refused}
 use Rattle.promises.specs.declared.Listed.{Listed}
 use Rattle.promises.specs.declared.Listed.the-variants.{Counts, Refused as Not-listed}
 use Rattle.promises.specs.declared.Partition.{Partition}
@@ -13,7 +15,13 @@ use Rattle.promises.specs.declared.SuccessorList.the-variants.{Listed as Succes
 use Rattle.promises.specs.declared.Written.{Written}
 use Rattle.promises.specs.declared.Written.the-variants.{Rule, Refused as Not-written}
 use Rattle.packing.proofs.Contents.{verdict-of}
-use Rattle.packing_counts.specs.Counts.{listedContents, writtenContents, bit, partitionContents, successorsContents}
+use Rattle.packing_counts.specs.Counts.{inspectedContents, listedContents, writtenContents, bit, partitionContents, successorsContents}
+
+pub inspected-told : (x y : Inspected) → inspectedContents x ≡ inspectedContents y → x ≡ y
+inspected-told (Inspected-rule a b c) (Inspected-rule a′ b′ c′) e = cc
+inspected-told (Inspected-rule a b c) (Inspected-refused r′ i′ p′) e = cc
+inspected-told (Inspected-refused r i p) (Inspected-rule a′ b′ c′) e = cc
+inspected-told (Inspected-refused r i p) (Inspected-refused r′ i′ p′) e = same-refusal Inspected-refused r r′ i i′ p p′ (verdict-of e)
 
 pub listed-told : (x y : Listed) → listedContents x ≡ listedContents y → x ≡ y
 listed-told (Counts a b c) (Counts a′ b′ c′) e = cc

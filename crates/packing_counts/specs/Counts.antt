@@ -2,7 +2,10 @@
 use Prim.Native.Nat.{ℕ}
 use mathlib.Core.Bool.{Bool, cond}
 use Rattle.answer.specs.Refusals.{numberOf}
+use Rattle.promises.specs.declared.Inspected.{Inspected}
+use Rattle.promises.specs.declared.Inspected.the-variants.{Rule as Inspected-rule, Refused as Inspected-refused}
 use Rattle.promises.specs.declared.Listed.{Listed}
+use Rattle.promises.specs.declared.StretchPlace.{StretchPlace}
 use Rattle.promises.specs.declared.Listed.the-variants.{Counts, Refused as Not-listed}
 use Rattle.promises.specs.declared.Partition.{Partition}
 use Rattle.promises.specs.declared.Partition.the-variants.{Blocks, Refused as Not-partitioned}
@@ -11,6 +14,14 @@ use Rattle.promises.specs.declared.SuccessorList.the-variants.{Listed as Succes
 use Rattle.promises.specs.declared.Written.{Written}
 use Rattle.promises.specs.declared.Written.the-variants.{Rule, Refused as Not-written}
 use Rattle.packing.specs.Packing.{Contents, fields, refusal-at, pack}
+
+-- the elements, the letters, the marks
+abbrev pub inspectedContents : Inspected → Contents
+inspectedContents (Inspected-rule elements letters marks) = fields elements letters marks
+inspectedContents (Inspected-refused refusal input place) = refusal-at (numberOf refusal) input place
+
+abbrev pub packInspected : Inspected → ℕ
+packInspected answer = pack (inspectedContents answer)
 
 -- the linked pairs, the classes, the joins
 abbrev pub listedContents : Listed → Contents
@@ -46,3 +57,10 @@ successorsContents (No-successors refusal input place) = refusal-at (numberOf re
 
 abbrev pub packSuccessors : SuccessorList → ℕ
 packSuccessors answer = pack (successorsContents answer)
+
+-- the word, where the part begins in it, and its letters
+abbrev pub stretchContents : StretchPlace → Contents
+stretchContents place = fields (place .word) (place .from) (place .letters)
+
+abbrev pub packStretch : StretchPlace → ℕ
+packStretch place = pack (stretchContents place)

@@ -1,12 +1,31 @@
-// Answers that count what was written, packed into one number: the bytes of a rule, classes, rounds, successors.
+// Answers that count, packed into one number: what a file has, the bytes of a rule, classes, rounds, successors.
 use packing::pack_fields;
 use packing::pack_refusal;
+use promises::Inspected;
 use promises::Listed;
 use promises::Partition;
+use promises::StretchPlace;
 use promises::SuccessorList;
 use promises::Written;
 ghost use mathlib.Core.Path.{_≡_};
-ghost use Rattle.packing_counts.specs.Counts.{packListed, packWritten, bit, packPartition, packSuccessors};
+ghost use Rattle.packing_counts.specs.Counts.{packInspected, packListed, packWritten, bit, packPartition, packSuccessors, packStretch};
+
+pub fn pack_inspected(answer: Inspected) -> u64
+    ensures { λ r. ⌜ r ≡ packInspected answer ⌝ }
+{
+    match answer {
+        Inspected::Rule {
+            elements,
+            letters,
+            marks,
+        } => pack_fields(elements, letters, marks),
+        Inspected::Refused {
+            refusal,
+            input,
+            place,
+        } => pack_refusal(refusal, input, place),
+    }
+}
 
 pub fn pack_listed(answer: Listed) -> u64
     ensures { λ r. ⌜ r ≡ packListed answer ⌝ }
@@ -73,4 +92,10 @@ pub fn pack_successors(answer: SuccessorList) -> u64
             place,
         } => pack_refusal(refusal, input, place),
     }
+}
+
+pub fn pack_stretch(place: StretchPlace) -> u64
+    ensures { λ r. ⌜ r ≡ packStretch place ⌝ }
+{
+    pack_fields(place.word, place.from, place.letters)
 }

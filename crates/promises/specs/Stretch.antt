@@ -5,6 +5,7 @@ use mathlib.Core.List.{List, []}
 use lib.ListN.{length, drop}
 use lib.Dec.{ltb, leb}
 use Rattle.formats.specs.WordChecks.{shortestStart, shortestCycle, longestWord}
+use Rattle.promises.specs.declared.StretchPlace.{StretchPlace}
 
 -- refusal 11 names every other length of a word of at least `shortest` letters
 abbrev pub wordFits : ℕ → List ℕ → Bool
@@ -39,3 +40,12 @@ unreadPlace p q u v at = cond (ltb at (length u)) (further p at) (further q ((at
 -- where the answer begins: "the empty part of u" lies where u does
 unfoldable pub stretchPlace : Pointer → Pointer → List ℕ → List ℕ → ℕ → Pointer
 stretchPlace p q u v at = cond (lassoFits u v) (unreadPlace p q u v at) p
+
+-- the same part in numbers, for callers who have no slices: 1 where it lies in u or 2 in v, where it begins there, and how many letters it has. Of lengths that
+-- refusal 11 names it is the empty part at the beginning of u.
+unfoldable pub stretchNumbers : List ℕ → List ℕ → ℕ → StretchPlace
+stretchNumbers u v at = record {
+  word = cond (lassoFits u v) (cond (ltb at (length u)) 1 2) 1;
+  from = cond (lassoFits u v) (cond (ltb at (length u)) at ((at - length u) % length v)) 0;
+  letters = length (stretchOf u v at);
+}

@@ -224,3 +224,10 @@ pub enum Summary {
         place: usize,
     },
 }
+
+// A part of a lasso's word in numbers: 1 for u or 2 for v, where it begins there, and how many letters it has.
+pub struct StretchPlace {
+    pub word: usize,
+    pub from: usize,
+    pub letters: usize,
+}

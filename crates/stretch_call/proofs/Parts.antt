@@ -8,7 +8,7 @@ use lib.Dec.{leb}
 use lib.ListN.{length, take, drop}
 use denote.Ref.{RefT}
 use denote.Slice.{slice-vals}
-use Rattle.promises.specs.Stretch.{wordFits, unread, stretchOf, Pointer, unreadPlace, stretchPlace}
+use Rattle.promises.specs.Stretch.{wordFits, lassoFits, unread, stretchOf, Pointer, unreadPlace, stretchPlace}
 use Rattle.formats.specs.WordChecks.{shortestStart, shortestCycle, longestWord}
 use Rattle.formats.proofs.SectionList.{rest-of}
 
@@ -91,3 +91,13 @@ one-part p q u v at r s letters-r letters-s place-r place-s =
     let letters : r .now ≡ s .now = cc in
     let place : r .ptr ≡ s .ptr = cc in
     cc
+
+-- whether both lengths are taken
+pub fits-not-start : (u v : List ℕ) → Unfit shortestStart u → false ≡ lassoFits u v
+fits-not-start u v h = sym (ap (λ (b : Bool). b && wordFits shortestCycle v) (unfit h))
+
+pub fits-not-cycle : (u v : List ℕ) → Unfit shortestCycle v → false ≡ lassoFits u v
+fits-not-cycle u v h = sym (and-false (wordFits shortestStart u) (unfit h))
+
+pub fits-by-cycle : (u v : List ℕ) → Fit shortestStart u → 1 ≤ length v → leb (length v) longestWord ≡ lassoFits u v
+fits-by-cycle u v fu some = sym (simp (fit fu, le-leb 1 (length v) some))

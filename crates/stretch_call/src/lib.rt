@@ -1,7 +1,8 @@
 // The part of a lasso's word that is left to read at a position (document 01: stretch).
 use formats::LONGEST_WORD;
+use promises::StretchPlace;
 ghost use mathlib.Core.Path.{_≡_};
-ghost use Rattle.promises.specs.Stretch.{stretchOf, stretchPlace};
+ghost use Rattle.promises.specs.Stretch.{stretchOf, stretchPlace, lassoFits, stretchNumbers};
 
 // What is left of u, or of the turn of v that the position lies in: a part of the word itself, which `place` tells. With an empty u every
 // part is one of v. Words that are no words of a call have nothing left, and the answer is the empty part of u.
@@ -23,4 +24,43 @@ pub fn stretch<'a>(u: &'a [u8], v: &'a [u8], position: usize) -> &'a [u8]
     }
     let at = (position - u.len()) % v.len();
     &v[at..]
+}
+
+// Whether both words have lengths that a call takes.
+fn lengths_fit(u: &[u8], v: &[u8]) -> bool
+    ensures { λ r. ⌜ r ≡ lassoFits (now (u .entry)) (now (v .entry)) ⌝ }
+{
+    if LONGEST_WORD < u.len() {
+        return false;
+    }
+    if v.len() < 1 {
+        return false;
+    }
+    v.len() <= LONGEST_WORD
+}
+
+// The same part in numbers, for callers who have no slices.
+pub fn stretch_place(u: &[u8], v: &[u8], position: usize) -> StretchPlace
+    ensures { λ r. ⌜ r ≡ stretchNumbers (now (u .entry)) (now (v .entry)) position ⌝ }
+{
+    if !lengths_fit(u, v) {
+        return StretchPlace {
+            word: 1,
+            from: 0,
+            letters: 0,
+        };
+    }
+    if position < u.len() {
+        return StretchPlace {
+            word: 1,
+            from: position,
+            letters: u.len() - position,
+        };
+    }
+    let at = (position - u.len()) % v.len();
+    StretchPlace {
+        word: 2,
+        from: at,
+        letters: v.len() - at,
+    }
 }

@@ -5,6 +5,7 @@ ghost use Rattle.board_promises.specs.OneAnswers.{BoardOneAnswers};
 ghost use Rattle.promises.specs.SmallestTheorem.{SmallestTheorem};
 ghost use Rattle.promises.specs.InclusionTheorem.{InclusionTheorem};
 ghost use Rattle.promises.specs.AdvanceTheorem.{AdvanceTheorem};
+ghost use Rattle.promises.specs.FeedTheorem.{FeedTheorem};
 ghost use Rattle.promises.specs.PointsTheorem.{PointsTheorem};
 ghost use Rattle.promises.specs.PrintTheorem.{PrintTheorem};
 ghost use Rattle.promises.specs.RoundsTheorem.{RoundsTheorem};
@@ -51,6 +52,11 @@ fn points_theorem()
 // A word of events is its letters one by one, and a step that passes is the call that takes it and then the verdict.
 fn advance_theorem()
     ensures { λ r. ⌜ AdvanceTheorem ⌝ }
+{}
+
+// A word that is fed is an event for each of its letters, and what `advance_word` makes of the monitor.
+fn feed_theorem()
+    ensures { λ r. ⌜ FeedTheorem ⌝ }
 {}
 
 // Document 02, Job 8.

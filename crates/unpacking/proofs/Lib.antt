@@ -9,3 +9,4 @@ pub mod NothingLost
 pub mod BoardBytes
 pub mod BoardRuns
 pub mod BoardOneAnswer
+pub mod Stretches

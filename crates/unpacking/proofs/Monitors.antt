@@ -19,6 +19,8 @@ use Rattle.monitor_state.specs.Ready.{GoodNumber}
 use Rattle.monitor_state.proofs.Numbers.{not-stray}
 use Rattle.promises.specs.Moves.{afterEvent, afterMark, eventChecks}
 use Rattle.promises.specs.EventWords.{afterWord}
+use Rattle.promises.specs.Feed.{feedChecks}
+use Rattle.promises.proofs.EventWords.{log-over}
 use Rattle.promises.specs.Advance.{afterStep, ForeignStep}
 use Rattle.promises.proofs.MonitorGoods.{step-fits}
 use Rattle.promises.specs.Points.{pointsSize, pointAt, keepChecks, returnChecks}
@@ -82,6 +84,11 @@ module _ (bytes : List ℕ) (f : Monitor) (entry : List ℕ) where
       let ready = passed-first (monitorChecks bytes f entry) _ all in
       let known : lettersOf bytes ≤ letter → ⊥ = λ h. passes-head (passed-last (monitorChecks bytes f entry) _ all) .nowhere 0 (record { foreign = h; is-place = refl }) in
       values-fit (event-small (monitor-rule ready) (monitor-unstray ready) (omega arith))
+
+  pub feed-fits : (w : List ℕ) → FirstFailure (feedChecks bytes f w entry) passed → Fits (monitorContents (afterWord (morphismOf bytes) f w))
+  feed-fits w all =
+      let ready = passed-first (monitorChecks bytes f entry) _ all in
+      values-fit (word-small (monitor-rule ready) (monitor-unstray ready) (log-over 1 (lettersOf bytes) w (passed-last (monitorChecks bytes f entry) _ all)))
 
 module _ (bytes : List ℕ) (f : Monitor) (name : ℕ) (points entry : List ℕ) where
   pub keep-fits : FirstFailure (keepChecks bytes f name points entry) passed → Fits (monitorContents f)

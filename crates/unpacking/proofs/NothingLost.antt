@@ -33,6 +33,9 @@ use Rattle.promises.specs.Verdict.{NoneAt, VerdictPromise}
 use Rattle.promises.specs.declared.Written.{Written}
 use Rattle.promises.specs.declared.Written.the-variants.{Rule, Refused as Not-written}
 use Rattle.promises.specs.Automaton.{RulePromise}
+use Rattle.promises.specs.declared.Inspected.{Inspected}
+use Rattle.promises.specs.declared.Inspected.the-variants.{Rule as Inspected-rule, Refused as Inspected-refused}
+use Rattle.promises.specs.Inspect.{InspectPromise}
 use Rattle.promises.specs.declared.Listed.{Listed}
 use Rattle.promises.specs.declared.Listed.the-variants.{Counts, Refused as Not-listed}
 use Rattle.promises.specs.Classes.{ListPromise}
@@ -72,21 +75,22 @@ use Rattle.board_promises.specs.declared.Board.{Board}
 use Rattle.board_promises.specs.declared.Posted.{Posted}
 use Rattle.board_state.specs.State.{stateSize}
 use Rattle.promises.specs.Advance.{AdvancePromise, AdvanceWordPromise}
+use Rattle.promises.specs.Feed.{FeedPromise}
 use Rattle.packing.specs.Packing.{Contents, fields, refusal-at, unpack}
-use Rattle.packing_counts.specs.Counts.{listedContents, writtenContents, bit, partitionContents, successorsContents}
+use Rattle.packing_counts.specs.Counts.{inspectedContents, listedContents, writtenContents, bit, partitionContents, successorsContents}
 use Rattle.packing_decisions.specs.Decisions.{strengthContents, lassoVerdictContents, confirmationContents, inclusionContents, kindContents}
 use Rattle.packing_monitors.specs.Monitors.{monitorContents, movedContents, advancedContents, packMonitor, noticeContents, packNotice}
 use Rattle.packing.proofs.ReadBack.{FieldsFit, Fits, read-back}
-use Rattle.packing_counts.proofs.Contents.{listed-told, written-told, partition-told, successors-told}
+use Rattle.packing_counts.proofs.Contents.{inspected-told, listed-told, written-told, partition-told, successors-told}
 use Rattle.packing_decisions.proofs.Contents.{strength-told, lasso-verdict-told, confirmation-told, inclusion-told, kind-told}
 use Rattle.packing_monitors.proofs.Contents.{moved-told, advanced-told}
 use Rattle.exports.specs.Exports.{Exported}
 use Rattle.exports.specs.BoardExports.{ExportedBoardCall, ExportedBoardEmpty, ExportedBoardEnter, ExportedBoardLeave, ExportedBoardEvent, ExportedBoardMark}
-use Rattle.unpacking.proofs.Limits.{Near, near-limit, refused-fits, at-zero, buffer-limited, rule-limited, checked-limited, second-limited, lasso-limited}
+use Rattle.unpacking.proofs.Limits.{Near, near-limit, refused-fits, at-zero, buffer-limited, rule-limited, checked-limited, second-limited, lasso-limited, log-limited}
 use Rattle.unpacking.proofs.Advances.{advance-fits, advance-held, advance-word-fits, advance-word-held}
 use Rattle.unpacking.proofs.AutomatonLimits.{translated-limited}
 use Rattle.unpacking.proofs.BoardGrades.{board-enter-fits, board-leave-fits, board-event-fits, board-mark-fits}
-use Rattle.unpacking.proofs.Monitors.{mark-fits, event-fits, keep-fits, return-fits}
+use Rattle.unpacking.proofs.Monitors.{feed-fits, mark-fits, event-fits, keep-fits, return-fits}
 
 -- a number below 2 to the power 16 alone
 one-fits : {a : ℕ} → a ≤ 65535 → FieldsFit a 0 0
@@ -115,6 +119,13 @@ monitor-limited bytes f entry =
     (λ _. limited-cons (λ place (a : MonitorValueOutOfRangeAt _ _ place). at-zero (a .is-place)) (λ _. limited-nil))
 
 -- classes
+inspected-fits : {bytes entry exit : List ℕ} (answer : Inspected) → InspectPromise bytes entry exit answer → Fits (inspectedContents answer)
+inspected-fits {bytes} {entry = entry} (Inspected-rule elements letters marks) p =
+    let good = called-good 1 bytes entry (p .refusal) in
+    let counts = p .values in
+    record { first = omega (arith, good .table .small, counts .elements-are); second = omega (arith, good .table .letters-small, counts .letters-are); third = omega (arith, counts .marks-are, good .marks-small) }
+inspected-fits {bytes} {entry = entry} (Inspected-refused r i place) p = refused-fits r (checked-limited bytes entry) (p .refusal)
+
 listed-fits : {bytes before after entry exit : List ℕ} (answer : Listed) → ListPromise bytes before after entry exit answer → Fits (listedContents answer)
 unfolding LinkedPairs Classes
 listed-fits {bytes} {entry = entry} (Counts linked classes joins) p =
@@ -269,6 +280,11 @@ mark-answer-fits : {bytes : List ℕ} {f : Monitor} {entry exit : List ℕ} (ans
 mark-answer-fits {bytes} {f} {entry} (To g) p = moved-fits (p .monitor) (mark-fits bytes f entry (p .refusal))
 mark-answer-fits {bytes} {f} {entry} (Not-moved g r i place) p = refused-fits r (monitor-limited bytes f entry) (p .refusal)
 
+feed-answer-fits : {bytes : List ℕ} {f : Monitor} {w entry exit : List ℕ} (answer : Moved) → FeedPromise bytes f w entry exit answer → Fits (movedContents answer)
+feed-answer-fits {bytes} {f} {w} {entry} (To g) p = moved-fits (p .monitor) (feed-fits bytes f entry w (p .refusal))
+feed-answer-fits {bytes} {f} {w} {entry} (Not-moved g r i place) p =
+    refused-fits r (limited-append (monitorChecks bytes f entry) (monitor-limited bytes f entry) (λ _. log-limited (lettersOf bytes) w)) (p .refusal)
+
 -- keep, return_to
 keep-answer-fits : {bytes : List ℕ} {f : Monitor} {name : ℕ} {points points-exit entry exit : List ℕ} (answer : Moved) → KeepPromise bytes f name points points-exit entry exit answer
     → Fits (movedContents answer)
@@ -377,6 +393,9 @@ module _ {bytes entry exit bytes′ entry′ exit′ : List ℕ} where
     pub mark-told : Told movedContents (MarkPromise bytes f entry exit) (MarkPromise bytes′ f entry′ exit′)
     mark-told = told mark-answer-fits mark-answer-fits (λ a b p q. moved-told f _ _ a b (p .monitor) (q .monitor))
 
+    pub feed-told : {w w′ : List ℕ} → Told movedContents (FeedPromise bytes f w entry exit) (FeedPromise bytes′ f w′ entry′ exit′)
+    feed-told = told feed-answer-fits feed-answer-fits (λ a b p q. moved-told f _ _ a b (p .monitor) (q .monitor))
+
     pub keep-told : {name name′ : ℕ} {points points-exit points′ points-exit′ : List ℕ}
         → Told movedContents (KeepPromise bytes f name points points-exit entry exit) (KeepPromise bytes′ f name′ points′ points-exit′ entry′ exit′)
     keep-told = told keep-answer-fits keep-answer-fits (λ a b p q. moved-told f _ _ a b (p .monitor) (q .monitor))
@@ -390,6 +409,9 @@ module _ {bytes entry exit bytes′ entry′ exit′ : List ℕ} where
 
     pub advance-word-told : {w w′ : List ℕ} → Told advancedContents (AdvanceWordPromise 1 bytes f w entry exit) (AdvanceWordPromise 1 bytes′ f w′ entry′ exit′)
     advance-word-told = told advance-word-fits advance-word-fits (λ a b p q. advanced-told f a b (advance-word-held a p) (advance-word-held b q))
+
+  pub inspect-told : Told inspectedContents (InspectPromise bytes entry exit) (InspectPromise bytes′ entry′ exit′)
+  inspect-told = told inspected-fits inspected-fits (λ a b p q. inspected-told a b)
 
   module _ {out out-exit out′ out-exit′ : List ℕ} where
     pub classes-told : Told listedContents (ListPromise bytes out out-exit entry exit) (ListPromise bytes′ out′ out-exit′ entry′ exit′)
