@@ -14,11 +14,11 @@ use Rattle.theory.specs.Rules.{Rule}
 use Rattle.theory.specs.Combined.{MorePairs}
 use Rattle.temporal.specs.Clamps.{MoreUntilClasses}
 use Rattle.temporal.specs.Nexts.{MoreNextClasses}
-use Rattle.temporal.specs.Formulas.{Formula, Means, constant, negation, until, eventually, always}
+use Rattle.temporal.specs.Formulas.{Formula, Means, constant, negation, until, always}
 use Rattle.formats.specs.RuleChecks.{ruleSize, scratchSize, bufferCheck}
 use Rattle.temporal_promises.specs.FirstLetter.{inSet, letterCountCheck, SmallestFor}
 use Rattle.temporal_promises.specs.Until.{untilClassesSize, PairGrades}
-use Rattle.formula_promises.specs.Operations.{One, op-not, op-next, op-eventually, op-always, Two, op-both, op-either, op-without, op-until, op-release, op-weak-until, Operation, push-set, push-constant, push-copy, on-one, on-two, codeAt, operandAt, setAt, operationAt, bytesOf, behind, asks, heightAfter, stackAfter}
+use Rattle.formula_promises.specs.Operations.{One, op-not, op-next, op-eventually, op-always, Two, op-both, op-either, op-without, op-until, op-release, op-weak-until, Operation, push-set, push-constant, push-copy, on-one, on-two, codeAt, operationAt, behind, asks, heightAfter, stackAfter}
 
 -- "`stack` has 9 · 16,404 bytes"; "a stack of at most 8 rules"; "more than 65,535 bytes"
 abbrev pub stackSize : ℕ

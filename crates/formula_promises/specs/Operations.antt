@@ -1,6 +1,5 @@
 -- The operations of a formula in postfix form, and the stack of formulas that they lead to. Assumes nothing.
 use Prim.Native.Nat.{ℕ, zero, suc, _+_, _-_, _*_, _≤_, min}
-use mathlib.Core.Path.{_≡_}
 use mathlib.Core.Bool.{Bool, cond}
 use mathlib.Core.List.{List, [], _∷_}
 use native.Mathlib.Omega.{arith}
@@ -114,7 +113,7 @@ below d [] = constant 0 (omega arith)
 below zero (f ∷ stack) = f
 below (suc d) (f ∷ stack) = below d stack
 
--- the stack after an operation: "the top is the second operand"; one that asks for more than there is, is refused, and changes nothing here
+-- the stack after an operation, whose second operand is the top; one that asks for more than there is, is refused, and changes nothing here
 unfoldable pub stackAfter : Operation → List Formula → List Formula
 stackAfter (push-set set grade) stack = firstLetter (inSet set) (min grade 3) (small grade) ∷ stack
 stackAfter (push-constant grade) stack = constant (min grade 3) (small grade) ∷ stack

@@ -57,17 +57,17 @@ use Rattle.promises.proofs.InPlaceAnswer as ToldT
 use Rattle.promises.proofs.InPlaceAnswer.Laws as ToldT′
 use Rattle.event_and_mark_call.proofs.event as event
 use Rattle.event_and_mark_call.proofs.event.Symbol as event-def
-use Rattle.event_and_mark_call.proofs.event.Symbol.{name as #monitor-moves·event}
+use Rattle.event_and_mark_call.proofs.event.Symbol.{name as #event-and-mark-call·event}
 use Rattle.event_and_mark_call.proofs.event.Met as event-thm
 use Rattle.event_in_place_call.proofs.since_of as since-of
 use Rattle.event_in_place_call.proofs.since_of.Symbol as since-of-def
-use Rattle.event_in_place_call.proofs.since_of.Symbol.{name as #monitor-lent·since-of}
+use Rattle.event_in_place_call.proofs.since_of.Symbol.{name as #event-in-place-call·since-of}
 use Rattle.event_in_place_call.proofs.since_of.Met as since-of-thm
 use Rattle.event_in_place_call.proofs.told_of as told-of
 use Rattle.event_in_place_call.proofs.told_of.Symbol as told-of-def
-use Rattle.event_in_place_call.proofs.told_of.Symbol.{name as #monitor-lent·told-of}
+use Rattle.event_in_place_call.proofs.told_of.Symbol.{name as #event-in-place-call·told-of}
 use Rattle.event_in_place_call.proofs.told_of.Met as told-of-thm
-use Rattle.event_in_place_call.proofs.event_in_place.Key.{name as #monitor-lent·event-in-place}
+use Rattle.event_in_place_call.proofs.event_in_place.Key.{name as #event-in-place-call·event-in-place}
 use Rattle.event_in_place_call.proofs.event_in_place as in-place
 use Rattle.event_in_place_call.proofs.event_in_place.Statement as stated
 use Rattle.event_in_place_call.proofs.event_in_place.Code as code
@@ -162,7 +162,7 @@ module _ {M : Type 1} (𝓤 : URA M) (H : Heap 𝓤) (A : Atoms 𝓤) (W : Given
       nothing ! $ move ! (4 ∷ 0 ∷ []) $ fjoin ! $ owned ! u8 (Is u8) (uint-makes 𝓤 H A W w8) n _ (refl, n-fits) $ fjoin ! $
       move ! (1 ∷ 2 ∷ []) $ feqI ! (List Val) (vptr b o ∷ []) (vptr b o ∷ []) refl $ fjoin3 ! $ fjoin ! $ move ! (1 ∷ 0 ∷ []) $ fjoin ! $ frame ! $ done !
 
-  module _ (C : Calls 𝓤 H) (Λ : Loops 𝓤 H) (fm : FmC 𝓤 H (W .laws) C) (known-event : Triple 𝓤 (C #monitor-moves·event) (Event 𝓤 H A at-mem run)) (known-since : Triple 𝓤 (C #monitor-lent·since-of) (SinceOf 𝓤 H A at-mem run)) (known-told : Triple 𝓤 (C #monitor-lent·told-of) (ToldOf 𝓤 H A at-mem run)) where
+  module _ (C : Calls 𝓤 H) (Λ : Loops 𝓤 H) (fm : FmC 𝓤 H (W .laws) C) (known-event : Triple 𝓤 (C #event-and-mark-call·event) (Event 𝓤 H A at-mem run)) (known-since : Triple 𝓤 (C #event-in-place-call·since-of) (SinceOf 𝓤 H A at-mem run)) (known-told : Triple 𝓤 (C #event-in-place-call·told-of) (ToldOf 𝓤 H A at-mem run)) where
     walk : Is (ShrSlice (named 0) κ₀ u8) rule (s ∷ []) → Is (MutSlice (named 2) κ₂ u8) scratch (t ∷ [])
         → ent 𝓤 (onEntry 𝓤 H A in-place.signature (κ₀, (κ₁, (κ₂, tt))) (q₀, (q₁, (q₂, tt))) a at) (WpFn 𝓤 H C Λ code.function (s ∷ vptr b o ∷ vint w8 n ∷ t ∷ []) Post)
     walk p p₂ =
@@ -212,7 +212,7 @@ module _ {M : Type 1} (𝓤 : URA M) (H : Heap 𝓤) (A : Atoms 𝓤) (W : Given
         keep ! (0 ∷ 1 ∷ 2 ∷ 4 ∷ 7 ∷ 5 ∷ 3 ∷ []) $ by ! (exits x (zs .1 .1 .1 .0) y u l (event-stored _ _ _ _ _ e e₁ e₂))))))))))))))))))))))))))))
 
 module _ {M : Type 1} (𝓤 : URA M) (H : Heap 𝓤) (A : Atoms 𝓤) (W : Given 𝓤 H A) (at-mem : Memory → SProp 𝓤) (run : Routine → Fun 𝓤) where
-  in-place-walks : (C : Calls 𝓤 H) (Λ : Loops 𝓤 H) → FmC 𝓤 H (W .laws) C → Triple 𝓤 (C #monitor-moves·event) (Event 𝓤 H A at-mem run) → Triple 𝓤 (C #monitor-lent·since-of) (SinceOf 𝓤 H A at-mem run) → Triple 𝓤 (C #monitor-lent·told-of) (ToldOf 𝓤 H A at-mem run)
+  in-place-walks : (C : Calls 𝓤 H) (Λ : Loops 𝓤 H) → FmC 𝓤 H (W .laws) C → Triple 𝓤 (C #event-and-mark-call·event) (Event 𝓤 H A at-mem run) → Triple 𝓤 (C #event-in-place-call·since-of) (SinceOf 𝓤 H A at-mem run) → Triple 𝓤 (C #event-in-place-call·told-of) (ToldOf 𝓤 H A at-mem run)
       → Walks 𝓤 H A in-place.ended stayed (WpFn 𝓤 H C Λ code.function) (in-place.clauses 𝓤 H A at-mem run)
   in-place-walks C Λ fm known-event known-since known-told = walked 𝓤 H A in-place.ended stayed (in-place.clauses 𝓤 H A at-mem run) (WpFn 𝓤 H C Λ code.function)
       (λ κs. (slice-vals, (ptr-vals, (uint-vals w8, (slice-vals, tt)))))
@@ -223,7 +223,7 @@ module _ {M : Type 1} (𝓤 : URA M) (H : Heap 𝓤) (A : Atoms 𝓤) (W : Given
   goes = (goes-none-slice 𝓤 H A W 3 (0 ∷ []) tt (plain (λ _. u8)) yes, (goes-ref 𝓤 H A W 3 1 tt (plain (λ _. T.the-row)), (goes-none 𝓤 H A W 3 (λ _. u8) yes (λ κs x f. refl), (goes-gave-slice 𝓤 H A W 3 2 tt (plain (λ _. u8)), tt))))
 
 in-place-meets : {M : Type 1} (𝓤 : URA M) (H : Heap 𝓤) (A : Atoms 𝓤) (W : Given 𝓤 H A) (at-mem : Memory → SProp 𝓤) (run : Routine → Fun 𝓤) (𝓣 : Tables 𝓤 H)
-    → Triple 𝓤 (𝓣 .C #monitor-moves·event) (Event 𝓤 H A at-mem run) → Triple 𝓤 (𝓣 .C #monitor-lent·since-of) (SinceOf 𝓤 H A at-mem run) → Triple 𝓤 (𝓣 .C #monitor-lent·told-of) (ToldOf 𝓤 H A at-mem run)
+    → Triple 𝓤 (𝓣 .C #event-and-mark-call·event) (Event 𝓤 H A at-mem run) → Triple 𝓤 (𝓣 .C #event-in-place-call·since-of) (SinceOf 𝓤 H A at-mem run) → Triple 𝓤 (𝓣 .C #event-in-place-call·told-of) (ToldOf 𝓤 H A at-mem run)
     → Meets 𝓤 H A in-place.signature (WpFn 𝓤 H (𝓣 .C) (𝓣 .Λ) code.function) (in-place.spec 𝓤 H A at-mem run)
 in-place-meets 𝓤 H A W at-mem run 𝓣 known-event known-since known-told =
     walk-meets 𝓤 H A in-place.ended stayed W (goes 𝓤 H A W at-mem run) (in-place.clauses 𝓤 H A at-mem run) (WpFn 𝓤 H (𝓣 .C) (𝓣 .Λ) code.function) (WpFn-mono 𝓤 H (W .laws) 𝓣 code.function)
@@ -233,8 +233,8 @@ pub event-in-place-spec : {M : Type 1} → stated.statement M
 unfolding code.routine tablesOf
 event-in-place-spec 𝓤 H 𝓜 𝓖 𝓡 =
     entered 𝓤 H (tripleOf 𝓤 H (𝓖 .A) in-place.signature (in-place.spec 𝓤 H (𝓖 .A) (𝓜 .mem) (𝓡 .run)))
-    (tables 𝓤 H 𝓜 𝓡 code.env .C) (tables 𝓤 H 𝓜 𝓡 code.env .Λ) #monitor-lent·event-in-place code.function (code.unfolded 𝓤 H 𝓜 𝓡)
+    (tables 𝓤 H 𝓜 𝓡 code.env .C) (tables 𝓤 H 𝓜 𝓡 code.env .Λ) #event-in-place-call·event-in-place code.function (code.unfolded 𝓤 H 𝓜 𝓡)
     (in-place-meets 𝓤 H (𝓖 .A) (givenOf 𝓤 H 𝓜 𝓖) (𝓜 .mem) (𝓡 .run) (tablesOf 𝓤 H 𝓜 (tables 𝓤 H 𝓜 𝓡 code.env))
-    (cited 𝓤 H (Event 𝓤 H (𝓖 .A) (𝓜 .mem) (𝓡 .run)) 𝓜 𝓡 code.env #monitor-moves·event event-def.routine code.calls-monitor-moves·event (event-thm.met 𝓤 H 𝓜 𝓖 𝓡))
-    (cited 𝓤 H (SinceOf 𝓤 H (𝓖 .A) (𝓜 .mem) (𝓡 .run)) 𝓜 𝓡 code.env #monitor-lent·since-of since-of-def.routine code.calls-monitor-lent·since-of (since-of-thm.met 𝓤 H 𝓜 𝓖 𝓡))
-    (cited 𝓤 H (ToldOf 𝓤 H (𝓖 .A) (𝓜 .mem) (𝓡 .run)) 𝓜 𝓡 code.env #monitor-lent·told-of told-of-def.routine code.calls-monitor-lent·told-of (told-of-thm.met 𝓤 H 𝓜 𝓖 𝓡)))
+    (cited 𝓤 H (Event 𝓤 H (𝓖 .A) (𝓜 .mem) (𝓡 .run)) 𝓜 𝓡 code.env #event-and-mark-call·event event-def.routine code.calls-event-and-mark-call·event (event-thm.met 𝓤 H 𝓜 𝓖 𝓡))
+    (cited 𝓤 H (SinceOf 𝓤 H (𝓖 .A) (𝓜 .mem) (𝓡 .run)) 𝓜 𝓡 code.env #event-in-place-call·since-of since-of-def.routine code.calls-event-in-place-call·since-of (since-of-thm.met 𝓤 H 𝓜 𝓖 𝓡))
+    (cited 𝓤 H (ToldOf 𝓤 H (𝓖 .A) (𝓜 .mem) (𝓡 .run)) 𝓜 𝓡 code.env #event-in-place-call·told-of told-of-def.routine code.calls-event-in-place-call·told-of (told-of-thm.met 𝓤 H 𝓜 𝓖 𝓡)))

@@ -56,7 +56,7 @@ use Rattle.promises.proofs.InPlaceAnswer as ToldT
 use Rattle.promises.proofs.InPlaceAnswer.Laws as ToldT′
 use Rattle.event_in_place_call.proofs.event_in_place as in-place
 use Rattle.event_in_place_call.proofs.event_in_place.Symbol as in-place-def
-use Rattle.event_in_place_call.proofs.event_in_place.Symbol.{name as #monitor-lent·event-in-place}
+use Rattle.event_in_place_call.proofs.event_in_place.Symbol.{name as #event-in-place-call·event-in-place}
 use Rattle.event_in_place_call.proofs.event_in_place.Met as in-place-thm
 use Rattle.run_lent_events.proofs.with_monitor as with-monitor
 use Rattle.run_lent_events.proofs.with_monitor.Symbol as with-monitor-def
@@ -150,7 +150,7 @@ module _ {M : Type 1} (𝓤 : URA M) (H : Heap 𝓤) (A : Atoms 𝓤) (W : Given
       owned ! T.the-row (Is T.the-row) ((LL.makes T.the-type T′.the-plain) 𝓤 H A) h _ was $ fjoin ! $ move ! (2 ∷ 0 ∷ []) $ fjoin ! $
       move ! (0 ∷ 2 ∷ []) $ join ! $ move ! (1 ∷ 0 ∷ []) $ join ! $ frame ! $ done !
 
-  module _ (C : Calls 𝓤 H) (Λ : Loops 𝓤 H) (fm : FmC 𝓤 H (W .laws) C) (known-in-place : Triple 𝓤 (C #monitor-lent·event-in-place) (InPlace 𝓤 H A at-mem run)) (known-with : Triple 𝓤 (C #run-lent-events·with-monitor) (With 𝓤 H A at-mem run)) where
+  module _ (C : Calls 𝓤 H) (Λ : Loops 𝓤 H) (fm : FmC 𝓤 H (W .laws) C) (known-in-place : Triple 𝓤 (C #event-in-place-call·event-in-place) (InPlace 𝓤 H A at-mem run)) (known-with : Triple 𝓤 (C #run-lent-events·with-monitor) (With 𝓤 H A at-mem run)) where
     walk : Is (ShrSlice (named 0) κ₀ u8) rule (s ∷ []) → Is T.the-row h (mach ∷ []) → Is (MutSlice (named 1) κ₁ u8) scratch (t ∷ [])
         → ent 𝓤 (onEntry 𝓤 H A lent.signature (κ₀, (κ₁, tt)) (q₀, (q₁, tt)) a at) (WpFn 𝓤 H C Λ code.function (s ∷ mach ∷ vint w8 n ∷ t ∷ []) Post)
     walk p was p₂ =
@@ -194,7 +194,7 @@ module _ {M : Type 1} (𝓤 : URA M) (H : Heap 𝓤) (A : Atoms 𝓤) (W : Given
         keep ! (2 ∷ 1 ∷ 5 ∷ 3 ∷ 0 ∷ []) $ by ! (exits (ws .1 .1 .1 .0) y u l was))))))))))))))))))))))))
 
 module _ {M : Type 1} (𝓤 : URA M) (H : Heap 𝓤) (A : Atoms 𝓤) (W : Given 𝓤 H A) (at-mem : Memory → SProp 𝓤) (run : Routine → Fun 𝓤) where
-  lent-walks : (C : Calls 𝓤 H) (Λ : Loops 𝓤 H) → FmC 𝓤 H (W .laws) C → Triple 𝓤 (C #monitor-lent·event-in-place) (InPlace 𝓤 H A at-mem run) → Triple 𝓤 (C #run-lent-events·with-monitor) (With 𝓤 H A at-mem run)
+  lent-walks : (C : Calls 𝓤 H) (Λ : Loops 𝓤 H) → FmC 𝓤 H (W .laws) C → Triple 𝓤 (C #event-in-place-call·event-in-place) (InPlace 𝓤 H A at-mem run) → Triple 𝓤 (C #run-lent-events·with-monitor) (With 𝓤 H A at-mem run)
       → Walks 𝓤 H A lent.ended stayed (WpFn 𝓤 H C Λ code.function) (lent.clauses 𝓤 H A at-mem run)
   lent-walks C Λ fm known-in-place known-with = walked 𝓤 H A lent.ended stayed (lent.clauses 𝓤 H A at-mem run) (WpFn 𝓤 H C Λ code.function)
       (λ κs. (slice-vals, (LL.vals T.the-type T′.the-laws, (uint-vals w8, (slice-vals, tt)))))
@@ -205,7 +205,7 @@ module _ {M : Type 1} (𝓤 : URA M) (H : Heap 𝓤) (A : Atoms 𝓤) (W : Given
   goes = (goes-none-slice 𝓤 H A W 2 (0 ∷ []) tt (plain (λ _. u8)) yes, (goes-none 𝓤 H A W 2 (λ _. T.the-row) yes (λ κs x f. refl), (goes-none 𝓤 H A W 2 (λ _. u8) yes (λ κs x f. refl), (goes-gave-slice 𝓤 H A W 2 1 tt (plain (λ _. u8)), tt))))
 
 lent-meets : {M : Type 1} (𝓤 : URA M) (H : Heap 𝓤) (A : Atoms 𝓤) (W : Given 𝓤 H A) (at-mem : Memory → SProp 𝓤) (run : Routine → Fun 𝓤) (𝓣 : Tables 𝓤 H)
-    → Triple 𝓤 (𝓣 .C #monitor-lent·event-in-place) (InPlace 𝓤 H A at-mem run) → Triple 𝓤 (𝓣 .C #run-lent-events·with-monitor) (With 𝓤 H A at-mem run)
+    → Triple 𝓤 (𝓣 .C #event-in-place-call·event-in-place) (InPlace 𝓤 H A at-mem run) → Triple 𝓤 (𝓣 .C #run-lent-events·with-monitor) (With 𝓤 H A at-mem run)
     → Meets 𝓤 H A lent.signature (WpFn 𝓤 H (𝓣 .C) (𝓣 .Λ) code.function) (lent.spec 𝓤 H A at-mem run)
 lent-meets 𝓤 H A W at-mem run 𝓣 known-in-place known-with =
     walk-meets 𝓤 H A lent.ended stayed W (goes 𝓤 H A W at-mem run) (lent.clauses 𝓤 H A at-mem run) (WpFn 𝓤 H (𝓣 .C) (𝓣 .Λ) code.function) (WpFn-mono 𝓤 H (W .laws) 𝓣 code.function)
@@ -217,5 +217,5 @@ lent-spec 𝓤 H 𝓜 𝓖 𝓡 =
     entered 𝓤 H (tripleOf 𝓤 H (𝓖 .A) lent.signature (lent.spec 𝓤 H (𝓖 .A) (𝓜 .mem) (𝓡 .run)))
     (tables 𝓤 H 𝓜 𝓡 code.env .C) (tables 𝓤 H 𝓜 𝓡 code.env .Λ) #run-lent-events·lent code.function (code.unfolded 𝓤 H 𝓜 𝓡)
     (lent-meets 𝓤 H (𝓖 .A) (givenOf 𝓤 H 𝓜 𝓖) (𝓜 .mem) (𝓡 .run) (tablesOf 𝓤 H 𝓜 (tables 𝓤 H 𝓜 𝓡 code.env))
-    (cited 𝓤 H (InPlace 𝓤 H (𝓖 .A) (𝓜 .mem) (𝓡 .run)) 𝓜 𝓡 code.env #monitor-lent·event-in-place in-place-def.routine code.calls-monitor-lent·event-in-place (in-place-thm.met 𝓤 H 𝓜 𝓖 𝓡))
+    (cited 𝓤 H (InPlace 𝓤 H (𝓖 .A) (𝓜 .mem) (𝓡 .run)) 𝓜 𝓡 code.env #event-in-place-call·event-in-place in-place-def.routine code.calls-event-in-place-call·event-in-place (in-place-thm.met 𝓤 H 𝓜 𝓖 𝓡))
     (cited 𝓤 H (With 𝓤 H (𝓖 .A) (𝓜 .mem) (𝓡 .run)) 𝓜 𝓡 code.env #run-lent-events·with-monitor with-monitor-def.routine code.calls-run-lent-events·with-monitor (with-monitor-thm.met 𝓤 H 𝓜 𝓖 𝓡)))
