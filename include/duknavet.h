@@ -65,7 +65,7 @@ extern "C" {
 /* The most letters that u or v of a lasso may have; the fewest is 0 for u and 1 for v. */
 #define DUKNAVET_WORD 4224
 
-/* The most letters that the word of duknavet_advance_word may have; the fewest is 0. */
+/* The most letters that the word of duknavet_feed or duknavet_advance_word may have; the fewest is 0. */
 #define DUKNAVET_LOG 16777216
 
 /* The highest limit of reduce_rounds. */
@@ -108,7 +108,8 @@ enum duknavet_refusal {
     DUKNAVET_LIMIT_OUT_OF_RANGE = 20,  /* a limit of rounds is above 64: 0 */
     DUKNAVET_NAME_NOT_FREE = 21,       /* a rule would enter under a name above 7 or taken: 0 */
     DUKNAVET_NAME_NOT_PRESENT = 22,    /* no rule is present under the name that would leave: 0 */
-    DUKNAVET_TOO_MANY_CLASSES = 23     /* the rule of next or until would have more than 64 elements: 0 */
+    DUKNAVET_TOO_MANY_CLASSES = 23,    /* the rule of next or until would have more than 64 elements: 0 */
+    DUKNAVET_UNBALANCED_FORMULA = 24   /* a formula in postfix form does not leave one rule: the byte of the operation, or the formula's length */
 };
 
 /* The refusal of an answer; DUKNAVET_RESULT where it is a result. */
@@ -136,6 +137,10 @@ static inline size_t duknavet_field(uint64_t answer, unsigned field)
     return (size_t)((answer >> (16 * (field + 1))) & 65535);
 }
 
+/* Field 0: the elements of the rule, 1 to 64. Field 1: its letters, 1 to 16. Field 2: its marks, 0 to 4096. */
+uint64_t duknavet_inspect(const uint8_t *rule, size_t rule_length,
+                          uint8_t *scratch, size_t scratch_length);
+
 /* The conjugacy classes of the rule's linked pairs. Field 0: the linked pairs; 1: their classes; 2: the joins, which are the
  * first less the second. out (DUKNAVET_CLASSES) gets two bytes, low byte first, for each pair (s, e), from byte
  * 2 * (s * n + e) on: the least t * n + f with (t, f) conjugate to it, or 65535 where it is not linked; 2 * n * n in all. */
@@ -153,6 +158,12 @@ uint64_t duknavet_member(const uint8_t *rule, size_t rule_length,
                          const uint8_t *u, size_t u_length,
                          const uint8_t *v, size_t v_length,
                          uint8_t *scratch, size_t scratch_length);
+
+/* What is left to read of u, then v for ever, at a position. Field 0: 1 where it lies in u, 2 where it lies in v. Field 1: where it begins there. Field 2:
+ * how many letters it has, to the end of u or of v. Fields 1, 0 and 0 where duknavet_member refuses a length. Never refuses. */
+uint64_t duknavet_stretch(const uint8_t *u, size_t u_length,
+                          const uint8_t *v, size_t v_length,
+                          size_t position);
 
 /* The complement of a strong rule: the same elements, and the grade 3 - g for each lasso of grade g. It marks every linked pair
  * whose lassos it grades 1 or more, with that grade. Field 0: how many bytes of out (DUKNAVET_RULE) it has. */
@@ -276,7 +287,7 @@ uint64_t duknavet_automaton_rule(const uint8_t *automaton, size_t automaton_leng
                                  uint8_t *scratch, size_t scratch_length);
 
 /* Monitors: before is the value of the letters before the last mark, since of those after it, each an element or
- * DUKNAVET_NONE. A refused event, mark, keep, return or advance leaves the monitor as the caller has it. */
+ * DUKNAVET_NONE. A refused event, mark, feed, keep, return or advance leaves the monitor as the caller has it. */
 
 /* Field 0 and 1: before and since of a monitor that has seen nothing. Never refuses. */
 uint64_t duknavet_fresh(void);
@@ -289,6 +300,13 @@ uint64_t duknavet_event(const uint8_t *rule, size_t rule_length,
 /* Field 0 and 1: before and since after a mark, which changes nothing where since is DUKNAVET_NONE. The rule may be weak. */
 uint64_t duknavet_mark(const uint8_t *rule, size_t rule_length,
                        size_t before, size_t since,
+                       uint8_t *scratch, size_t scratch_length);
+
+/* Field 0 and 1: before and since after a word of 0 to DUKNAVET_LOG events, a byte a letter: what duknavet_event for each letter in turn comes to, from one
+ * check. Its 10 has the position of the first letter that the rule does not have, and the word then moves nothing. The rule may be weak. */
+uint64_t duknavet_feed(const uint8_t *rule, size_t rule_length,
+                       size_t before, size_t since,
+                       const uint8_t *word, size_t word_length,
                        uint8_t *scratch, size_t scratch_length);
 
 /* Keeps the monitor under a name, 0 to 7, in place of what the name held. Field 0 and 1: before and since, as they came. points

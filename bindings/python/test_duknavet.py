@@ -229,7 +229,7 @@ class Calls(unittest.TestCase):
         found = {number: kind for number, kind in duknavet.KINDS.items() if number > 14}
         points = {15: "NameOutOfRange", 16: "NameNeverKept"}
         later = {17: "NoSuchState", 18: "LettersDiffer", 19: "TooManyPairs", 20: "LimitOutOfRange"}
-        names = {21: "NameNotFree", 22: "NameNotPresent", 23: "TooManyClasses"}
+        names = {21: "NameNotFree", 22: "NameNotPresent", 23: "TooManyClasses", 24: "UnbalancedFormula"}
         self.assertEqual(found, {**points, **later, **names})
         with self.assertRaises(Refused) as caught:
             duknavet.successors(Z, 0, 1, 0)
@@ -288,6 +288,27 @@ class Calls(unittest.TestCase):
         self.assertEqual(flips.verdict().turns, 2)
         self.assertEqual(flips.advance_word(bytes(duknavet.LOG)).turns, 2)
         self.refused(11, 1, 0, flips.advance_word, bytes(duknavet.LOG + 1))
+
+    def test_feed(self):
+        monitor = Monitor(Z)
+        monitor.feed(b"")
+        self.assertEqual((monitor.before, monitor.since), (duknavet.NONE, duknavet.NONE))
+        monitor.feed(word(0, 1, 0))
+        fed = (monitor.before, monitor.since)
+        letters = Monitor(Z)
+        for letter in (0, 1, 0):
+            letters.event(letter)
+        self.assertEqual(fed, (letters.before, letters.since))
+        self.refused(10, 1, 1, monitor.feed, word(0, 7, 9))
+        self.refused(11, 1, 0, monitor.feed, bytes(duknavet.LOG + 1))
+        self.assertEqual((monitor.before, monitor.since), fed)
+
+    def test_counts_and_stretches(self):
+        self.assertEqual(duknavet.inspect(W), (W[0], 2, 1))
+        self.refused(1, 1, len(W) - 1, duknavet.inspect, W[:-1])
+        self.assertEqual(duknavet.stretch(word(0, 1, 0), word(1, 0), 1), word(1, 0))
+        self.assertEqual(duknavet.stretch(word(0, 1, 0), word(1, 0), 6), word(0))
+        self.assertEqual(duknavet.stretch(word(0, 1, 0), b"", 6), b"")
 
     def test_rules(self):
         rule = Rule.from_bytes(THREE_GRADES)

@@ -63,6 +63,7 @@ KINDS = {
     21: "NameNotFree",
     22: "NameNotPresent",
     23: "TooManyClasses",
+    24: "UnbalancedFormula",
 }
 
 
@@ -185,6 +186,9 @@ def _load() -> ctypes.CDLL:
         "advance_mark": lent + [size, size] + written,
         "advance_stay": lent + [size, size] + written,
         "advance_word": lent + [size, size] + lent + written,
+        "feed": lent + [size, size] + lent + written,
+        "inspect": lent + written,
+        "stretch": lent + lent + [size],
         "board_empty": written,
         "board_enter": written + [size] + lent + written + written,
         "board_leave": written + [size] + lent + written,
@@ -210,7 +214,7 @@ def _call(name: str, *arguments) -> Tuple[int, int, int]:
         handed.append(argument)
         if not isinstance(argument, int):
             handed.append(len(argument))
-    if name not in ("fresh", "board_empty", "first_letter", "constant"):
+    if name not in ("fresh", "board_empty", "first_letter", "constant", "stretch"):
         handed += [ctypes.create_string_buffer(SCRATCH), SCRATCH]
     answer = getattr(_library, f"duknavet_{name}")(*handed)
     if answer & 255:
@@ -241,6 +245,25 @@ def member(rule: bytes, u: bytes, v: bytes) -> Graded:
     """The grade of u, then v for ever, and the turns of v."""
     grade, turns, _ = _call("member", rule, u, v)
     return Graded(grade, turns)
+
+
+class Counts(NamedTuple):
+    """How many elements, letters and marks a rule file has."""
+
+    elements: int
+    letters: int
+    marks: int
+
+
+def inspect(rule: bytes) -> Counts:
+    """The counts of a rule file that passes every check."""
+    return Counts(*_call("inspect", rule))
+
+
+def stretch(u: bytes, v: bytes, position: int) -> bytes:
+    """What is left to read of u, then v for ever, at a position: to the end of u, or of v. Empty where `member` refuses a length."""
+    word, start, letters = _call("stretch", u, v, _size(position, "a position"))
+    return bytes((u if word == 1 else v)[start : start + letters])
 
 
 def classes(rule: bytes) -> Classes:
@@ -367,6 +390,10 @@ class Monitor:
     def mark(self) -> None:
         """What came since now counts as before."""
         self._move("mark")
+
+    def feed(self, word: bytes) -> None:
+        """A letter for each byte of a word of at most LOG, from one check of the rule; where one is foreign nothing moves."""
+        self._move("feed", bytes(word))
 
     def keep(self, name: int) -> None:
         """Keeps this moment under a name, 0 to 7."""

@@ -58,6 +58,8 @@ pub enum Refusal {
     NameNotPresent = 22,
     /// The rule of [`next`](crate::next) or [`until`](crate::until) would have more than 64 elements.
     TooManyClasses = 23,
+    /// A formula in postfix form lacks operands, has more than eight rules at once, or does not end with exactly one.
+    UnbalancedFormula = 24,
 }
 
 impl Refusal {
@@ -93,6 +95,7 @@ impl Refusal {
             Refusal::NameNotFree => "the name is above 7 or taken",
             Refusal::NameNotPresent => "no rule is present under the name",
             Refusal::TooManyClasses => "the rule would have more than 64 elements",
+            Refusal::UnbalancedFormula => "the formula's operations do not leave one rule",
         }
     }
 
@@ -121,6 +124,7 @@ impl Refusal {
             21 => Refusal::NameNotFree,
             22 => Refusal::NameNotPresent,
             23 => Refusal::TooManyClasses,
+            24 => Refusal::UnbalancedFormula,
             _ => return None,
         })
     }

@@ -1,6 +1,6 @@
 //! The grade of a lasso.
 
-use crate::answer::unpack_graded;
+use crate::answer::{foreign, unpack, unpack_graded};
 use crate::{raw, Refused};
 
 /// The grade that a rule gives to a lasso, and how many turns settle its cycle.
@@ -33,4 +33,43 @@ pub struct Membership {
 pub fn member(rule: &[u8], u: &[u8], v: &[u8], scratch: &mut [u8]) -> Result<Membership, Refused> {
     let (grade, turns) = unpack_graded(raw::member(rule, u, v, scratch))?;
     Ok(Membership { grade, turns })
+}
+
+/// The part of a lasso's word that is left to read at a position.
+#[derive(Clone, Copy, Debug, PartialEq, Eq, Hash)]
+pub enum Stretch {
+    /// Letters of u, to its end.
+    Start {
+        /// Where they begin in u.
+        from: usize,
+        /// How many they are.
+        letters: usize,
+    },
+    /// Letters of v, to its end.
+    Cycle {
+        /// Where they begin in v.
+        from: usize,
+        /// How many they are.
+        letters: usize,
+    },
+}
+
+/// What is left of `u` at a position of the endless word, or of the turn of `v` that the position lies in.
+///
+/// Of words whose lengths [`member`] refuses nothing is left: the empty part at the beginning of `u`.
+///
+/// ```
+/// use duknavet::{stretch, Stretch};
+///
+/// assert_eq!(stretch(&[0, 1, 0], &[1, 1], 1), Stretch::Start { from: 1, letters: 2 });
+/// assert_eq!(stretch(&[0, 1, 0], &[1, 1], 6), Stretch::Cycle { from: 1, letters: 1 });
+/// assert_eq!(stretch(&[0, 1, 0], &[], 6), Stretch::Start { from: 0, letters: 0 });
+/// ```
+pub fn stretch(u: &[u8], v: &[u8], position: usize) -> Stretch {
+    let packed = raw::stretch(u, v, position);
+    match unpack(packed) {
+        Ok([1, from, letters]) if from + letters <= u.len() => Stretch::Start { from, letters },
+        Ok([2, from, letters]) if from + letters <= v.len() => Stretch::Cycle { from, letters },
+        _ => foreign(packed, "a stretch is a part of u or of v"),
+    }
 }

@@ -75,6 +75,21 @@ pub fn mark(rule: &[u8], monitor: Monitor, scratch: &mut [u8]) -> Result<Monitor
     moved(monitor, packed)
 }
 
+/// The monitor after an event for each letter of a word, from one check of the rule: what [`event`] for each letter in turn comes to. The rule
+/// may be weak.
+///
+/// The word has 0 to [`LOG`](crate::LOG) letters; an empty one changes nothing. Where the rule lacks one of them, the word is refused at the
+/// first such letter's position, and moves nothing.
+pub fn feed(
+    rule: &[u8],
+    monitor: Monitor,
+    word: &[u8],
+    scratch: &mut [u8],
+) -> Result<Monitor, NotMoved> {
+    let packed = raw::feed(rule, monitor.before, monitor.since, word, scratch);
+    moved(monitor, packed)
+}
+
 /// Keeps the monitor under a name from 0 to 7 in `points`, in place of what the name held, and hands it back.
 ///
 /// `points` has [`POINTS`](crate::POINTS) bytes or more, zeros at first: three for each name, whether it was kept, `before` and `since`.

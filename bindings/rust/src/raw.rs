@@ -34,14 +34,17 @@ macro_rules! exported {
 }
 
 exported! {
+    inspect = duknavet_inspect(rule: &[u8], scratch: &mut [u8]);
     classes = duknavet_classes(rule: &[u8], out: &mut [u8], scratch: &mut [u8]);
     strong = duknavet_strong(rule: &[u8], scratch: &mut [u8]);
     member = duknavet_member(rule: &[u8], u: &[u8], v: &[u8], scratch: &mut [u8]);
+    stretch = duknavet_stretch(u: &[u8], v: &[u8], position: usize);
     complement = duknavet_complement(rule: &[u8], out: &mut [u8], scratch: &mut [u8]);
     included = duknavet_included(rule: &[u8], second: &[u8], u: &mut [u8], v: &mut [u8], scratch: &mut [u8]);
     fresh = duknavet_fresh();
     event = duknavet_event(rule: &[u8], before: usize, since: usize, letter: u8, scratch: &mut [u8]);
     mark = duknavet_mark(rule: &[u8], before: usize, since: usize, scratch: &mut [u8]);
+    feed = duknavet_feed(rule: &[u8], before: usize, since: usize, word: &[u8], scratch: &mut [u8]);
     keep = duknavet_keep(rule: &[u8], before: usize, since: usize, name: usize, points: &mut [u8], scratch: &mut [u8]);
     return_to = duknavet_return(rule: &[u8], before: usize, since: usize, name: usize, points: &[u8], scratch: &mut [u8]);
     verdict = duknavet_verdict(rule: &[u8], before: usize, since: usize, scratch: &mut [u8]);

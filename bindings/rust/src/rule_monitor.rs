@@ -92,6 +92,17 @@ impl RuleMonitor {
             .map_err(|refused| explain(refused, Asked::Rule(&self.rule)))
     }
 
+    /// An event for each letter of a word, from one check of the rule; where the rule lacks one of them nothing moves.
+    pub fn feed<'a>(&'a mut self, word: &'a [u8]) -> Result<(), Explained> {
+        match crate::feed(&self.rule, self.monitor, word, &mut self.scratch) {
+            Ok(monitor) => {
+                self.monitor = monitor;
+                Ok(())
+            }
+            Err(not_moved) => Err(explain(not_moved.refused, Asked::Events { rule: &self.rule, word })),
+        }
+    }
+
     /// An event, and the verdict then.
     pub fn advance_event(&mut self, letter: u8) -> Result<Option<Verdict>, Explained> {
         let advanced = crate::advance_event(&self.rule, self.monitor, letter, &mut self.scratch);

@@ -2,7 +2,7 @@
 //! of cycles.
 
 use duknavet::words::Explained;
-use duknavet::{advance_event, advance_mark, advance_stay, advance_word};
+use duknavet::{advance_event, advance_mark, advance_stay, advance_word, feed};
 use duknavet::{automaton_rule, classes, combine, complement, confirm, event, fresh, included};
 use duknavet::{constant, first_letter, next, owned, until, UNTIL_CLASSES};
 use duknavet::{keep, mark, member, reduce, reduce_rounds, return_to, state_kind, strong};
@@ -286,6 +286,31 @@ fn advanced_by_steps_and_words() {
     assert_eq!(Err::<(), _>(weak.refused), refused(12, 1, 0));
     let order_two = advance_word(&Z_ONE_LETTER, fresh(), &[0, 0, 0], scratch).expect("strong");
     assert_eq!(order_two.verdict.map(|verdict| verdict.turns), Some(2));
+}
+
+#[test]
+fn fed() {
+    let scratch = &mut scratch();
+    // Z is weak: a word may be fed to its monitor all the same.
+    let fed = feed(&Z, fresh(), &[0, 1, 0], scratch).expect("letters of Z");
+    let by_letters = [0, 1, 0].iter().try_fold(fresh(), |monitor, letter| {
+        event(&Z, monitor, *letter, scratch)
+    });
+    assert_eq!(Ok(fed), by_letters);
+    assert_eq!(feed(&Z, fed, &[], scratch), Ok(fed));
+    let foreign = feed(&Z, fed, &[0, 7, 9], scratch).expect_err("no letter of Z");
+    assert_eq!(foreign.monitor, fed);
+    assert_eq!(Err::<(), _>(foreign.refused), refused(10, 1, 1));
+    let long = feed(&Z, fed, &vec![0; LOG + 1], scratch).expect_err("one letter too many");
+    assert_eq!(Err::<(), _>(long.refused), refused(11, 1, 0));
+    let mut watched = RuleMonitor::new(&Z);
+    watched.feed(&[0, 1, 0]).expect("letters of Z");
+    assert_eq!(watched.monitor(), fed);
+    let foreign = watched.feed(&[0, 7]).expect_err("no letter of Z").words;
+    assert_eq!(
+        foreign,
+        "letter 7 at position 1 of the word: the rule has 2 letters"
+    );
 }
 
 #[test]

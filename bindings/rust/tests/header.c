@@ -293,6 +293,14 @@ int main(void)
     expect("fresh", is_result(duknavet_fresh(), DUKNAVET_NONE, DUKNAVET_NONE, 0));
     expect("event", is_result(duknavet_event(rule, sizeof rule, 0, 1, 1, scratch, sizeof scratch), 0, 1, 0));
     expect("mark", is_result(duknavet_mark(rule, sizeof rule, DUKNAVET_NONE, 1, scratch, sizeof scratch), 1, DUKNAVET_NONE, 0));
+    expect("feed", is_result(duknavet_feed(rule, sizeof rule, 1, 1, letter, 2, scratch, sizeof scratch), 1, 0, 0));
+    answer = duknavet_feed(rule, sizeof rule, 1, 1, letter, 3, scratch, sizeof scratch);
+    expect("feed, foreign", duknavet_refusal_of(answer) == DUKNAVET_UNKNOWN_LETTER && duknavet_input_of(answer) == 1 &&
+                                duknavet_place_of(answer) == 2);
+    expect("inspect", is_result(duknavet_inspect(rule, sizeof rule, scratch, sizeof scratch), 2, 2, 1));
+    expect("stretch of u", is_result(duknavet_stretch(letter, 3, letter, 2, 1), 1, 1, 2));
+    expect("stretch of v", is_result(duknavet_stretch(letter, 3, letter, 2, 6), 2, 1, 1));
+    expect("no stretch", is_result(duknavet_stretch(letter, 3, letter, 0, 6), 1, 0, 0));
     expect("keep", is_result(duknavet_keep(rule, sizeof rule, 0, 1, 7, points, sizeof points, scratch, sizeof scratch), 0, 1, 0));
     expect("kept", points[21] == 1 && points[22] == 0 && points[23] == 1);
     answer = duknavet_return(rule, sizeof rule, 1, DUKNAVET_NONE, 7, points, sizeof points, scratch, sizeof scratch);

@@ -2,6 +2,8 @@
 
 use std::ops::Range;
 
+use crate::Stretch;
+
 /// A lasso: u, then v for ever.
 #[derive(Clone, Debug, Default, PartialEq, Eq, Hash)]
 pub struct Lasso {
@@ -34,12 +36,9 @@ impl Lasso {
     /// position less the length of u, modulo the length of v. Empty where v has no letter, or u or v more than
     /// [`WORD`](crate::WORD).
     pub fn stretch(&self, position: usize) -> &[u8] {
-        if self.v.is_empty() || self.v.len() > crate::WORD || self.u.len() > crate::WORD {
-            return &[];
-        }
-        match position.checked_sub(self.u.len()) {
-            None => &self.u[position..],
-            Some(past) => &self.v[past % self.v.len()..],
+        match crate::stretch(&self.u, &self.v, position) {
+            Stretch::Start { from, letters } => &self.u[from..from + letters],
+            Stretch::Cycle { from, letters } => &self.v[from..from + letters],
         }
     }
 }

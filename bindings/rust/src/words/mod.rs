@@ -163,7 +163,7 @@ fn in_words(refused: Refused, asked: Asked<'_>) -> Option<String> {
         Refusal::LettersDiffer => return two_rules::letters_differ(asked),
         Refusal::TooManyPairs => return two_rules::too_many_pairs(asked),
         Refusal::TooManyClasses => return Some(too_many_classes(asked)),
-        Refusal::BufferTooShort | Refusal::TooManyMatrices => return None,
+        Refusal::BufferTooShort | Refusal::TooManyMatrices | Refusal::UnbalancedFormula => return None,
         // Byte 0 of a file is a count: the entry is the one that was handed over beside it.
         Refusal::EntryOutOfRange if place == 0 => {
             if let Asked::Kind { least, .. } = asked {

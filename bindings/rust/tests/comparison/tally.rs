@@ -45,7 +45,7 @@ type Refusals = (&'static str, &'static [(u8, &'static [u8])]);
 
 /// Which refusals each call can answer, with their inputs: every number that applies to it.
 /// A rule's checks are 1 to 8; a second marks section has no table and no letters, so not 5 and 6.
-const REFUSALS: [Refusals; 29] = [
+const REFUSALS: [Refusals; 31] = [
     ("classes", &[(1, &[1, 2, 3, 4, 5, 6, 7, 8, 13])]),
     ("strong", &[(1, &[1, 2, 3, 4, 5, 6, 7, 8, 13])]),
     (
@@ -59,6 +59,8 @@ const REFUSALS: [Refusals; 29] = [
     ),
     ("event", &[(1, &[1, 2, 3, 4, 5, 6, 7, 8, 10, 13])]),
     ("mark", &[(1, &[1, 2, 3, 4, 5, 6, 7, 8, 13])]),
+    ("feed", &[(1, &[1, 2, 3, 4, 5, 6, 7, 8, 10, 11, 13])]),
+    ("inspect", &[(1, &[1, 2, 3, 4, 5, 6, 7, 8, 13])]),
     ("verdict", &[(1, &[1, 2, 3, 4, 5, 6, 7, 8, 11, 12, 13])]),
     (
         "advance_event",
@@ -141,7 +143,7 @@ const fn board(name: &'static [u8], first: &'static [u8]) -> [(u8, &'static [u8]
 }
 
 /// Outcomes that must occur at least so often.
-const LEAST: [(&str, &str, u64); 242] = [
+const LEAST: [(&str, &str, u64); 249] = [
     ("classes", "counts", 1000),
     ("strong", "weak", 100),
     ("strong", "strong, marks closed", 1000),
@@ -228,6 +230,13 @@ const LEAST: [(&str, &str, u64); 242] = [
     ("advance_word", "nothing since", 50),
     ("advance_mark", "a monitor's value refused", 10),
     ("advance_word", "as letter by letter", 100),
+    ("feed", "moved", 100),
+    ("feed", "as letter by letter", 100),
+    ("feed", "a monitor's value refused", 10),
+    ("inspect", "counted", 100),
+    ("stretch", "of u", 100),
+    ("stretch", "of v", 100),
+    ("stretch", "nothing left", 10),
     ("monitor", "histories", 1000),
     ("monitor", "verdicts on histories", 100),
     ("monitor", "verdicts without a mark", 50),
@@ -401,7 +410,7 @@ pub fn faults(tally: &Tally) -> Vec<String> {
     }
     for (call, inputs) in REFUSALS {
         for input in 0..=7 {
-            for number in 1..=23 {
+            for number in 1..=24 {
                 let here = |(i, numbers): &(u8, &[u8])| *i == input && numbers.contains(&number);
                 let applies = inputs.iter().any(here);
                 let occurred = tally.get(call, &refusal(number, input)) > 0;

@@ -42,7 +42,7 @@ fn ask(
 }
 
 /// The value of since after some letters; the first that the rule lacks is refused at its position.
-fn heard(m: &Morphism, since: usize, word: &[u8]) -> Result<usize, Refusal> {
+pub(super) fn heard(m: &Morphism, since: usize, word: &[u8]) -> Result<usize, Refusal> {
     if let Some(place) = word
         .iter()
         .position(|letter| *letter as usize >= m.letters())
@@ -82,6 +82,9 @@ impl Comparison {
         step: Step,
         sizes: [usize; 1],
     ) -> Option<Monitor> {
+        if let Step::Word(word) = step {
+            self.feed(subject, monitor, word, sizes);
+        }
         let call = step.call();
         let [mut scratch] = self.lend(sizes);
         let answer = ask(&subject.bytes, monitor, step, scratch.slice());
@@ -126,6 +129,15 @@ impl Comparison {
         }
         let last = one.and_then(|m| self.advance(subject, m, Step::Stay, MONITOR_SIZES));
         assert_eq!(whole, last, "a word and its letters from {monitor:?}");
+        let fed = self.feed(subject, monitor, word, MONITOR_SIZES);
+        let mut one = Some(monitor);
+        for letter in word {
+            one = one.and_then(|m| self.event(subject, m, *letter, MONITOR_SIZES));
+        }
+        if let (Some(fed), Some(one)) = (fed, one) {
+            assert_eq!(fed, one, "a word that is fed and its letters from {monitor:?}");
+            self.tally.count("feed", "as letter by letter");
+        }
         if whole.is_some() {
             self.tally.count("advance_word", "as letter by letter");
         }

@@ -6,12 +6,34 @@ use crate::definitions::checks::{self, Refusal};
 use crate::definitions::rule::GRADES;
 use crate::definitions::settling::turns;
 use crate::subject::Subject;
-use duknavet::SCRATCH;
+use duknavet::{Stretch, SCRATCH, WORD};
 
 pub const MEMBER_SIZES: [usize; 1] = [SCRATCH];
 
 impl Comparison {
+    /// What is left to read at a position, by the letters of the endless word from there to the end of its part.
+    pub fn stretch(&mut self, u: &[u8], v: &[u8], position: usize) {
+        let fits = (0..=WORD).contains(&u.len()) && (1..=WORD).contains(&v.len());
+        let (expected, outcome) = match (fits, position < u.len()) {
+            (false, _) => ((1, 0, 0), "nothing left"),
+            (true, true) => ((1, position, u.len() - position), "of u"),
+            (true, false) => {
+                let turns = (position - u.len()) / v.len();
+                let from = position - u.len() - turns * v.len();
+                ((2, from, v.len() - from), "of v")
+            }
+        };
+        let found = match duknavet::stretch(u, v, position) {
+            Stretch::Start { from, letters } => (1, from, letters),
+            Stretch::Cycle { from, letters } => (2, from, letters),
+        };
+        assert_eq!(found, expected, "{position} of {u:?}, then {v:?}");
+        self.tally.count("stretch", outcome);
+    }
+
     pub fn member(&mut self, subject: &Subject, u: &[u8], v: &[u8], sizes: [usize; 1]) {
+        let position = self.random.within(0, 2 * (u.len() + v.len()) + 3);
+        self.stretch(u, v, position);
         let [mut scratch] = self.lend(sizes);
         let answer = duknavet::member(&subject.bytes, u, v, scratch.slice());
         let read = || -> Result<_, Refusal> {

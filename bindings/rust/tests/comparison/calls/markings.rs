@@ -47,7 +47,25 @@ impl Comparison {
         self.tally.count("classes", "counts");
     }
 
+    /// The counts of a rule file.
+    pub fn inspect(&mut self, subject: &Subject, sizes: [usize; 1]) {
+        let [mut scratch] = self.lend(sizes);
+        let answer = duknavet::inspect(&subject.bytes, scratch.slice());
+        let expected = lengths(sizes, STRONG_SIZES).and(subject.read.as_ref().map_err(|r| *r));
+        let expected = expected.map(|known| {
+            let m = known.morphism();
+            (m.n, m.letters(), known.rule.marks.len())
+        });
+        let inputs: [&[u8]; 1] = [&subject.bytes];
+        let found = self.agreed("inspect", &inputs, answer, expected, (&[], &scratch));
+        let Some((counts, expected)) = found else { return };
+        let counted = (counts.elements, counts.letters, counts.marks);
+        assert_eq!(counted, expected, "counts of {inputs:?}");
+        self.tally.count("inspect", "counted");
+    }
+
     pub fn strong(&mut self, subject: &Subject, sizes: [usize; 1]) {
+        self.inspect(subject, sizes);
         let [mut scratch] = self.lend(sizes);
         let answer = duknavet::strong(&subject.bytes, scratch.slice());
         let expected = lengths(sizes, STRONG_SIZES).and(subject.read.as_ref().map_err(|r| *r));

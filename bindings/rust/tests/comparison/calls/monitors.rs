@@ -1,5 +1,6 @@
 //! Events, marks and verdicts of a monitor.
 
+use super::advances::heard;
 use super::markings::outcomes;
 use super::{lengths, Comparison};
 use crate::definitions::acceptance::grade;
@@ -7,7 +8,7 @@ use crate::definitions::checks::{self, Refusal};
 use crate::definitions::settling::turns;
 use crate::lending::Lent;
 use crate::subject::{Known, Subject};
-use duknavet::{Monitor, NotMoved, Refused, NONE, SCRATCH};
+use duknavet::{Monitor, NotMoved, Refused, LOG, NONE, SCRATCH};
 
 pub const MONITOR_SIZES: [usize; 1] = [SCRATCH];
 
@@ -55,6 +56,31 @@ impl Comparison {
             Ok((before, since as usize))
         };
         self.moved("event", subject, unmoved(answer, monitor), read(), &scratch)
+    }
+
+    /// The monitor after a word of events.
+    pub fn feed(
+        &mut self,
+        subject: &Subject,
+        monitor: Monitor,
+        word: &[u8],
+        sizes: [usize; 1],
+    ) -> Option<Monitor> {
+        let [mut scratch] = self.lend(sizes);
+        let answer = duknavet::feed(&subject.bytes, monitor, word, scratch.slice());
+        let Monitor { before, since } = monitor;
+        let read = || -> Result<_, Refusal> {
+            lengths(sizes, MONITOR_SIZES)?;
+            let known = subject.read.as_ref().map_err(|refusal| *refusal)?;
+            checks::monitor(known.morphism(), before, since)?;
+            if word.len() > LOG {
+                return Err((11, 1, 0));
+            }
+            Ok((before, heard(known.morphism(), since, word)?))
+        };
+        let moved = self.moved("feed", subject, unmoved(answer, monitor), read(), &scratch)?;
+        self.tally.count("feed", "moved");
+        Some(moved)
     }
 
     pub fn mark(
