@@ -23,8 +23,17 @@ pub fn described(text: &str, description: &[String]) -> String {
     format!("{first}{lines}{rest}")
 }
 
+/// The description of a rule that is made of another, under a word for how; none where that has none.
+pub fn description_of_one(how: &str, rule: &[String]) -> Vec<String> {
+    made_of(how, &[rule])
+}
+
 /// The description of a rule that is made of two, under a word for how; none where neither has one.
 pub fn description_of_two(how: &str, rules: [&[String]; 2]) -> Vec<String> {
+    made_of(how, &rules)
+}
+
+fn made_of(how: &str, rules: &[&[String]]) -> Vec<String> {
     if rules.iter().all(|own| own.is_empty()) {
         return Vec::new();
     }

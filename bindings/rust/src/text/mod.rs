@@ -25,7 +25,7 @@ mod tokens;
 mod valuations;
 
 pub use automaton::print_automaton;
-pub use description::{described, description_of_two};
+pub use description::{described, description_of_one, description_of_two};
 pub use lasso::{print_lasso, print_word, read_lasso, read_letter};
 pub use map::print_map;
 pub use marks::{grade_word, print_marks};

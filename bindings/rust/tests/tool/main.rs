@@ -36,6 +36,7 @@ mod states;
 mod stations;
 mod strict_claims;
 mod strict_hoa;
+mod temporal;
 mod texts;
 mod transcripts;
 mod usage;

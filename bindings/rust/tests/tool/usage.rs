@@ -3,7 +3,7 @@
 use crate::program::{run, tool, Scrap};
 use crate::samples::{AUTOMATON, W};
 
-const COMMANDS: [&str; 23] = [
+const COMMANDS: [&str; 25] = [
     "check",
     "summary",
     "strong",
@@ -11,6 +11,8 @@ const COMMANDS: [&str; 23] = [
     "classes",
     "complement",
     "combine",
+    "next",
+    "until",
     "included",
     "reduce",
     "confirm",
@@ -167,6 +169,7 @@ fn full_disk() {
         let words = match name {
             "member" => vec![name, rule.name(), "v: 0"],
             "combine" => vec![name, "both", rule.name(), rule.name()],
+            "until" => vec![name, rule.name(), rule.name()],
             "included" | "follow" | "board" => continue,
             "automaton" => vec![name, automaton.name()],
             "formula" => vec![name, "G a", "--letters", "a,b"],

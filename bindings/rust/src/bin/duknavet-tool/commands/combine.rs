@@ -6,7 +6,9 @@ use crate::form::{self, Beyond, TO};
 use crate::input;
 use crate::meeting::{self, Side, BY_NUMBER};
 use duknavet::text::description_of_two;
+use duknavet::words::Explained;
 use duknavet::{owned, Operation};
+use std::ffi::OsStr;
 
 pub const COMMAND: Command = Command {
     name: "combine",
@@ -26,18 +28,31 @@ a weak rule by 12, more than 64 pairs of values by 19.",
 
 fn run(arguments: &Arguments) -> Result<Answer, Failure> {
     let operation = operation(arguments)?;
-    let first = input::rule(arguments.plain(1))?;
-    let second = input::rule(arguments.plain(2))?;
-    let sides = (Side::of(&first), Side::of(&second));
-    let met = meeting::of_two(arguments, sides.0, sides.1, [true, true])?;
-    let written = owned::combine(&met.first, &met.second, operation)
-        .map_err(|explained| input::refused_by_input(&first, &second, &explained))?;
-    let from_text = first.is_text() || second.is_text();
     let how = match operation {
         Operation::Both => "both of",
         Operation::Either => "either of",
         Operation::Without => "the first without the second of",
     };
+    let files = [arguments.plain(1), arguments.plain(2)];
+    made_of_two(arguments, files, how, |first, second| {
+        owned::combine(first, second, operation)
+    })
+}
+
+/// Writes the rule that a call makes of two: as a text where one of them is, with a word for how behind its first line.
+pub fn made_of_two(
+    arguments: &Arguments,
+    files: [&OsStr; 2],
+    how: &str,
+    call: impl FnOnce(&[u8], &[u8]) -> Result<Vec<u8>, Explained>,
+) -> Result<Answer, Failure> {
+    let first = input::rule(files[0])?;
+    let second = input::rule(files[1])?;
+    let sides = (Side::of(&first), Side::of(&second));
+    let met = meeting::of_two(arguments, sides.0, sides.1, [true, true])?;
+    let written = call(&met.first, &met.second)
+        .map_err(|explained| input::refused_by_input(&first, &second, &explained))?;
+    let from_text = first.is_text() || second.is_text();
     let description = description_of_two(how, [&first.description, &second.description]);
     let beyond = Beyond {
         names: &met.names,

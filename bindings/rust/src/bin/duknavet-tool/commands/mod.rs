@@ -14,6 +14,7 @@ mod formula;
 mod included;
 mod letters;
 mod member;
+mod next;
 mod page;
 mod picture;
 mod reduce;
@@ -23,6 +24,7 @@ mod states;
 mod stretch;
 mod strong;
 mod summary;
+mod until;
 
 use crate::command::Command;
 pub use confirm::confirmed;
@@ -35,6 +37,8 @@ pub const ALL: &[&Command] = &[
     &classes::COMMAND,
     &complement::COMMAND,
     &combine::COMMAND,
+    &next::COMMAND,
+    &until::COMMAND,
     &included::COMMAND,
     &reduce::COMMAND,
     &confirm::COMMAND,
