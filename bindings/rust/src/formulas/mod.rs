@@ -12,7 +12,7 @@ mod rule;
 mod tokens;
 mod tree;
 
-pub use document::{Document, Line};
+pub use document::{is_document, Document, Line};
 pub use meaning::{Alphabet, Formula, Shown};
 pub use parse::{read, Read};
 pub use program::{NoProgram, Operation, Program};

@@ -62,7 +62,7 @@ fn texts_without_a_first_line() {
         "~p",
         "X X a",
     ] {
-        let words = "it looks like a formula: Spin's `spin -f` or Spot's `ltl2tgba -B` make an automaton of one";
+        let words = "it looks like a formula, and `duknavet-tool formula` makes a rule of one";
         let ran = run_with(&["summary", "-"], formula.as_bytes());
         ran.said(2, "(refusal ");
         assert!(

@@ -20,6 +20,7 @@ mod descriptions;
 mod exchanges;
 mod following;
 mod forms;
+mod formulas;
 mod hints;
 mod inclusions;
 mod letters;

@@ -1,4 +1,4 @@
-//! The documents' examples: the transcripts of docs/TOOL.md and the README are replayed, and the worked examples of docs/RULES.md and docs/FORMATS.md run.
+//! The documents' examples: the transcripts of docs/TOOL.md, docs/FORMULAS.md and the README are replayed, and the worked examples of docs/RULES.md and docs/FORMATS.md run.
 
 use crate::program::{run, run_with, Scrap};
 use std::path::{Path, PathBuf};
@@ -6,6 +6,7 @@ use std::process::Command;
 
 const TOOL: &str = include_str!("../../../../docs/TOOL.md");
 const FORMATS: &str = include_str!("../../../../docs/FORMATS.md");
+const FORMULAS: &str = include_str!("../../../../docs/FORMULAS.md");
 const README: &str = include_str!("../../../../README.md");
 const RULES: &str = include_str!("../../../../docs/RULES.md");
 const INSTALL: &str = include_str!("../../../../docs/INSTALL.md");
@@ -86,12 +87,12 @@ fn transcripts_are_what_the_tool_does() {
     let tool = Path::new(env!("CARGO_BIN_EXE_duknavet-tool"));
     let directory = tool.parent().expect("a directory").to_string_lossy();
     let path = format!("{directory}:{}", std::env::var("PATH").unwrap_or_default());
-    let (of_tool, of_readme) = (steps(TOOL), steps(README));
+    let (of_tool, of_readme, of_formulas) = (steps(TOOL), steps(README), steps(FORMULAS));
     assert!(
-        of_tool.len() > 20 && of_readme.len() > 2,
+        of_tool.len() > 20 && of_readme.len() > 2 && of_formulas.len() > 4,
         "there are too few steps"
     );
-    for step in of_tool.iter().chain(&of_readme) {
+    for step in of_tool.iter().chain(&of_readme).chain(&of_formulas) {
         let ran = Command::new("sh")
             .arg("-c")
             .arg(format!("exec 2>&1\n{}", step.command))

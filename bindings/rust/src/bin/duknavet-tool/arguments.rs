@@ -64,7 +64,7 @@ impl Arguments {
             Some((name, value)) => (name, Some(Value::new(value.into()))),
             None => (option, None),
         };
-        let Some(choice) = command.options.iter().find(|own| own.name == name) else {
+        let Some(choice) = command.choices().find(|own| own.name == name) else {
             return Err(self.no_option(command, &format!("--{name}")));
         };
         let value = match (choice.value, joined) {
@@ -87,7 +87,7 @@ impl Arguments {
 
     /// That there is no such option, and which is nearest.
     fn no_option(&self, command: &Command, given: &str) -> Failure {
-        let names = command.options.iter().map(|own| own.name);
+        let names = command.choices().map(|own| own.name);
         let nearest = match nearest(given.trim_start_matches('-'), names.chain(["help"])) {
             Some(nearest) => format!("; the nearest is `--{nearest}`"),
             None => String::new(),

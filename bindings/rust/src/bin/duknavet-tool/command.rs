@@ -12,9 +12,19 @@ pub struct Command {
     /// What it does, in a line.
     pub purpose: &'static str,
     pub options: &'static [Choice],
+    /// Options that several subcommands have.
+    pub common: &'static [&'static [Choice]],
     /// What it prints, and what its status means.
     pub details: &'static str,
     pub run: fn(&Arguments) -> Result<Answer, Failure>,
+}
+
+impl Command {
+    /// Every option, its own first.
+    pub fn choices(&self) -> impl Iterator<Item = &'static Choice> {
+        let common = self.common.iter().flat_map(|options| options.iter());
+        self.options.iter().chain(common)
+    }
 }
 
 /// An option `--name`, with or without a value.

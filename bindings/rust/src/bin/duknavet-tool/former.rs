@@ -40,7 +40,7 @@ impl Former {
         if !arguments.has(options::STATE.name) {
             return Err(arguments.usage("`--from` needs --state"));
         }
-        let rule = input::rule(from)?;
+        let rule = input::rule_file(from)?;
         let map = input::expected(map, Kind::Map)?;
         Ok(Some(Former { rule, map }))
     }

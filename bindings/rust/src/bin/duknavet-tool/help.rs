@@ -11,7 +11,8 @@ const PURPOSE: &str = "ask questions about rules over endless event sequences";
 
 const FILES: &str = "A file is given by its name, or as - for standard input, which can be read once. What begins with the word \
 `duknavet` and a space is a text; with `HOA:`, an automaton in that format; with `never` and white space or a brace, a never claim; \
-with `u:` or `v:`, a lasso; a byte order mark, blank lines and comments before that are passed over. Everything else is the bytes of a file. Bytes that pass the checks are never taken for a text.";
+with `u:` or `v:`, a lasso; a byte order mark, blank lines and comments before that are passed over. Everything else is the bytes of a file. Bytes that pass the checks are never taken for a text. Where a subcommand has --letters and --ap for \
+formulas, f:FORMULA, or a file that begins `duknavet formula 1`, stands for its rule; beside another rule it has the letters of that one.";
 
 const STATUS: [(&str, &str); 5] = [
     ("0", "yes, or done"),
@@ -89,10 +90,10 @@ pub fn of(command: &Command) -> String {
         wrapped(&capitalized(command.purpose), 100).trim_end()
     );
     text.push_str(&wrapped(command.details, 100));
-    if !command.options.is_empty() {
+    if has_options(command) {
         text.push_str("\noptions:\n");
     }
-    for choice in command.options {
+    for choice in command.choices() {
         let shown = match choice.value {
             Some(value) => format!("--{} {value}", choice.name),
             None => format!("--{}", choice.name),
@@ -102,10 +103,14 @@ pub fn of(command: &Command) -> String {
     text
 }
 
+fn has_options(command: &Command) -> bool {
+    command.choices().next().is_some()
+}
+
 fn synopsis(command: &Command) -> String {
-    match command.options.is_empty() {
-        true => command.arguments.to_string(),
-        false => format!("{} [options]", command.arguments),
+    match has_options(command) {
+        false => command.arguments.to_string(),
+        true => format!("{} [options]", command.arguments),
     }
 }
 
@@ -168,7 +173,7 @@ pub fn completion() -> String {
     let helped: Vec<&str> = helped.collect();
     let mut cases = String::new();
     for command in commands::ALL {
-        let options = command.options.iter().map(|choice| choice.name);
+        let options = command.choices().map(|choice| choice.name);
         let options: Vec<String> = options
             .chain(["help"])
             .map(|name| format!("--{name}"))
@@ -243,7 +248,7 @@ fn manual() -> String {
         );
         let _ = writeln!(page, "{}", roff(&capitalized(command.purpose)));
         let _ = writeln!(page, "{}", roff(wrapped(command.details, 78).trim_end()));
-        for choice in command.options {
+        for choice in command.choices() {
             let value = choice.value.unwrap_or("");
             let shown = format!("--{} {value}", choice.name);
             let _ = writeln!(

@@ -1,9 +1,11 @@
 //! Files that are handed in: bytes and texts, told apart by how they begin.
 
+use crate::arguments::Arguments;
 use crate::command::Failure;
-use crate::{kinds, likeness};
+use crate::{formulated, kinds, likeness};
 use duknavet::exchange;
-use duknavet::files::Lasso;
+use duknavet::files::{Automaton, Lasso, Rule};
+use duknavet::formulas::{is_document, Alphabet};
 use duknavet::text::{self, Kind, Names, Parsed, Place, TextError};
 use duknavet::words::Explained;
 use duknavet::Refusal;
@@ -18,6 +20,13 @@ const MOST: u64 = 4 << 20;
 /// How somebody goes on who has an automaton where a rule is wanted.
 pub const MAKES_A_RULE: &str = "`duknavet-tool automaton` makes a rule of one";
 
+/// How somebody goes on who has a formula where it does not stand for its rule.
+const FILES_ONLY: &str =
+    "a formula is not taken here; `duknavet-tool formula` writes its rule to a file";
+
+/// What a formula is called that stands in the command line.
+const ITSELF: &str = "the formula";
+
 /// What a file holds.
 #[derive(Clone, Copy, Debug, PartialEq, Eq)]
 pub enum Form {
@@ -27,6 +36,8 @@ pub enum Form {
     Hoa,
     /// Spin's never claim.
     Never,
+    /// A formula, whose rule it stands for.
+    Formula,
 }
 
 /// The bytes of a rule, an automaton or a marks section, and what the text that they came in says beyond them.
@@ -48,6 +59,14 @@ pub struct Source {
 impl Source {
     pub fn is_text(&self) -> bool {
         self.form != Form::Bytes
+    }
+
+    /// What it is called in a heading: the formula itself where no file has it.
+    pub fn title(&self) -> &str {
+        match (self.form, self.description.first()) {
+            (Form::Formula, Some(formula)) if self.name == ITSELF => formula.trim(),
+            _ => &self.name,
+        }
     }
 
     /// The refusal of this input, with the line and column where the place is a byte of a text.
@@ -154,9 +173,143 @@ fn form(bytes: &[u8]) -> Result<Form, TextError> {
     })
 }
 
-/// A file with whatever form it has; a lasso has no bytes and is not one.
-pub fn source(name: &OsStr) -> Result<Source, Failure> {
-    source_of(shown(name), contents(name)?)
+/// What an argument is before it is read: the bytes of a file, or a formula.
+pub enum Given {
+    Bytes { name: String, bytes: Vec<u8> },
+    Formula { name: String, text: String },
+}
+
+/// A text in UTF-8.
+pub fn decoded(name: &str, bytes: Vec<u8>) -> Result<String, Failure> {
+    String::from_utf8(bytes)
+        .map_err(|_| Failure::Refused(format!("{name}: the text is not in UTF-8")))
+}
+
+/// An argument: a formula where it begins with `f:`, or where the file of that name begins so; else the file's bytes.
+pub fn given(argument: &OsStr) -> Result<Given, Failure> {
+    if let Some(text) = formulated::argument(&argument.to_string_lossy()) {
+        return Ok(Given::Formula {
+            name: ITSELF.to_string(),
+            text: text.to_string(),
+        });
+    }
+    let (name, bytes) = (shown(argument), contents(argument)?);
+    Ok(match is_document(&String::from_utf8_lossy(&bytes)) {
+        true => Given::Formula {
+            text: decoded(&name, bytes)?,
+            name,
+        },
+        false => Given::Bytes { name, bytes },
+    })
+}
+
+/// A file with whatever form it has; a lasso has no bytes and is not one, and neither is a formula.
+pub fn file(name: &OsStr) -> Result<Source, Failure> {
+    match given(name)? {
+        Given::Bytes { name, bytes } => source_of(name, bytes),
+        Given::Formula { .. } => {
+            let name = shown(name);
+            Err(Failure::Refused(format!("{name}: {FILES_ONLY}")))
+        }
+    }
+}
+
+/// What an argument is: a file with whatever form it has, or the rule of a formula over the letters that an option names.
+pub fn source(arguments: &Arguments, argument: &OsStr) -> Result<Source, Failure> {
+    read(arguments, given(argument)?)
+}
+
+/// The same of what was given.
+pub fn read(arguments: &Arguments, given: Given) -> Result<Source, Failure> {
+    let source = match given {
+        Given::Bytes { name, bytes } => source_of(name, bytes)?,
+        Given::Formula { name, text } => of_formula(arguments, name, &text, None)?,
+    };
+    used(arguments, &[&source])?;
+    Ok(source)
+}
+
+/// Two arguments, of which one may be a formula over the letters of the other.
+pub fn two_sources(arguments: &Arguments, both: [&OsStr; 2]) -> Result<[Source; 2], Failure> {
+    let file = |given: Given| match given {
+        Given::Bytes { name, bytes } => source_of(name, bytes).map(Ok),
+        Given::Formula { name, text } => Ok(Err((name, text))),
+    };
+    let (first, second) = (file(given(both[0])?)?, file(given(both[1])?)?);
+    let made = |name: String, text: &str, other: Option<&Source>| {
+        of_formula(arguments, name, text, other.and_then(alphabet_of))
+    };
+    let sources = match (first, second) {
+        (Ok(first), Ok(second)) => [first, second],
+        (Ok(first), Err((name, text))) => {
+            let second = made(name, &text, Some(&first))?;
+            [first, second]
+        }
+        (Err((name, text)), Ok(second)) => [made(name, &text, Some(&second))?, second],
+        (Err(first), Err(second)) => {
+            let (one, two) = ("the first formula", "the second formula");
+            let called = |name: String, own: &str| match name == ITSELF {
+                true => own.to_string(),
+                false => name,
+            };
+            [
+                made(called(first.0, one), &first.1, None)?,
+                made(called(second.0, two), &second.1, None)?,
+            ]
+        }
+    };
+    used(arguments, &[&sources[0], &sources[1]])?;
+    Ok(sources)
+}
+
+/// The letters of a rule or of an automaton, for a formula beside it.
+pub fn alphabet_of(source: &Source) -> Option<Alphabet> {
+    let rule = || Rule::take_apart(&source.bytes).map(|rule| rule.images.len());
+    let automaton = || Automaton::take_apart(&source.bytes).map(|own| usize::from(own.letters));
+    let letters = match source.form {
+        Form::Text(Kind::Automaton) | Form::Hoa | Form::Never => automaton(),
+        Form::Text(Kind::Rule) | Form::Formula => rule(),
+        Form::Text(_) => None,
+        Form::Bytes => rule().or_else(automaton),
+    };
+    let letters = letters.filter(|letters| (1..=16).contains(letters))?;
+    Some(Alphabet::new(source.names.clone(), letters))
+}
+
+/// That options which are for formulas are used by one.
+fn used(arguments: &Arguments, sources: &[&Source]) -> Result<(), Failure> {
+    let formula = sources.iter().any(|source| source.form == Form::Formula);
+    match formulated::named(arguments)? {
+        Some(_) if !formula => {
+            Err(arguments.usage("`--letters` and `--ap` are for a formula, and none is given"))
+        }
+        _ => Ok(()),
+    }
+}
+
+/// The rule of a formula, over the letters that an option names, or else over those of the file beside it.
+fn of_formula(
+    arguments: &Arguments,
+    name: String,
+    text: &str,
+    beside: Option<Alphabet>,
+) -> Result<Source, Failure> {
+    let Some(alphabet) = formulated::named(arguments)?.or(beside) else {
+        return Err(
+            arguments.usage("a formula needs `--letters` or `--ap`, which name what it speaks of")
+        );
+    };
+    let made = formulated::made(&name, text, &alphabet, false)?;
+    Ok(Source {
+        name,
+        bytes: made.rule,
+        form: Form::Formula,
+        names: alphabet.names().clone(),
+        description: made.description,
+        wanted: None,
+        places: Vec::new(),
+        notes: Vec::new(),
+    })
 }
 
 pub fn source_of(name: String, bytes: Vec<u8>) -> Result<Source, Failure> {
@@ -164,7 +317,8 @@ pub fn source_of(name: String, bytes: Vec<u8>) -> Result<Source, Failure> {
     let form = form(&bytes).map_err(fault)?;
     let mut notes = Vec::new();
     let parsed = match form {
-        Form::Bytes => Parsed {
+        // A formula was told from bytes before.
+        Form::Bytes | Form::Formula => Parsed {
             bytes,
             places: Vec::new(),
             names: Names::none(),
@@ -194,13 +348,13 @@ pub fn source_of(name: String, bytes: Vec<u8>) -> Result<Source, Failure> {
     })
 }
 
-/// A file that is to be of one kind: bytes are taken for it, and a text of another kind is refused.
-pub fn expected(name: &OsStr, kind: Kind) -> Result<Source, Failure> {
-    let source = source(name)?;
+/// A source that is to be of one kind: bytes are taken for it, and a text of another kind is refused.
+pub fn of_kind(source: Source, kind: Kind) -> Result<Source, Failure> {
     let found = match source.form {
         Form::Bytes => kind,
         Form::Text(own) => own,
         Form::Hoa | Form::Never => Kind::Automaton,
+        Form::Formula => Kind::Rule,
     };
     if found != kind {
         let (name, wanted) = (&source.name, kind.article());
@@ -217,8 +371,25 @@ pub fn expected(name: &OsStr, kind: Kind) -> Result<Source, Failure> {
     })
 }
 
-pub fn rule(name: &OsStr) -> Result<Source, Failure> {
+/// A file that is to be of one kind.
+pub fn expected(name: &OsStr, kind: Kind) -> Result<Source, Failure> {
+    of_kind(file(name)?, kind)
+}
+
+/// A rule in a file.
+pub fn rule_file(name: &OsStr) -> Result<Source, Failure> {
     expected(name, Kind::Rule)
+}
+
+/// A rule, in a file or of a formula.
+pub fn rule(arguments: &Arguments, argument: &OsStr) -> Result<Source, Failure> {
+    of_kind(source(arguments, argument)?, Kind::Rule)
+}
+
+/// Two rules, in files or of formulas.
+pub fn two_rules(arguments: &Arguments, both: [&OsStr; 2]) -> Result<[Source; 2], Failure> {
+    let [first, second] = two_sources(arguments, both)?;
+    Ok([of_kind(first, Kind::Rule)?, of_kind(second, Kind::Rule)?])
 }
 
 /// A lasso: the argument itself where it begins with `u:` or `v:`, else the text in the file of that name.

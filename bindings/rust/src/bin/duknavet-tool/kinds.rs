@@ -44,9 +44,9 @@ fn kind_of(bytes: &[u8]) -> Option<Kind> {
     }
 }
 
-/// A file and what it is.
-pub fn either(name: &OsStr, arguments: &Arguments) -> Result<(Source, Kind), Failure> {
-    of_source(input::source(name)?, arguments)
+/// An argument and what it is.
+pub fn either(argument: &OsStr, arguments: &Arguments) -> Result<(Source, Kind), Failure> {
+    of_source(input::source(arguments, argument)?, arguments)
 }
 
 /// What a source is: what its text says, or `--as`, or the checks.
@@ -74,6 +74,7 @@ fn stated(source: &Source, arguments: &Arguments) -> Result<Option<Kind>, Failur
     let found = match source.form {
         Form::Text(kind) => Some(kind),
         Form::Hoa | Form::Never => Some(Kind::Automaton),
+        Form::Formula => Some(Kind::Rule),
         Form::Bytes => None,
     };
     match (found, wanted) {

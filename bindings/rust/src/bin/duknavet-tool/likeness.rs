@@ -51,7 +51,7 @@ fn of_text(text: &str) -> &'static str {
         return "it looks like XML or HTML, which is not read";
     }
     if is_formula(text) {
-        return "it looks like a formula: Spin's `spin -f` or Spot's `ltl2tgba -B` make an automaton of one";
+        return "it looks like a formula, and `duknavet-tool formula` makes a rule of one";
     }
     if text.starts_with(['{', '[']) {
         return "it looks like JSON, which is not read";

@@ -11,6 +11,7 @@ mod command;
 mod commands;
 mod form;
 mod former;
+mod formulated;
 mod help;
 mod input;
 mod kinds;

@@ -22,6 +22,7 @@ pub const COMMAND: Command = Command {
         },
         TO,
     ],
+    common: &[],
     details: "AUTOMATON is bytes, a text, an automaton in the Hanoi format or a never claim. The rule is strong. An \
 automaton with more than 6 states is refused by 2, one with more than 64 matrices by 14. Of the Hanoi \
 format and of never claims at most 4,096 states are read, and those that no accepting run meets are left \

@@ -35,6 +35,7 @@ pub const COMMAND: Command = Command {
         PROPOSITIONS,
         meeting::BY_NUMBER,
     ],
+    common: &[],
     details: "A line is enter N FILE, the rule in FILE under the free name N, 0 to 7; leave N; replace N FILE \
 MAP, the reduction in FILE in place of the rule N, where confirm says yes to MAP; event LETTER, by \
 number, by name or as in a & !b; mark; who; or save. A file's name with blanks or a # stands in \

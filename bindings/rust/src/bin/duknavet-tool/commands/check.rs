@@ -2,6 +2,7 @@
 
 use crate::arguments::Arguments;
 use crate::command::{Answer, Command, Failure};
+use crate::formulated;
 use crate::kinds::{self, AS};
 use crate::output;
 use duknavet::files::{marks_of, Automaton, Rule};
@@ -15,6 +16,7 @@ pub const COMMAND: Command = Command {
     most: 1,
     purpose: "check a rule or an automaton, and say what is wrong with it",
     options: &[AS],
+    common: &[formulated::OPTIONS],
     details: "Prints what the file is and its counts, or says on standard error what is wrong and where. Status 0 where it passes \
 every check, 2 where it is refused. An automaton with more than 64 matrices is refused by 14. A marks section passes only beside a \
 rule: see included.",

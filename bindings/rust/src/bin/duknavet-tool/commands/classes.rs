@@ -2,7 +2,7 @@
 
 use crate::arguments::Arguments;
 use crate::command::{Answer, Command, Failure};
-use crate::{input, output};
+use crate::{formulated, input, output};
 use duknavet::owned;
 use std::fmt::Write;
 
@@ -13,12 +13,13 @@ pub const COMMAND: Command = Command {
     most: 1,
     purpose: "list the linked pairs of a rule by conjugacy classes",
     options: &[],
+    common: &[formulated::OPTIONS],
     details: "Prints the counts of linked pairs, classes and joins, then a line for each class with its pairs, the least first.",
     run,
 };
 
 fn run(arguments: &Arguments) -> Result<Answer, Failure> {
-    let rule = input::rule(arguments.plain(0))?;
+    let rule = input::rule(arguments, arguments.plain(0))?;
     let list = owned::classes(&rule.bytes).map_err(|explained| rule.refused(&explained))?;
     let counts = list.counts;
     let mut text = format!(

@@ -3,6 +3,7 @@
 use crate::arguments::Arguments;
 use crate::command::{Answer, Command, Failure};
 use crate::form::{self, Beyond, TO};
+use crate::formulated;
 use crate::input;
 use crate::meeting::{self, Side, BY_NUMBER};
 use duknavet::text::description_of_two;
@@ -17,6 +18,7 @@ pub const COMMAND: Command = Command {
     most: 3,
     purpose: "make one rule of two strong ones over as many letters",
     options: &[TO, BY_NUMBER],
+    common: &[formulated::OPTIONS],
     details: "Each lasso has the lower of its two grades (both), the higher (either), or the lower of the first and of \
 3 less the second (without). Letters meet by their names, in the order of FIRST, or by the propositions \
 of both; where one file names none they go by their numbers. The rule is written as a text where one of \
@@ -46,8 +48,7 @@ pub fn made_of_two(
     how: &str,
     call: impl FnOnce(&[u8], &[u8]) -> Result<Vec<u8>, Explained>,
 ) -> Result<Answer, Failure> {
-    let first = input::rule(files[0])?;
-    let second = input::rule(files[1])?;
+    let [first, second] = input::two_rules(arguments, files)?;
     let sides = (Side::of(&first), Side::of(&second));
     let met = meeting::of_two(arguments, sides.0, sides.1, [true, true])?;
     let written = call(&met.first, &met.second)

@@ -2,7 +2,8 @@
 
 use crate::arguments::Arguments;
 use crate::command::{Answer, Command, Failure};
-use crate::input::Source;
+use crate::formulated;
+use crate::input::{self, Source};
 use crate::kinds::{self, AS};
 use crate::meeting::{self, Met, Side, BY_NUMBER};
 use crate::output;
@@ -17,6 +18,7 @@ pub const COMMAND: Command = Command {
     most: 2,
     purpose: "compare two rules or automata over the same letters, and give a lasso that tells them apart",
     options: &[AS, BY_NUMBER],
+    common: &[formulated::OPTIONS],
     details: "Prints equal, with status 0, where every lasso has the same grade by both: strong rules by the bytes of \
 their reductions, weak ones by inclusion both ways. Else, with status 1, a lasso of which no single \
 letter can be left out, and its two grades, each as the call member answers it; where strong rules are \
@@ -28,8 +30,10 @@ at most 64 pairs of values in both.",
 };
 
 fn run(arguments: &Arguments) -> Result<Answer, Failure> {
-    let (first, first_rule) = rule_of(arguments, 0)?;
-    let (second, second_rule) = rule_of(arguments, 1)?;
+    let both = [arguments.plain(0), arguments.plain(1)];
+    let [first, second] = input::two_sources(arguments, both)?;
+    let (first, first_rule) = rule_of(arguments, first)?;
+    let (second, second_rule) = rule_of(arguments, second)?;
     for (source, rule) in [(&first, &first_rule), (&second, &second_rule)] {
         owned::check(rule).map_err(|explained| source.refused(&explained))?;
     }
@@ -89,8 +93,8 @@ fn side<'a>(source: &'a Source, rule: &'a [u8]) -> Side<'a> {
 }
 
 /// A file, and the rule that it is or that its automaton has.
-fn rule_of(arguments: &Arguments, place: usize) -> Result<(Source, Vec<u8>), Failure> {
-    let (source, kind) = kinds::either(arguments.plain(place), arguments)?;
+fn rule_of(arguments: &Arguments, source: Source) -> Result<(Source, Vec<u8>), Failure> {
+    let (source, kind) = kinds::of_source(source, arguments)?;
     let rule = match kind {
         Kind::Rule => Ok(source.bytes.clone()),
         Kind::Automaton => owned::automaton_rule(&source.bytes),

@@ -3,6 +3,7 @@
 use crate::arguments::Arguments;
 use crate::command::{Answer, Command, Failure};
 use crate::form::{self, TO};
+use crate::formulated;
 use crate::input;
 use duknavet::owned;
 
@@ -13,12 +14,13 @@ pub const COMMAND: Command = Command {
     most: 1,
     purpose: "write the rule that gives each lasso 3 less its grade",
     options: &[TO],
+    common: &[formulated::OPTIONS],
     details: "Elements and letters stay as they are. A weak rule is refused by 12: strong says why it is weak.",
     run,
 };
 
 fn run(arguments: &Arguments) -> Result<Answer, Failure> {
-    let rule = input::rule(arguments.plain(0))?;
+    let rule = input::rule(arguments, arguments.plain(0))?;
     let written = owned::complement(&rule.bytes).map_err(|explained| rule.refused(&explained))?;
     form::write_rule(arguments, &rule, &written)
 }

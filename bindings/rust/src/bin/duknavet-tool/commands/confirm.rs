@@ -2,6 +2,7 @@
 
 use crate::arguments::Arguments;
 use crate::command::{Answer, Command, Failure};
+use crate::formulated;
 use crate::input::{self, Source};
 use crate::meeting::{self, Side, BY_NUMBER};
 use crate::output;
@@ -17,6 +18,7 @@ pub const COMMAND: Command = Command {
     most: 3,
     purpose: "tell whether a rule was reduced right elsewhere, by a map of its elements",
     options: &[BY_NUMBER],
+    common: &[formulated::OPTIONS],
     details: "MAP has for each element of RULE the element of REDUCED that it went to: as bytes, or as a text. Prints yes, with status 0, where \
 MAP goes to every element of REDUCED and to no other, carries products and letters over, every lasso has the same grade by both rules, and \
 REDUCED is strong and has the fewest elements; its elements may be numbered in any way, and its marks may be any that give the grades. Else \
@@ -26,8 +28,8 @@ by 12, before any no.",
 };
 
 fn run(arguments: &Arguments) -> Result<Answer, Failure> {
-    let rule = input::rule(arguments.plain(0))?;
-    let reduced = input::rule(arguments.plain(1))?;
+    let rules = [arguments.plain(0), arguments.plain(1)];
+    let [rule, reduced] = input::two_rules(arguments, rules)?;
     let map = input::expected(arguments.plain(2), Kind::Map)?;
     let answer = confirmed(arguments, &rule, &reduced, &map.bytes)?;
     let (line, answer) = match answer {

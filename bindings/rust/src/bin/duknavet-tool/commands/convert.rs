@@ -4,7 +4,8 @@ use super::states::{least, LEAST};
 use crate::arguments::Arguments;
 use crate::command::{Answer, Choice, Command, Failure};
 use crate::form::{text_of, Beyond};
-use crate::input::{self, Source};
+use crate::formulated;
+use crate::input::{self, Given, Source};
 use crate::kinds::{self, AS};
 use crate::output;
 use duknavet::exchange::{print_hoa, print_rule_hoa};
@@ -27,6 +28,7 @@ pub const COMMAND: Command = Command {
         },
         LEAST,
     ],
+    common: &[formulated::OPTIONS],
     details: "Bytes, the text that is written for them and the bytes of that text are the same to the last byte. What \
 does not pass the checks is converted too, as long as its sections have the lengths that its counts say: \
 a text can be mended by hand. Names of letters, propositions and a description stand in texts, and of \
@@ -41,18 +43,20 @@ const LEAST_FOR: &str = "`--least` is for a rule with `--to hoa`";
 fn run(arguments: &Arguments) -> Result<Answer, Failure> {
     let to = arguments.one_of("to", &["bytes", "text", "hoa"])?;
     let least = least(arguments)?;
-    let name = arguments.plain(0);
-    let bytes = input::contents(name)?;
-    if let Some(Ok(Kind::Lasso)) = duknavet::text::kind(&bytes) {
-        let lasso = duknavet::text::read_lasso(&bytes, &Names::none())
-            .map_err(|error| Failure::Refused(format!("{}: {error}", input::shown(name))))?;
-        return match to {
-            _ if arguments.has("least") => Err(arguments.usage(LEAST_FOR)),
-            None | Some("text") => output::print(&(print_lasso(&lasso, &Names::none()) + "\n")),
-            _ => Err(arguments.usage("a lasso is a text only")),
-        };
+    let given = input::given(arguments.plain(0))?;
+    match &given {
+        Given::Bytes { name, bytes } if duknavet::text::kind(bytes) == Some(Ok(Kind::Lasso)) => {
+            let lasso = duknavet::text::read_lasso(bytes, &Names::none())
+                .map_err(|error| Failure::Refused(format!("{name}: {error}")))?;
+            return match to {
+                _ if arguments.has("least") => Err(arguments.usage(LEAST_FOR)),
+                None | Some("text") => output::print(&(print_lasso(&lasso, &Names::none()) + "\n")),
+                _ => Err(arguments.usage("a lasso is a text only")),
+            };
+        }
+        _ => {}
     }
-    let source = input::source_of(input::shown(name), bytes)?;
+    let source = input::read(arguments, given)?;
     let (source, kind) = kinds::of_source(source, arguments)?;
     let to = to.unwrap_or(match source.is_text() {
         true => "bytes",

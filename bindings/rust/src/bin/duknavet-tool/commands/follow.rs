@@ -3,6 +3,7 @@
 use crate::arguments::Arguments;
 use crate::command::{Answer, Command, Failure};
 use crate::former::{self, Former};
+use crate::formulated;
 use crate::input::{self, Source};
 use crate::monitor_state::{self, MonitorState};
 use crate::output;
@@ -31,6 +32,7 @@ pub const COMMAND: Command = Command {
         former::FROM,
         former::MAP,
     ],
+    common: &[formulated::OPTIONS],
     details: "A line is a letter, by number, by name or as in a & !b, or event and a letter, also one that is \
 called like a request; mark; verdict; keep N or return N, N from 0 to 7; who; or save. Empty lines \
 and comments, from # on, are passed over. Each other line has one answer: before and since, an \
@@ -52,7 +54,7 @@ fn run(arguments: &Arguments) -> Result<Answer, Failure> {
         return Err(arguments.usage("standard input has the events, so the rule is a file"));
     }
     let options = Options::read(arguments)?;
-    let rule = input::rule(arguments.plain(0))?;
+    let rule = input::rule(arguments, arguments.plain(0))?;
     owned::check(&rule.bytes).map_err(|explained| rule.refused(&explained))?;
     tell_of_weakness(&rule, &options)?;
     let former = Former::read(arguments)?;

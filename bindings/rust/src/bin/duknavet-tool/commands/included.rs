@@ -2,6 +2,7 @@
 
 use crate::arguments::Arguments;
 use crate::command::{Answer, Command, Failure};
+use crate::formulated;
 use crate::input::{self, Source};
 use crate::kinds::{self, AS};
 use crate::meeting::{self, Side, BY_NUMBER};
@@ -18,6 +19,7 @@ pub const COMMAND: Command = Command {
     most: 2,
     purpose: "tell whether no lasso is graded higher by a rule than by a second marks section for its table, or by a second rule",
     options: &[AS, BY_NUMBER],
+    common: &[formulated::OPTIONS],
     details: "Prints included, with status 0, or with status 1 a lasso that the first grades higher, and its two \
 grades. With a marks section as SECOND the rule may be weak. Two rules are strong, and yes is said \
 exactly if combine both of them compares equal to the first; their letters meet as those of combine do. \
@@ -26,8 +28,9 @@ Bytes are a marks section where their length fits one, else a rule if they pass 
 };
 
 fn run(arguments: &Arguments) -> Result<Answer, Failure> {
-    let rule = input::rule(arguments.plain(0))?;
-    let second = input::source(arguments.plain(1))?;
+    let both = [arguments.plain(0), arguments.plain(1)];
+    let [rule, second] = input::two_sources(arguments, both)?;
+    let rule = input::of_kind(rule, Kind::Rule)?;
     let (second, kind) = kinds::of_source_or(second, arguments, marks_or_rule)?;
     match kind {
         Kind::Marks => by_marks(&rule, &second),

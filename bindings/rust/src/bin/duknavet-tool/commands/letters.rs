@@ -3,6 +3,7 @@
 use crate::arguments::Arguments;
 use crate::command::{Answer, Choice, Command, Failure};
 use crate::form::{self, Beyond, TO};
+use crate::formulated;
 use crate::input;
 use crate::meeting::{acting, names_in};
 use duknavet::files::Rule;
@@ -39,6 +40,7 @@ pub const COMMAND: Command = Command {
         },
         TO,
     ],
+    common: &[formulated::OPTIONS],
     details: "One of --name, --order, --rename and --add is given. Two rules whose letters have different names are \
 not compared or combined: this mends it. A letter without a name has its number for one. Grades stay as \
 they are: each lasso has the grade of the lasso that its letters act as. The rule is written as a text \
@@ -57,7 +59,7 @@ fn run(arguments: &Arguments) -> Result<Answer, Failure> {
     let [(option, list)] = given.as_slice() else {
         return Err(arguments.usage("one of --name, --order, --rename and --add is given"));
     };
-    let source = input::rule(arguments.plain(0))?;
+    let source = input::rule(arguments, arguments.plain(0))?;
     owned::check(&source.bytes).map_err(|explained| source.refused(&explained))?;
     let letters = Rule::take_apart(&source.bytes).map_or(0, |rule| rule.images.len());
     let (names, list) = (&source.names, names_in(list));

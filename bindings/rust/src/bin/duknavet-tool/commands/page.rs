@@ -2,7 +2,7 @@
 
 use crate::arguments::Arguments;
 use crate::command::{Answer, Choice, Command, Failure};
-use crate::{input, output};
+use crate::{formulated, input, output};
 use duknavet::picture::page;
 
 pub const COMMAND: Command = Command {
@@ -14,16 +14,17 @@ pub const COMMAND: Command = Command {
     options: &[Choice {
         name: "title",
         value: Some("TITLE"),
-        meaning: "the heading; else the name of the file",
+        meaning: "the heading; else the name of the file, or the formula",
     }],
+    common: &[formulated::OPTIONS],
     details: "The page has the description, the table, the letters, the marks by s, then by e, with their grades, each element's first word, and the \
 classes. It needs no other file and can be read in black and white.",
     run,
 };
 
 fn run(arguments: &Arguments) -> Result<Answer, Failure> {
-    let rule = input::rule(arguments.plain(0))?;
-    let title = arguments.value("title").unwrap_or(&rule.name);
+    let rule = input::rule(arguments, arguments.plain(0))?;
+    let title = arguments.value("title").unwrap_or_else(|| rule.title());
     let html = page(&rule.bytes, &rule.names, title, &rule.description)
         .map_err(|explained| rule.refused(&explained))?;
     output::print(&html)

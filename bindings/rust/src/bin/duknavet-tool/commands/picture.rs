@@ -2,6 +2,7 @@
 
 use crate::arguments::Arguments;
 use crate::command::{Answer, Choice, Command, Failure};
+use crate::formulated;
 use crate::kinds::{self, AS};
 use crate::output;
 use duknavet::files::{Automaton, Rule};
@@ -28,6 +29,7 @@ pub const COMMAND: Command = Command {
             meaning: "svg, or for a graph dot; else svg",
         },
     ],
+    common: &[formulated::OPTIONS],
     details: "Writes SVG, or DOT for Graphviz. In the table of a rule each element has a colour and its number, and a marked pair \
 (row, column) is framed, with as many dots as its grade. In the graph of right products an edge leads from each element to its product \
 with a letter's element; idempotents, and of an automaton final states, have two lines around them.",

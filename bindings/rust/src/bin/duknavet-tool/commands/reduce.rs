@@ -29,6 +29,7 @@ pub const COMMAND: Command = Command {
             meaning: "put letters in the order of their names, or the propositions in theirs",
         },
     ],
+    common: &[],
     details: "Two rules are written alike, byte for byte, exactly if they give every lasso the same grade, letters by \
 their numbers; with --letters sorted, by their names. A weak rule is refused by 12: strong says why it \
 is weak. A map is written in the form of the rule that is written: a byte, or in a text a number, for \
@@ -37,7 +38,7 @@ each element; confirm takes it.",
 };
 
 fn run(arguments: &Arguments) -> Result<Answer, Failure> {
-    let mut rule = input::rule(arguments.plain(0))?;
+    let mut rule = input::rule_file(arguments.plain(0))?;
     let sorted = arguments.one_of("letters", &["sorted"])?.is_some();
     let mut reduction =
         owned::reduce_with_map(&rule.bytes).map_err(|explained| rule.refused(&explained))?;

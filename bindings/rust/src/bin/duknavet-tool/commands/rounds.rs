@@ -2,7 +2,7 @@
 
 use crate::arguments::Arguments;
 use crate::command::{Answer, Choice, Command, Failure};
-use crate::{input, output};
+use crate::{formulated, input, output};
 use duknavet::{owned, MOST_ROUNDS};
 use std::fmt::Write;
 
@@ -17,6 +17,7 @@ pub const COMMAND: Command = Command {
         value: Some("ROUNDS"),
         meaning: "the most rounds after round 0; else 64, which always finishes",
     }],
+    common: &[formulated::OPTIONS],
     details: "Prints how many rounds were done after round 0 and whether they are finished, that is whether one more would change \
 nothing; then a line for each block with its elements, by least elements; then the bytes that the call writes, for each element the \
 least of its block. Finished blocks are the elements of the smallest rule. Status 0 where they are finished, 1 where not. A limit above \
@@ -28,7 +29,7 @@ fn run(arguments: &Arguments) -> Result<Answer, Failure> {
     // Every limit is handed over: which are too large the call says.
     let limit = arguments.number("limit", 0, usize::MAX)?;
     let limit = limit.unwrap_or(MOST_ROUNDS);
-    let rule = input::rule(arguments.plain(0))?;
+    let rule = input::rule(arguments, arguments.plain(0))?;
     let found =
         owned::reduce_rounds(&rule.bytes, limit).map_err(|explained| rule.refused(&explained))?;
     let finished = found.partition.finished;

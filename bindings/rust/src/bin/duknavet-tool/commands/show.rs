@@ -2,6 +2,7 @@
 
 use crate::arguments::Arguments;
 use crate::command::{Answer, Command, Failure};
+use crate::formulated;
 use crate::input::Source;
 use crate::kinds::{self, AS};
 use crate::output;
@@ -18,6 +19,7 @@ pub const COMMAND: Command = Command {
     most: 1,
     purpose: "print a rule or an automaton as people read it",
     options: &[AS],
+    common: &[formulated::OPTIONS],
     details: "Of a rule: its description, the table with each element's first word, the letters, the marks by s, then by e, with their grades, and \
 whether it is strong. Of an automaton: its states and where each letter leads from them.",
     run,

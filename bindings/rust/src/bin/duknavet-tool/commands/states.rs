@@ -2,6 +2,7 @@
 
 use crate::arguments::Arguments;
 use crate::command::{Answer, Choice, Command, Failure};
+use crate::formulated;
 use crate::input::{self, Source};
 use crate::output;
 use duknavet::text::{read_letter, Names};
@@ -39,6 +40,7 @@ pub const COMMAND: Command = Command {
             meaning: "only where this letter leads: a number, a name, or as in a & !b",
         },
     ],
+    common: &[formulated::OPTIONS],
     details: "A state is (s, e), e an idempotent and s an element or none. Initial are the pairs that the rule marks with the least grade \
 or more, final those whose s is none. The automaton accepts just the lassos that the rule gives that grade or more; the rule may be \
 weak. Prints how many states are listed, how many of them initial and final, then each by e and s. What is no state is refused by 17, a \
@@ -62,7 +64,7 @@ fn run(arguments: &Arguments) -> Result<Answer, Failure> {
     if asked.is_some() && all {
         return Err(arguments.usage("`--all` and `--state` do not go together"));
     }
-    let rule = input::rule(arguments.plain(0))?;
+    let rule = input::rule(arguments, arguments.plain(0))?;
     let letter = letter(arguments, &rule.names)?;
     let text = match asked {
         Some(state) => one(&rule, state, least, letter),

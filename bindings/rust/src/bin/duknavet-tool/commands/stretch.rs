@@ -16,6 +16,7 @@ pub const COMMAND: Command = Command {
         value: Some("RULE"),
         meaning: "a text whose names of letters, or propositions, LASSO uses",
     }],
+    common: &[],
     details: "Positions count from 0; past u the place in v is the position less the length of u, modulo the length of v. Prints \
 the letters in a line, which is empty where v has no letter, or u or v more than 4224.",
     run,
@@ -23,7 +24,7 @@ the letters in a line, which is empty where v has no letter, or u or v more than
 
 fn run(arguments: &Arguments) -> Result<Answer, Failure> {
     let names = match arguments.file("rule") {
-        Some(name) => input::rule(name)?.names,
+        Some(name) => input::rule_file(name)?.names,
         None => Names::none(),
     };
     let lasso = input::lasso(arguments.plain(0), &names)?;

@@ -2,7 +2,7 @@
 
 use crate::arguments::Arguments;
 use crate::command::{Answer, Command, Failure};
-use crate::{input, output};
+use crate::{formulated, input, output};
 use duknavet::text::{print_lasso, Names};
 use duknavet::witness::{why_weak, Weakness};
 use duknavet::{owned, Strength};
@@ -14,13 +14,14 @@ pub const COMMAND: Command = Command {
     most: 1,
     purpose: "tell whether the values of u and v decide a lasso's grade",
     options: &[],
+    common: &[formulated::OPTIONS],
     details: "Prints strong, with status 0, or weak, with status 1, and then two lassos whose starts have equal values and whose \
 cycles have equal values, with their different grades. Both grades are what the call member answers.",
     run,
 };
 
 fn run(arguments: &Arguments) -> Result<Answer, Failure> {
-    let rule = input::rule(arguments.plain(0))?;
+    let rule = input::rule(arguments, arguments.plain(0))?;
     let strength = owned::strong(&rule.bytes).map_err(|explained| rule.refused(&explained))?;
     if strength == Strength::Strong {
         output::write(b"strong\n")?;
