@@ -2,8 +2,10 @@
 
 use super::meaning::{Alphabet, Formula};
 use super::parse::read_part;
-use super::tokens::{operator, FormulaError};
+use super::parts::Parts;
+use super::tokens::{operator, FormulaError, Span};
 use super::tree::Tree;
+use super::MOST_DEPTH;
 use crate::text::Place;
 
 /// The first line of a document.
@@ -31,11 +33,8 @@ pub struct Document {
 
 const GRADES: [(&str, u8); 3] = [("proper", 3), ("tolerable", 2), ("poor", 1)];
 
-/// A logical line of a text, with those that go on behind it: from one byte to another.
-struct Stretch {
-    from: usize,
-    to: usize,
-}
+/// How many names and operators the parts of a document may have together, those that they name written out.
+const MOST_OF_PARTS: usize = 1 << 20;
 
 /// Whether a text is a document, by its first line.
 pub fn is_document(text: &str) -> bool {
@@ -44,11 +43,11 @@ pub fn is_document(text: &str) -> bool {
 }
 
 /// The lines of a document behind its first, without comments; one that begins with a blank goes on with the line before it.
-fn stretches(text: &str) -> Vec<Stretch> {
-    let mut found: Vec<Stretch> = Vec::new();
+fn stretches(text: &str) -> Vec<Span> {
+    let mut found: Vec<Span> = Vec::new();
     let mut from = 0;
     let mut begun = false;
-    for line in text.split_inclusive('\n') {
+    for (number, line) in (1..).zip(text.split_inclusive('\n')) {
         let to = from + line.len();
         let bare = line.trim();
         let goes_on = line.starts_with([' ', '\t']);
@@ -58,7 +57,14 @@ fn stretches(text: &str) -> Vec<Stretch> {
             (true, bare) if bare.starts_with('#') => {}
             _ => match found.last_mut() {
                 Some(last) if goes_on => last.to = to,
-                _ => found.push(Stretch { from, to }),
+                _ => found.push(Span {
+                    from,
+                    to,
+                    place: Place {
+                        line: number,
+                        column: 1,
+                    },
+                }),
             },
         }
         from = to;
@@ -78,7 +84,7 @@ fn place_of(text: &str, at: usize) -> Place {
 impl Document {
     /// A single formula, as a document.
     pub fn single(text: &str, alphabet: &Alphabet) -> Result<Document, FormulaError> {
-        let read = read_part(text, 0, text.len(), alphabet, &[])?;
+        let read = read_part(text, Span::whole(text), alphabet, &Parts::default())?;
         Ok(Document {
             lines: vec![Line {
                 grade: 3,
@@ -94,23 +100,31 @@ impl Document {
         if !is_document(text) {
             return Document::single(text, alphabet);
         }
-        let mut parts: Vec<(String, Tree)> = Vec::new();
+        let mut parts = Parts::default();
+        let mut size = 0;
         let mut lines = Vec::new();
-        for stretch in stretches(text) {
-            let Stretch { from, to } = stretch;
-            let own = &text[from..to];
+        for span in stretches(text) {
+            let own = &text[span.from..span.to];
+            let fault = |message: String| Err(FormulaError::new(text, span.place, message));
             if let Some((name, behind)) = definition(own) {
-                let fault =
-                    |message: String| Err(FormulaError::new(text, place_of(text, from), message));
                 if let Some(message) = unusable(name, alphabet, &parts) {
                     return fault(message);
                 }
-                let read = read_part(text, from + behind, to, alphabet, &parts)?;
-                parts.push((name.to_string(), read.tree));
+                let read = read_part(text, span.without(text, behind), alphabet, &parts)?;
+                size += read.tree.size();
+                if size > MOST_OF_PARTS {
+                    return fault(format!(
+                        "the parts have more than {MOST_OF_PARTS} names and operators together"
+                    ));
+                }
+                parts.add(name, read.tree);
                 continue;
             }
+            if lines.len() == MOST_DEPTH {
+                return fault(format!("there are more than {MOST_DEPTH} formulas"));
+            }
             let (grade, behind) = graded(own);
-            let read = read_part(text, from + behind, to, alphabet, &parts)?;
+            let read = read_part(text, span.without(text, behind), alphabet, &parts)?;
             lines.push(Line {
                 grade,
                 tree: read.tree,
@@ -172,7 +186,7 @@ fn definition(line: &str) -> Option<(&str, usize)> {
 }
 
 /// What is wrong with the name of a part, if something is.
-fn unusable(name: &str, alphabet: &Alphabet, parts: &[(String, Tree)]) -> Option<String> {
+fn unusable(name: &str, alphabet: &Alphabet, parts: &Parts) -> Option<String> {
     let kind = alphabet.kind();
     if alphabet.has(name) {
         return Some(format!("`{name}` is the name of a {kind}"));
@@ -183,7 +197,7 @@ fn unusable(name: &str, alphabet: &Alphabet, parts: &[(String, Tree)]) -> Option
     if name.chars().all(|own| own.is_ascii_digit()) {
         return Some(format!("a part needs a name, and `{name}` is a number"));
     }
-    let twice = parts.iter().any(|(own, _)| own == name);
+    let twice = parts.get(name).is_some();
     twice.then(|| format!("`{name}` stands for a part already"))
 }
 

@@ -6,6 +6,7 @@
 mod document;
 mod meaning;
 mod parse;
+mod parts;
 mod patterns;
 mod program;
 mod rule;
@@ -20,5 +21,8 @@ pub use rule::{make, Made, NotMade, Step};
 pub use tokens::FormulaError;
 pub use tree::Tree;
 
-/// How deep the parts of a formula may lie in one another.
+/// How deep the parts of a formula may lie in one another, and how many formulas a document may have.
 pub const MOST_DEPTH: usize = 200;
+
+/// How many names and operators a formula may have, the parts that it names written out.
+pub const MOST_SIZE: usize = 65_535;

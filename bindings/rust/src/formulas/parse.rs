@@ -1,10 +1,11 @@
 //! Formulas read: Spot's precedences, and no chain of operators that tools read in two ways.
 
 use super::meaning::Alphabet;
+use super::parts::Parts;
 use super::patterns::{self, Pattern, Scope};
-use super::tokens::{operator, tokens, FormulaError, Placed, Sign, Token};
+use super::tokens::{operator, tokens, FormulaError, Placed, Sign, Span, Token};
 use super::tree::{Binary, Tree, Unary};
-use super::MOST_DEPTH;
+use super::{MOST_DEPTH, MOST_SIZE};
 use crate::text::{listed, Place};
 
 /// A formula that was read.
@@ -18,18 +19,17 @@ pub struct Read {
 
 /// Reads a formula over the letters or propositions of an alphabet.
 pub fn read(text: &str, alphabet: &Alphabet) -> Result<Read, FormulaError> {
-    read_part(text, 0, text.len(), alphabet, &[])
+    read_part(text, Span::whole(text), alphabet, &Parts::default())
 }
 
-/// Reads the part of a text from one byte to another, which may name parts that were read before.
+/// Reads a part of a text, which may name parts that were read before.
 pub(super) fn read_part(
     text: &str,
-    from: usize,
-    to: usize,
+    span: Span,
     alphabet: &Alphabet,
-    parts: &[(String, Tree)],
+    parts: &Parts,
 ) -> Result<Read, FormulaError> {
-    let (tokens, end) = tokens(text, from, to)?;
+    let (tokens, end) = tokens(text, span)?;
     let parse = |spin: bool| {
         let mut parser = Parser {
             text,
@@ -37,6 +37,7 @@ pub(super) fn read_part(
             at: 0,
             end,
             depth: 0,
+            size: 0,
             spin,
             alphabet,
             parts,
@@ -69,10 +70,12 @@ struct Parser<'a> {
     at: usize,
     end: Place,
     depth: usize,
+    /// How many names and operators the trees have that were made.
+    size: usize,
     /// Whether the formula is read as Spin reads it.
     spin: bool,
     alphabet: &'a Alphabet,
-    parts: &'a [(String, Tree)],
+    parts: &'a Parts,
 }
 
 /// How strong an operator between two parts binds, the weakest 1.
@@ -157,8 +160,21 @@ impl Parser<'_> {
         self.fault(self.place(), message)
     }
 
+    /// That there is room for so many names and operators more.
+    fn room(&mut self, more: usize) -> Result<(), FormulaError> {
+        self.size = self.size.saturating_add(more);
+        match self.size > MOST_SIZE {
+            true => Err(self.fault(
+                self.place(),
+                format!("the formula has more than {MOST_SIZE} names and operators, its parts written out"),
+            )),
+            false => Ok(()),
+        }
+    }
+
     /// A tree with parts of some depth below it.
-    fn grown(&self, tree: Tree, below: usize) -> Result<Grown, FormulaError> {
+    fn grown(&mut self, tree: Tree, below: usize) -> Result<Grown, FormulaError> {
+        self.room(1)?;
         match below >= MOST_DEPTH {
             true => Err(self.too_deep()),
             false => Ok(Grown {
@@ -276,14 +292,16 @@ impl Parser<'_> {
     }
 
     fn part(&self, name: &str) -> Option<&Tree> {
-        let own = self.parts.iter().find(|(own, _)| own == name);
-        own.map(|(_, tree)| tree)
+        self.parts.get(name)
     }
 
-    fn known(&self, name: String, place: Place) -> Result<Grown, FormulaError> {
-        if let Some(tree) = self.part(&name) {
+    fn known(&mut self, name: String, place: Place) -> Result<Grown, FormulaError> {
+        let parts = self.parts;
+        if let Some(tree) = parts.get(&name) {
+            self.room(tree.size())?;
             return self.grown(tree.clone(), tree.depth() - 1);
         }
+        self.room(1)?;
         match self.alphabet.has(&name) {
             true => Ok(Grown::leaf(Tree::Name(name))),
             false => Err(self.fault(place, self.unknown(&name))),
@@ -293,7 +311,7 @@ impl Parser<'_> {
     /// What is said of a name that nothing has.
     fn unknown(&self, name: &str) -> String {
         let mut known = self.alphabet.called();
-        known.extend(self.parts.iter().map(|(own, _)| own.clone()));
+        known.extend(self.parts.names().cloned());
         let kind = self.alphabet.kind();
         let hint = match self.spelled(name) {
             Some(spelled) => format!("; operators are words of their own: `{spelled}`"),
@@ -375,6 +393,7 @@ impl Parser<'_> {
             }
         };
         let depth = tree.depth();
+        self.room(tree.size())?;
         self.grown(tree, depth - 1)
     }
 }

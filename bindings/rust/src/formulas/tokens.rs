@@ -217,14 +217,38 @@ fn behind(mut place: Place, text: &str) -> Place {
     place
 }
 
-/// All tokens of a part of a text, which begins at a byte of it, and the place where they end.
-pub(super) fn tokens(
-    text: &str,
-    from: usize,
-    to: usize,
-) -> Result<(Vec<Placed>, Place), FormulaError> {
-    let mut place = behind(Place { line: 1, column: 1 }, &text[..from]);
-    let mut rest = &text[from..to];
+/// A part of a text: from one byte to another, and the place of the first.
+#[derive(Clone, Copy)]
+pub(super) struct Span {
+    pub from: usize,
+    pub to: usize,
+    pub place: Place,
+}
+
+impl Span {
+    pub fn whole(text: &str) -> Span {
+        Span {
+            from: 0,
+            to: text.len(),
+            place: Place { line: 1, column: 1 },
+        }
+    }
+
+    /// The same without so many bytes at its front.
+    pub fn without(self, text: &str, bytes: usize) -> Span {
+        let from = self.from + bytes;
+        Span {
+            from,
+            place: behind(self.place, &text[self.from..from]),
+            ..self
+        }
+    }
+}
+
+/// All tokens of a part of a text, and the place where they end.
+pub(super) fn tokens(text: &str, span: Span) -> Result<(Vec<Placed>, Place), FormulaError> {
+    let mut place = span.place;
+    let mut rest = &text[span.from..span.to];
     let mut found = Vec::new();
     loop {
         let bare = rest.trim_start();

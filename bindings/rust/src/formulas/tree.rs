@@ -91,6 +91,16 @@ impl Tree {
         Tree::Two(sign, Box::new(first), Box::new(second))
     }
 
+    /// How many names, sets, constants and operators it has.
+    pub fn size(&self) -> usize {
+        match self {
+            Tree::Name(_) | Tree::Constant(_) => 1,
+            Tree::Set(names) => names.len(),
+            Tree::One(_, part) => 1 + part.size(),
+            Tree::Two(_, first, second) => 1 + first.size() + second.size(),
+        }
+    }
+
     /// How deep its parts lie in one another; 1 for a name.
     pub fn depth(&self) -> usize {
         match self {

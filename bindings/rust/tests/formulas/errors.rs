@@ -1,7 +1,7 @@
 //! What is wrong with a formula is told with its place, and nothing that is written makes the reader fail.
 
 use super::{letters, propositions, read};
-use duknavet::formulas::{Alphabet, Document};
+use duknavet::formulas::{Alphabet, Document, Program};
 
 fn fault(text: &str, alphabet: &Alphabet) -> String {
     match Document::read(text, alphabet) {
@@ -106,6 +106,83 @@ fn long_and_deep_formulas_are_told() {
         let fault = read(&beyond, &alphabet).expect_err("too deep");
         assert!(fault.message.contains("more than 200 deep"));
     });
+}
+
+/// The same in a document: as a part and with a grade, and so many lines.
+#[test]
+fn long_documents_are_told() {
+    for piece in ["(", "!", "X ", "a U ", "# ", "a\n b "] {
+        in_small_thread(move || {
+            let alphabet = letters(&["a", "b"]);
+            let long = piece.repeat(100_000);
+            for text in [
+                format!("duknavet formula 1\npart = {long}\nG a\n"),
+                format!("duknavet formula 1\ntolerable: {long}\n"),
+            ] {
+                assert!(Document::read(&text, &alphabet).is_err(), "{piece}");
+            }
+        });
+    }
+    in_small_thread(|| {
+        let alphabet = letters(&["a", "b"]);
+        let parts: String = (0..10_000).map(|at| format!("part{at} = X a\n")).collect();
+        let text = format!("duknavet formula 1\n{parts}G part9999\n");
+        let document = Document::read(&text, &alphabet).expect("a document");
+        assert_eq!(document.lines[0].tree.to_string(), "G X a");
+        let lines = |count: usize| {
+            let lines = "poor: F a\n".repeat(count);
+            Document::read(&format!("duknavet formula 1\n{lines}"), &alphabet)
+        };
+        let document = lines(200).expect("a document");
+        let formula = document.formula(&alphabet).expect("moderate length");
+        assert!(Program::of(&formula).is_ok());
+        let fault = lines(100_000).expect_err("too many formulas");
+        assert_eq!(fault.message, "there are more than 200 formulas");
+        assert_eq!(fault.place.line, 202);
+    });
+    // Each part has the one before it twice.
+    in_small_thread(|| {
+        let alphabet = letters(&["a", "b"]);
+        let doubled = |count: usize| {
+            let parts = (1..count).map(|at| format!("part{at} = X part{0} U part{0}\n", at - 1));
+            let parts: String = parts.collect();
+            let text = format!("duknavet formula 1\npart0 = X a\n{parts}F a\n");
+            Document::read(&text, &alphabet)
+        };
+        assert!(doubled(10).is_ok());
+        let fault = doubled(60).expect_err("too long");
+        assert!(fault.message.contains("more than 65535 names"), "{fault}");
+        let wide = format!("wide = {}\n", "(X a U a)".to_string());
+        let wide = (0..9).fold(wide, |text, at| {
+            let before = if at == 0 {
+                "wide".to_string()
+            } else {
+                format!("wide{}", at - 1)
+            };
+            format!("{text}wide{at} = (X {before}) U (X {before})\n")
+        });
+        let many = |count: usize| -> String {
+            let lines = (0..count).map(|at| format!("more{at} = X wide8\n"));
+            format!(
+                "duknavet formula 1\n{wide}{}F a\n",
+                lines.collect::<String>()
+            )
+        };
+        assert!(Document::read(&many(10), &alphabet).is_ok());
+        let fault = Document::read(&many(100_000), &alphabet).expect_err("too long");
+        assert!(
+            fault.message.contains("names and operators together"),
+            "{fault}"
+        );
+    });
+}
+
+#[test]
+fn nothing_at_all_is_told() {
+    let alphabet = letters(&["a", "b"]);
+    for text in ["", " ", "\n", "# a comment", "()", "duknavet formula 1"] {
+        assert!(Document::read(text, &alphabet).is_err(), "{text:?}");
+    }
 }
 
 #[test]

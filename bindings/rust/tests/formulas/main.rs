@@ -1,5 +1,6 @@
 //! Temporal formulas: how they are read, what they mean, and the bytes that they become.
 
+mod automata;
 mod documents;
 mod errors;
 mod evaluation;

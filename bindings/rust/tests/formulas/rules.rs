@@ -10,7 +10,7 @@ fn rule(formula: &Formula, letters: usize) -> Option<Made> {
     make(letters, &program).ok()
 }
 
-fn of(text: &str, alphabet: &Alphabet) -> Vec<u8> {
+pub fn of(text: &str, alphabet: &Alphabet) -> Vec<u8> {
     let made = rule(&formula(text, alphabet), alphabet.letters());
     made.unwrap_or_else(|| panic!("{text} has no rule")).rule
 }
@@ -66,7 +66,7 @@ impl Random {
 fn rules_of_random_formulas_have_their_grades() {
     let mut random = Random(0x5eed_0001);
     let (mut rules, mut lassos, mut seen) = (0, 0, [0; 4]);
-    for turn in 0..900 {
+    for turn in 0..3600 {
         let letters = 2 + turn % 2;
         let own = random.formula(letters, 4);
         let Some(made) = rule(&own, letters) else {
@@ -84,8 +84,8 @@ fn rules_of_random_formulas_have_their_grades() {
     }
     println!("{rules} rules, {lassos} lassos, grades {seen:?}");
     assert!(
-        rules > 850 && seen.iter().all(|count| *count > 100),
-        "{rules} {seen:?}"
+        rules > 3400 && lassos >= 100_000 && seen.iter().all(|count| *count > 1000),
+        "{rules} {lassos} {seen:?}"
     );
 }
 
@@ -94,10 +94,15 @@ fn laws_hold_byte_for_byte() {
     let mut random = Random(0x5eed_0002);
     let boxed = |formula: &Formula| Box::new(formula.clone());
     let not = |formula: &Formula| Box::new(Formula::Not(boxed(formula)));
+    let next = |formula: &Formula| Box::new(Formula::Next(boxed(formula)));
+    let both = |one: Box<Formula>, other: Box<Formula>| Formula::Both(one, other);
+    let either = |one: Box<Formula>, other: Box<Formula>| Formula::Either(one, other);
+    let mut held = [0; 11];
     for _ in 0..60 {
         let (f, g) = (random.formula(2, 2), random.formula(2, 2));
         let until = Formula::Until(boxed(&f), boxed(&g));
-        let next = Formula::Next(boxed(&until));
+        let always = Formula::Always(boxed(&f));
+        let weak = Formula::WeakUntil(boxed(&f), boxed(&g));
         let pairs = [
             (
                 Formula::Not(Box::new(Formula::Both(boxed(&f), boxed(&g)))),
@@ -105,34 +110,42 @@ fn laws_hold_byte_for_byte() {
             ),
             (
                 until.clone(),
-                Formula::Either(
-                    boxed(&g),
-                    Box::new(Formula::Both(boxed(&f), Box::new(next))),
-                ),
+                Formula::Either(boxed(&g), Box::new(Formula::Both(boxed(&f), next(&until)))),
             ),
             (
                 Formula::Release(boxed(&f), boxed(&g)),
                 Formula::Not(Box::new(Formula::Until(not(&f), not(&g)))),
             ),
-            (
-                Formula::Next(Box::new(until)),
-                Formula::Until(
-                    Box::new(Formula::Next(boxed(&f))),
-                    Box::new(Formula::Next(boxed(&g))),
-                ),
-            ),
+            (*next(&until), Formula::Until(next(&f), next(&g))),
             (
                 f.clone(),
                 Formula::Either(boxed(&f), Box::new(Formula::Both(boxed(&f), boxed(&g)))),
             ),
+            (
+                Formula::Not(Box::new(either(boxed(&f), boxed(&g)))),
+                both(not(&f), not(&g)),
+            ),
+            (
+                f.clone(),
+                both(boxed(&f), Box::new(either(boxed(&f), boxed(&g)))),
+            ),
+            (*next(&both(boxed(&f), boxed(&g))), both(next(&f), next(&g))),
+            (always.clone(), both(boxed(&f), next(&always))),
+            (
+                weak.clone(),
+                either(boxed(&g), Box::new(both(boxed(&f), next(&weak)))),
+            ),
+            (weak, either(Box::new(until), Box::new(always))),
         ];
-        for (left, right) in pairs {
+        for (law, (left, right)) in pairs.into_iter().enumerate() {
             let (Some(one), Some(other)) = (rule(&left, 2), rule(&right, 2)) else {
                 continue;
             };
             assert_eq!(one.rule, other.rule, "{left:?} and {right:?}");
+            held[law] += 1;
         }
     }
+    assert!(held.iter().all(|count| *count > 50), "{held:?}");
 }
 
 #[test]
