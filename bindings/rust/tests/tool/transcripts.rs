@@ -1,6 +1,9 @@
 //! The documents' examples: the transcripts of docs/TOOL.md, docs/FORMULAS.md and the README are replayed, and the worked examples of docs/RULES.md and docs/FORMATS.md run.
 
 use crate::program::{run, run_with, Scrap};
+use duknavet::files::Rule;
+use duknavet::owned;
+use std::collections::{BTreeMap, BTreeSet};
 use std::path::{Path, PathBuf};
 use std::process::Command;
 
@@ -81,28 +84,77 @@ fn steps(document: &str) -> Vec<Step> {
     steps
 }
 
-#[test]
-fn transcripts_are_what_the_tool_does() {
-    let place = Place::new();
+/// Runs a step in a place, and holds what it printed.
+fn replay(place: &Place, step: &Step) {
     let tool = Path::new(env!("CARGO_BIN_EXE_duknavet-tool"));
     let directory = tool.parent().expect("a directory").to_string_lossy();
     let path = format!("{directory}:{}", std::env::var("PATH").unwrap_or_default());
+    let ran = Command::new("sh")
+        .arg("-c")
+        .arg(format!("exec 2>&1\n{}", step.command))
+        .current_dir(&place.0)
+        .env("PATH", &path)
+        .output()
+        .expect("a shell");
+    let printed = String::from_utf8_lossy(&ran.stdout);
+    let Step { line, command, .. } = step;
+    assert_eq!(printed, step.printed, "line {line}: {command}");
+}
+
+#[test]
+fn transcripts_are_what_the_tool_does() {
+    let place = Place::new();
     let (of_tool, of_readme, of_formulas) = (steps(TOOL), steps(README), steps(FORMULAS));
     assert!(
-        of_tool.len() > 20 && of_readme.len() > 2 && of_formulas.len() > 4,
+        of_tool.len() > 20 && of_readme.len() > 2 && of_formulas.len() > 30,
         "there are too few steps"
     );
     for step in of_tool.iter().chain(&of_readme).chain(&of_formulas) {
-        let ran = Command::new("sh")
-            .arg("-c")
-            .arg(format!("exec 2>&1\n{}", step.command))
-            .current_dir(&place.0)
-            .env("PATH", &path)
-            .output()
-            .expect("a shell");
-        let printed = String::from_utf8_lossy(&ran.stdout);
-        let Step { line, command, .. } = step;
-        assert_eq!(printed, step.printed, "line {line}: {command}");
+        replay(&place, step);
+    }
+}
+
+/// The grades that some lasso has by a strong rule: those of the first words of its linked pairs.
+fn grades_that_occur(rule: &[u8]) -> BTreeSet<u8> {
+    let words = Rule::take_apart(rule).expect("a rule").first_words();
+    let word = |element: usize| words[element].clone().expect("the value of a word");
+    let classes = owned::classes(rule).expect("a rule").by_least();
+    let pairs = classes.into_iter().flatten();
+    let grade = |(s, e)| {
+        let member = owned::member(rule, &word(s), &word(e));
+        member.expect("a lasso").grade
+    };
+    pairs.map(grade).collect()
+}
+
+/// Each of the ten rules has a lasso of every grade that it gives.
+#[test]
+fn the_harbours_rules_show_every_grade() {
+    let place = Place::new();
+    let section = FORMULAS
+        .split("\n## ")
+        .find(|own| own.starts_with("Ten rules"));
+    let steps = steps(section.expect("the section"));
+    let mut shown: BTreeMap<&str, BTreeSet<u8>> = BTreeMap::new();
+    for step in &steps {
+        replay(&place, step);
+        let words: Vec<&str> = step.command.split_whitespace().collect();
+        if let ["duknavet-tool", "member", rule, ..] = words[..] {
+            let grades = step.printed.lines().map(|line| {
+                let grade = line.strip_prefix("grade ").and_then(|rest| rest.get(..1));
+                grade
+                    .and_then(|grade| grade.parse::<u8>().ok())
+                    .expect("a grade")
+            });
+            shown.entry(rule).or_default().extend(grades);
+        }
+    }
+    assert_eq!(shown.len(), 10);
+    for (rule, grades) in shown {
+        let file = place.0.join(rule);
+        let text = std::fs::read(&file).expect("the rule was written");
+        let (_, parsed) = duknavet::text::read(&text).expect("a text");
+        assert_eq!(grades, grades_that_occur(&parsed.bytes), "{rule}");
     }
 }
 
