@@ -3,6 +3,7 @@
 use crate::command::{Command, Failure};
 use crate::nearest::nearest;
 use std::ffi::{OsStr, OsString};
+use std::os::unix::ffi::OsStrExt as _;
 
 /// The arguments and options that a subcommand was given.
 pub struct Arguments {
@@ -35,6 +36,10 @@ impl Arguments {
         let mut only_plain = false;
         while let Some(word) = words.next() {
             let shown = word.to_string_lossy();
+            if let Some(joined) = shown.strip_prefix("-o").filter(|_| !only_plain) {
+                arguments.output(command, word, joined, &mut words)?;
+                continue;
+            }
             match shown.strip_prefix("--") {
                 Some("") if !only_plain => only_plain = true,
                 Some(option) if !only_plain => {
@@ -52,6 +57,24 @@ impl Arguments {
             return Err(arguments.usage(&format!("it takes {shown}, but was given {given}")));
         }
         Ok(arguments)
+    }
+
+    /// `-o FILE`, or both in one word.
+    fn output<'a>(
+        &mut self,
+        command: &Command,
+        word: &OsStr,
+        joined: &str,
+        words: &mut impl Iterator<Item = &'a OsString>,
+    ) -> Result<(), Failure> {
+        if !command.choices().any(|own| own.name == "output") {
+            return Err(self.no_option(command, "-o"));
+        }
+        if joined.is_empty() {
+            return self.option(command, "output", words);
+        }
+        let file = OsStr::from_bytes(&word.as_bytes()[2..]).to_os_string();
+        self.option(command, "output", &mut [file].iter())
     }
 
     fn option<'a>(
@@ -93,6 +116,23 @@ impl Arguments {
             None => String::new(),
         };
         self.usage(&format!("there is no option `{given}`{nearest}"))
+    }
+
+    pub fn command(&self) -> &'static str {
+        self.command
+    }
+
+    /// Every argument.
+    pub fn all(&self) -> &[OsString] {
+        &self.plain
+    }
+
+    /// The first argument that names a file, or is a formula.
+    pub fn first_file(&self) -> &OsStr {
+        self.plain(match self.command {
+            "combine" => 1,
+            _ => 0,
+        })
     }
 
     /// An argument by its place; there are as many as the subcommand asks for.

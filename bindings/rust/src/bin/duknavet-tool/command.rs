@@ -1,6 +1,7 @@
 //! What a subcommand is.
 
 use crate::arguments::Arguments;
+use duknavet::Refused;
 
 /// A subcommand: what help says of it, and what runs it.
 pub struct Command {
@@ -41,6 +42,8 @@ pub enum Answer {
     Done,
     Yes,
     No,
+    /// This status, with everything said that is to be said.
+    Status(u8),
 }
 
 impl Answer {
@@ -50,17 +53,47 @@ impl Answer {
             false => Answer::No,
         }
     }
+
+    pub fn status(self) -> u8 {
+        match self {
+            Answer::Done | Answer::Yes => 0,
+            Answer::No => 1,
+            Answer::Status(status) => status,
+        }
+    }
 }
 
 /// Why a subcommand has no answer.
 #[derive(Debug)]
 pub enum Failure {
-    /// An input was refused by a call, or is a text that cannot be read.
+    /// An input is a text that cannot be read, or of another kind.
     Refused(String),
+    /// An input was refused by a call.
+    ByCall(Refused, String),
     /// The words of the command line.
     Usage(String),
     /// A file could not be read or written.
     Files(String),
     /// Nobody reads the output any more.
     Closed,
+}
+
+impl Failure {
+    pub fn status(&self) -> u8 {
+        match self {
+            Failure::Refused(_) | Failure::ByCall(..) => 2,
+            Failure::Usage(_) | Failure::Files(_) | Failure::Closed => 3,
+        }
+    }
+
+    /// What is said of it; nothing where nobody listens.
+    pub fn message(&self) -> Option<&str> {
+        match self {
+            Failure::Refused(message)
+            | Failure::ByCall(_, message)
+            | Failure::Usage(message)
+            | Failure::Files(message) => Some(message),
+            Failure::Closed => None,
+        }
+    }
 }

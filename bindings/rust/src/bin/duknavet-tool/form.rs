@@ -2,8 +2,8 @@
 
 use crate::arguments::Arguments;
 use crate::command::{Answer, Choice, Failure};
+use crate::destination;
 use crate::input::Source;
-use crate::output;
 use duknavet::files::{marks_of, Automaton, Rule};
 use duknavet::text::{described, print_automaton, print_map, print_marks, print_rule};
 use duknavet::text::{Kind, Names};
@@ -48,6 +48,19 @@ pub fn write_rule(arguments: &Arguments, source: &Source, bytes: &[u8]) -> Resul
     write_rule_with(arguments, source.is_text(), &Beyond::of(source), bytes)
 }
 
+/// The bytes of the file that a rule is written as, of a source.
+pub fn rule_as_written(
+    arguments: &Arguments,
+    source: &Source,
+    bytes: &[u8],
+) -> Result<Vec<u8>, Failure> {
+    let text = match to_text(arguments, source.is_text())? {
+        true => text_of(bytes, Kind::Rule, &Beyond::of(source)),
+        false => None,
+    };
+    Ok(text.map_or_else(|| bytes.to_vec(), String::into_bytes))
+}
+
 /// Writes a rule with what a text has beyond its bytes: as a text or bytes as asked, else as the input was.
 pub fn write_rule_with(
     arguments: &Arguments,
@@ -60,10 +73,9 @@ pub fn write_rule_with(
         false => None,
     };
     match text {
-        Some(text) => output::write(text.as_bytes())?,
-        None => output::write(bytes)?,
+        Some(text) => destination::text(arguments, &text),
+        None => destination::bytes(arguments, bytes),
     }
-    Ok(Answer::Done)
 }
 
 /// Whether a text is to be written.
@@ -83,5 +95,5 @@ pub fn write_map(
 ) -> Result<(), Failure> {
     let text = to_text(arguments, source.is_text())?.then(|| print_map(map));
     let bytes = text.as_deref().map_or(map, str::as_bytes);
-    output::write_file(file, bytes)
+    destination::write(file, bytes)
 }

@@ -84,8 +84,10 @@ pub fn made(
     let too_long = || refused("it is too long".to_string());
     let formula = document.formula(alphabet).ok_or_else(too_long)?;
     let program = Program::of(&formula).map_err(|fault| refused(no_program(&fault, alphabet)))?;
-    let made =
-        make(alphabet.letters(), &program).map_err(|fault| refused(not_made(&fault, alphabet)))?;
+    let made = make(alphabet.letters(), &program).map_err(|fault| {
+        let words = not_made(&fault, alphabet);
+        Failure::ByCall(fault.explained.refused, format!("{name}: {words}"))
+    })?;
     tell(&made, alphabet, show_steps);
     Ok(Formulated {
         description: description(&document),

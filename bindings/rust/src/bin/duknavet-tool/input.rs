@@ -10,9 +10,12 @@ use duknavet::text::{self, Kind, Names, Parsed, Place, TextError};
 use duknavet::words::Explained;
 use duknavet::Refusal;
 use std::ffi::OsStr;
-use std::fs::File;
-use std::io::{self, Read};
+use std::fs::{File, Metadata};
+use std::io::{self, BufRead, BufReader, Read, Split, StdinLock};
+use std::os::fd::AsFd as _;
+use std::os::unix::fs::MetadataExt as _;
 use std::sync::atomic::{AtomicBool, Ordering};
+use std::sync::Mutex;
 
 /// The most bytes that are read of one file.
 const MOST: u64 = 4 << 20;
@@ -87,11 +90,12 @@ impl Source {
         let at = at.filter(|_| of_byte && !beside);
         let place = at.and_then(|at| self.places.get(at));
         let name = &self.name;
-        Failure::Refused(match (place, self.left(explained)) {
+        let message = match (place, self.left(explained)) {
             (_, Some(left)) => format!("{name}: {left}"),
             (Some(place), _) => format!("{name}: {place}: {explained}"),
             _ => format!("{name}: {explained}{}", self.hint()),
-        })
+        };
+        Failure::ByCall(explained.refused, message)
     }
 
     /// That another tool's automaton has too many states, which only those are that are left of it.
@@ -124,7 +128,7 @@ impl Source {
 pub fn refused_by_input(first: &Source, second: &Source, explained: &Explained) -> Failure {
     match (explained.refused.refusal, explained.refused.input) {
         (Refusal::LettersDiffer | Refusal::TooManyPairs | Refusal::TooManyClasses, _) => {
-            Failure::Refused(explained.to_string())
+            Failure::ByCall(explained.refused, explained.to_string())
         }
         (_, 2) => second.refused(explained),
         _ => first.refused(explained),
@@ -139,27 +143,69 @@ pub fn shown(name: &OsStr) -> String {
     }
 }
 
+/// The regular files that were read, by device and number.
+static INPUTS: Mutex<Vec<(u64, u64)>> = Mutex::new(Vec::new());
+
+/// Notes a file that is read, so that it is not written over.
+pub fn note_input(file: &File) {
+    let found = file.metadata().ok().filter(Metadata::is_file);
+    if let (Some(found), Ok(mut inputs)) = (found, INPUTS.lock()) {
+        inputs.push((found.dev(), found.ino()));
+    }
+}
+
+/// Whether a file is one that was read.
+pub fn was_read(found: &Metadata) -> bool {
+    let inputs = INPUTS.lock();
+    inputs.is_ok_and(|inputs| inputs.contains(&(found.dev(), found.ino())))
+}
+
 /// All bytes of a file, or of standard input for `-`, which can be read once.
 pub fn contents(name: &OsStr) -> Result<Vec<u8>, Failure> {
-    static READ: AtomicBool = AtomicBool::new(false);
     let fault = |error: io::Error| Failure::Files(format!("{}: {error}", shown(name)));
     let mut bytes = Vec::new();
     if name == "-" {
-        if READ.swap(true, Ordering::Relaxed) {
-            let message = "standard input can be read once, and `-` stands twice";
-            return Err(Failure::Usage(message.to_string()));
+        let input = standard_input()?;
+        if let Ok(own) = io::stdin().as_fd().try_clone_to_owned() {
+            note_input(&File::from(own));
         }
-        let mut input = io::stdin().lock().take(MOST + 1);
-        input.read_to_end(&mut bytes).map_err(fault)?;
+        input
+            .take(MOST + 1)
+            .read_to_end(&mut bytes)
+            .map_err(fault)?;
     } else {
-        let mut input = File::open(name).map_err(fault)?.take(MOST + 1);
-        input.read_to_end(&mut bytes).map_err(fault)?;
+        let file = File::open(name).map_err(fault)?;
+        note_input(&file);
+        file.take(MOST + 1).read_to_end(&mut bytes).map_err(fault)?;
     }
     if bytes.len() as u64 > MOST {
         let message = format!("{}: there are more than {MOST} bytes", shown(name));
         return Err(Failure::Files(message));
     }
     Ok(bytes)
+}
+
+/// The lines of a file, or of standard input for `-`, as they come.
+pub fn lines(name: &OsStr) -> Result<Split<Box<dyn BufRead>>, Failure> {
+    let input: Box<dyn BufRead> = match name == "-" {
+        true => Box::new(standard_input()?),
+        false => {
+            let file = File::open(name);
+            let fault = |error| Failure::Files(format!("{}: {error}", shown(name)));
+            Box::new(BufReader::new(file.map_err(fault)?))
+        }
+    };
+    Ok(input.split(b'\n'))
+}
+
+/// Standard input, which can be read once.
+fn standard_input() -> Result<StdinLock<'static>, Failure> {
+    static READ: AtomicBool = AtomicBool::new(false);
+    if READ.swap(true, Ordering::Relaxed) {
+        let message = "standard input can be read once, and `-` stands twice";
+        return Err(Failure::Usage(message.to_string()));
+    }
+    Ok(io::stdin().lock())
 }
 
 fn form(bytes: &[u8]) -> Result<Form, TextError> {

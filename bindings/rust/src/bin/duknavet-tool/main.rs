@@ -9,17 +9,21 @@ mod board_letters;
 mod board_state;
 mod command;
 mod commands;
+mod destination;
 mod form;
 mod former;
 mod formulated;
 mod help;
 mod input;
+mod json;
 mod kinds;
 mod likeness;
 mod meeting;
 mod monitor_state;
 mod nearest;
 mod output;
+mod replacing;
+mod report;
 mod station;
 mod topics;
 
@@ -30,17 +34,24 @@ use std::process::ExitCode;
 
 fn main() -> ExitCode {
     let words: Vec<OsString> = std::env::args_os().skip(1).collect();
-    let (status, message) = match run(&words) {
-        Ok(Answer::Done | Answer::Yes) => (0, None),
-        Ok(Answer::No) => (1, None),
-        Err(Failure::Refused(message)) => (2, Some(message)),
-        Err(Failure::Usage(message) | Failure::Files(message)) => (3, Some(message)),
-        Err(Failure::Closed) => (3, None),
-    };
-    if let Some(message) = message {
-        output::complain(&message);
+    let mut options = words.iter().take_while(|word| *word != "--");
+    let json = options.any(|word| word == "--json");
+    if json {
+        output::keep_notes();
     }
-    ExitCode::from(status)
+    ExitCode::from(match run(&words) {
+        Ok(answer) => answer.status(),
+        Err(failure) if json => {
+            let name = words.first().map(|word| word.to_string_lossy());
+            report::failed(&name.unwrap_or_default(), None, &failure).status()
+        }
+        Err(failure) => {
+            if let Some(message) = failure.message() {
+                output::complain(message);
+            }
+            failure.status()
+        }
+    })
 }
 
 fn run(words: &[OsString]) -> Result<Answer, Failure> {
@@ -67,5 +78,11 @@ fn run(words: &[OsString]) -> Result<Answer, Failure> {
         return output::print(&help::of(command));
     }
     let arguments = Arguments::read(command, rest)?;
-    (command.run)(&arguments)
+    match (command.run)(&arguments) {
+        Err(failure) if arguments.has(report::JSON.name) => {
+            let file = (command.most > 0).then(|| arguments.first_file());
+            Ok(report::failed(command.name, file, &failure))
+        }
+        ended => ended,
+    }
 }

@@ -1,8 +1,9 @@
 //! Standard output, standard error and files. A write that fails is noticed.
 
 use crate::command::{Answer, Failure};
-use std::ffi::OsStr;
 use std::io::{self, ErrorKind, Write};
+use std::sync::atomic::{AtomicBool, Ordering};
+use std::sync::Mutex;
 
 /// Writes a result to standard output.
 pub fn write(bytes: &[u8]) -> Result<(), Failure> {
@@ -14,18 +15,34 @@ pub fn write(bytes: &[u8]) -> Result<(), Failure> {
     })
 }
 
-/// Writes a result to a file.
-pub fn write_file(file: &OsStr, bytes: &[u8]) -> Result<(), Failure> {
-    let shown = file.to_string_lossy();
-    std::fs::write(file, bytes).map_err(|error| Failure::Files(format!("{shown}: {error}")))
-}
-
 /// Writes a text and is done.
 pub fn print(text: &str) -> Result<Answer, Failure> {
     write(text.as_bytes()).map(|()| Answer::Done)
 }
 
-/// Says what is wrong. Where nobody reads standard error there is nobody to be told.
+/// Whether notes are kept for an answer in JSON.
+static KEEPS: AtomicBool = AtomicBool::new(false);
+static KEPT: Mutex<Vec<String>> = Mutex::new(Vec::new());
+
+/// From here on standard error stays empty, and what would be said there is kept.
+pub fn keep_notes() {
+    KEEPS.store(true, Ordering::Relaxed);
+}
+
+/// What was kept since it was asked for last.
+pub fn kept_notes() -> Vec<String> {
+    let kept = KEPT.lock();
+    kept.map(|mut kept| std::mem::take(&mut *kept))
+        .unwrap_or_default()
+}
+
+/// Says what is wrong, or keeps it for an answer in JSON. Where nobody reads standard error there is nobody to be told.
 pub fn complain(message: &str) {
+    if KEEPS.load(Ordering::Relaxed) {
+        if let Ok(mut kept) = KEPT.lock() {
+            kept.push(message.to_string());
+        }
+        return;
+    }
     let _ = writeln!(io::stderr().lock(), "duknavet-tool: {message}");
 }

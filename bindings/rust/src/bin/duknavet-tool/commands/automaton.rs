@@ -2,6 +2,7 @@
 
 use crate::arguments::Arguments;
 use crate::command::{Answer, Choice, Command, Failure};
+use crate::destination;
 use crate::form::{self, TO};
 use crate::input;
 use duknavet::files::Rule;
@@ -22,7 +23,7 @@ pub const COMMAND: Command = Command {
         },
         TO,
     ],
-    common: &[],
+    common: &[destination::OPTIONS],
     details: "AUTOMATON is bytes, a text, an automaton in the Hanoi format or a never claim. The rule is strong. An \
 automaton with more than 6 states is refused by 2, one with more than 64 matrices by 14. Of the Hanoi \
 format and of never claims at most 4,096 states are read, and those that no accepting run meets are left \

@@ -8,6 +8,7 @@ use crate::command::{Answer, Choice, Command, Failure};
 use crate::former::image;
 use crate::input::{self, Source};
 use crate::meeting;
+use crate::report;
 use crate::station::{
     self, options, Fault, Fingerprint, Machine, Options, Progress, Reply, Request, StateFile,
 };
@@ -35,7 +36,7 @@ pub const COMMAND: Command = Command {
         PROPOSITIONS,
         meeting::BY_NUMBER,
     ],
-    common: &[],
+    common: &[report::OPTIONS],
     details: "A line is enter N FILE, the rule in FILE under the free name N, 0 to 7; leave N; replace N FILE \
 MAP, the reduction in FILE in place of the rule N, where confirm says yes to MAP; event LETTER, by \
 number, by name or as in a & !b; mark; who; or save. A file's name with blanks or a # stands in \
@@ -254,9 +255,10 @@ impl Posting {
 /// A file that a line names.
 fn read(file: &str, kind: Kind) -> Result<Source, Fault> {
     input::expected(OsStr::new(file), kind).map_err(|failure| match failure {
-        Failure::Refused(message) | Failure::Usage(message) | Failure::Files(message) => {
-            Fault::NotUnderstood(message)
-        }
+        Failure::Refused(message)
+        | Failure::ByCall(_, message)
+        | Failure::Usage(message)
+        | Failure::Files(message) => Fault::NotUnderstood(message),
         Failure::Closed => Fault::NotUnderstood(format!("{file} cannot be read")),
     })
 }

@@ -2,7 +2,9 @@
 
 use crate::arguments::Arguments;
 use crate::command::{Answer, Command, Failure};
-use crate::{formulated, input, output};
+use crate::json::Json;
+use crate::report::{self, Report};
+use crate::{formulated, input};
 use duknavet::owned;
 use std::fmt::Write;
 
@@ -13,7 +15,7 @@ pub const COMMAND: Command = Command {
     most: 1,
     purpose: "list the linked pairs of a rule by conjugacy classes",
     options: &[],
-    common: &[formulated::OPTIONS],
+    common: &[formulated::OPTIONS, report::OPTIONS],
     details: "Prints the counts of linked pairs, classes and joins, then a line for each class with its pairs, the least first.",
     run,
 };
@@ -30,5 +32,16 @@ fn run(arguments: &Arguments) -> Result<Answer, Failure> {
         let pairs = class.iter().map(|(s, e)| format!("({s}, {e})"));
         let _ = writeln!(text, "{}", pairs.collect::<Vec<_>>().join(" "));
     }
-    output::print(&text)
+    let pairs = list.by_least().into_iter().map(|class| {
+        let pairs = class.into_iter().map(|(s, e)| Json::list([s, e]));
+        Json::list(pairs)
+    });
+    let keys = [
+        ("linked", counts.linked.into()),
+        ("classes", counts.classes.into()),
+        ("joins", counts.joins.into()),
+        ("pairs", Json::list(pairs)),
+    ];
+    let report = Report::new(Answer::Done, text, keys);
+    report::told(arguments, arguments.plain(0), report)
 }

@@ -2,6 +2,7 @@
 
 use crate::arguments::Arguments;
 use crate::command::{Answer, Command, Failure};
+use crate::destination;
 use crate::form::{self, Beyond, TO};
 use crate::formulated;
 use crate::input;
@@ -18,7 +19,7 @@ pub const COMMAND: Command = Command {
     most: 3,
     purpose: "make one rule of two strong ones over as many letters",
     options: &[TO, BY_NUMBER],
-    common: &[formulated::OPTIONS],
+    common: &[formulated::OPTIONS, destination::OPTIONS],
     details: "Each lasso has the lower of its two grades (both), the higher (either), or the lower of the first and of \
 3 less the second (without). Letters meet by their names, in the order of FIRST, or by the propositions \
 of both; where one file names none they go by their numbers. The rule is written as a text where one of \

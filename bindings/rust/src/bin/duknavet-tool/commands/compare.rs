@@ -4,9 +4,11 @@ use crate::arguments::Arguments;
 use crate::command::{Answer, Command, Failure};
 use crate::formulated;
 use crate::input::{self, Source};
+use crate::json::Json;
 use crate::kinds::{self, AS};
 use crate::meeting::{self, Met, Side, BY_NUMBER};
 use crate::output;
+use crate::report::{self, Report, JSON};
 use duknavet::owned;
 use duknavet::text::{print_lasso, Kind};
 use duknavet::witness::{compare, equal_in_order, Comparison};
@@ -18,7 +20,7 @@ pub const COMMAND: Command = Command {
     most: 2,
     purpose: "compare two rules or automata over the same letters, and give a lasso that tells them apart",
     options: &[AS, BY_NUMBER],
-    common: &[formulated::OPTIONS],
+    common: &[formulated::OPTIONS, report::OPTIONS],
     details: "Prints equal, with status 0, where every lasso has the same grade by both: strong rules by the bytes of \
 their reductions, weak ones by inclusion both ways. Else, with status 1, a lasso of which no single \
 letter can be left out, and its two grades, each as the call member answers it; where strong rules are \
@@ -44,25 +46,39 @@ fn run(arguments: &Arguments) -> Result<Answer, Failure> {
             1 => first.refused(&explained),
             _ => second.refused(&explained),
         })?;
+    let told = |report| report::told(arguments, arguments.plain(0), report);
     match comparison {
         Comparison::EqualReductions(reduction) => {
             let elements = match reduction.first().copied().unwrap_or(0) {
                 1 => "1 element".to_string(),
                 elements => format!("{elements} elements"),
             };
-            output::write(format!("equal: both reduce to the same {elements}\n").as_bytes())?;
-            Ok(Answer::Yes)
+            let text = format!("equal: both reduce to the same {elements}\n");
+            told(equal(text, reduction.first().copied()))
         }
         Comparison::EqualGrades => {
-            output::write(b"equal: neither grades a lasso higher\n")?;
-            Ok(Answer::Yes)
+            told(equal("equal: neither grades a lasso higher\n".to_string(), None))
         }
         Comparison::Different(difference) => {
             let lasso = print_lasso(&difference.lasso, &met.names);
             let (by_first, by_second) = (difference.first, difference.second);
-            output::write(format!("{lasso}\ngrades {by_first} {by_second}\n").as_bytes())?;
-            tell_other_order(&met);
-            Ok(Answer::No)
+            let keys = [
+                ("equal", false.into()),
+                ("elements", Json::None),
+                ("lasso", Json::lasso(&difference.lasso, &met.names)),
+                ("grades", Json::list([by_first, by_second])),
+            ];
+            let text = format!("{lasso}\ngrades {by_first} {by_second}\n");
+            // An object has what is said beside it, and a text stands before it.
+            let json = arguments.has(JSON.name);
+            if json {
+                tell_other_order(&met);
+            }
+            let answer = told(Report::new(Answer::No, text, keys))?;
+            if !json {
+                tell_other_order(&met);
+            }
+            Ok(answer)
         }
         Comparison::OtherLetters(first, second) => Err(Failure::Refused(format!(
             "the first has {first} letters and the second {second}"
@@ -71,6 +87,16 @@ fn run(arguments: &Arguments) -> Result<Answer, Failure> {
             "one rule is weak, words have {pairs} pairs of values in both, more than 64, and no short lasso tells them apart"
         ))),
     }
+}
+
+fn equal(text: String, elements: Option<u8>) -> Report {
+    let keys = [
+        ("equal", true.into()),
+        ("elements", Json::or_none(elements)),
+        ("lasso", Json::None),
+        ("grades", Json::None),
+    ];
+    Report::new(Answer::Yes, text, keys)
 }
 
 /// Says in which order of the second's letters two rules that differ are equal, if there is one.

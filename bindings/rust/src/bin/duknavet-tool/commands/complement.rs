@@ -2,6 +2,7 @@
 
 use crate::arguments::Arguments;
 use crate::command::{Answer, Command, Failure};
+use crate::destination;
 use crate::form::{self, TO};
 use crate::formulated;
 use crate::input;
@@ -14,7 +15,7 @@ pub const COMMAND: Command = Command {
     most: 1,
     purpose: "write the rule that gives each lasso 3 less its grade",
     options: &[TO],
-    common: &[formulated::OPTIONS],
+    common: &[formulated::OPTIONS, destination::OPTIONS],
     details: "Elements and letters stay as they are. A weak rule is refused by 12: strong says why it is weak.",
     run,
 };

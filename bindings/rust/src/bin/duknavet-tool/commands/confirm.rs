@@ -4,8 +4,9 @@ use crate::arguments::Arguments;
 use crate::command::{Answer, Command, Failure};
 use crate::formulated;
 use crate::input::{self, Source};
+use crate::json::Json;
 use crate::meeting::{self, Side, BY_NUMBER};
-use crate::output;
+use crate::report::{self, Report};
 use duknavet::text::{Kind, Names};
 use duknavet::witness::why_not_confirmed;
 use duknavet::words::Explained;
@@ -18,7 +19,7 @@ pub const COMMAND: Command = Command {
     most: 3,
     purpose: "tell whether a rule was reduced right elsewhere, by a map of its elements",
     options: &[BY_NUMBER],
-    common: &[formulated::OPTIONS],
+    common: &[formulated::OPTIONS, report::OPTIONS],
     details: "MAP has for each element of RULE the element of REDUCED that it went to: as bytes, or as a text. Prints yes, with status 0, where \
 MAP goes to every element of REDUCED and to no other, carries products and letters over, every lasso has the same grade by both rules, and \
 REDUCED is strong and has the fewest elements; its elements may be numbered in any way, and its marks may be any that give the grades. Else \
@@ -32,12 +33,22 @@ fn run(arguments: &Arguments) -> Result<Answer, Failure> {
     let [rule, reduced] = input::two_rules(arguments, rules)?;
     let map = input::expected(arguments.plain(2), Kind::Map)?;
     let answer = confirmed(arguments, &rule, &reduced, &map.bytes)?;
-    let (line, answer) = match answer {
-        Ok(()) => ("yes\n".to_string(), Answer::Yes),
-        Err(no) => (format!("{no}\n"), Answer::No),
+    let (line, why, answer) = match answer {
+        Ok(()) => ("yes\n".to_string(), None, Answer::Yes),
+        Err(no) => {
+            let why = no.strip_prefix("no: ").map(str::to_string);
+            (format!("{no}\n"), why, Answer::No)
+        }
     };
-    output::write(line.as_bytes())?;
-    Ok(answer)
+    let keys = [
+        ("yes", (answer == Answer::Yes).into()),
+        ("no", Json::or_none(why.as_deref())),
+    ];
+    report::told(
+        arguments,
+        arguments.plain(0),
+        Report::new(answer, line, keys),
+    )
 }
 
 /// Whether a rule was reduced right; else the no, with what is wrong.

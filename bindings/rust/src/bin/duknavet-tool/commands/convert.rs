@@ -3,11 +3,11 @@
 use super::states::{least, LEAST};
 use crate::arguments::Arguments;
 use crate::command::{Answer, Choice, Command, Failure};
+use crate::destination;
 use crate::form::{text_of, Beyond};
 use crate::formulated;
 use crate::input::{self, Given, Source};
 use crate::kinds::{self, AS};
-use crate::output;
 use duknavet::exchange::{print_hoa, print_rule_hoa};
 use duknavet::files::Automaton;
 use duknavet::text::{print_lasso, Kind, Names};
@@ -28,7 +28,7 @@ pub const COMMAND: Command = Command {
         },
         LEAST,
     ],
-    common: &[formulated::OPTIONS],
+    common: &[formulated::OPTIONS, destination::OPTIONS],
     details: "Bytes, the text that is written for them and the bytes of that text are the same to the last byte. What \
 does not pass the checks is converted too, as long as its sections have the lengths that its counts say: \
 a text can be mended by hand. Names of letters, propositions and a description stand in texts, and of \
@@ -50,7 +50,9 @@ fn run(arguments: &Arguments) -> Result<Answer, Failure> {
                 .map_err(|error| Failure::Refused(format!("{name}: {error}")))?;
             return match to {
                 _ if arguments.has("least") => Err(arguments.usage(LEAST_FOR)),
-                None | Some("text") => output::print(&(print_lasso(&lasso, &Names::none()) + "\n")),
+                None | Some("text") => {
+                    destination::text(arguments, &(print_lasso(&lasso, &Names::none()) + "\n"))
+                }
                 _ => Err(arguments.usage("a lasso is a text only")),
             };
         }
@@ -66,22 +68,22 @@ fn run(arguments: &Arguments) -> Result<Answer, Failure> {
         return Err(arguments.usage(LEAST_FOR));
     }
     match (to, kind) {
-        ("bytes", _) => output::write(&source.bytes).map(|()| Answer::Done),
+        ("bytes", _) => destination::bytes(arguments, &source.bytes),
         ("hoa", Kind::Rule) => {
             let automaton = RuleAutomaton::reached(&source.bytes, least);
             let automaton = automaton.map_err(|explained| source.refused(&explained))?;
-            output::print(&print_rule_hoa(&automaton, &source.names))
+            destination::text(arguments, &print_rule_hoa(&automaton, &source.names))
         }
         ("hoa", Kind::Automaton) => match Automaton::take_apart(&source.bytes) {
-            Some(automaton) => output::print(&print_hoa(&automaton, &source.names)),
+            Some(automaton) => destination::text(arguments, &print_hoa(&automaton, &source.names)),
             None => Err(kinds::refusal(&source, kind)),
         },
         ("hoa", _) => Err(arguments.usage("only automata and rules have the Hanoi format")),
-        _ => text(&source, kind),
+        _ => text(arguments, &source, kind),
     }
 }
 
-fn text(source: &Source, kind: Kind) -> Result<Answer, Failure> {
+fn text(arguments: &Arguments, source: &Source, kind: Kind) -> Result<Answer, Failure> {
     let Some(text) = text_of(&source.bytes, kind, &Beyond::of(source)) else {
         return Err(kinds::refusal(source, kind));
     };
@@ -89,5 +91,6 @@ fn text(source: &Source, kind: Kind) -> Result<Answer, Failure> {
     // The comments right behind the first line describe a file, so that notes stand further down.
     let first = text.find("\nstates ").map_or(0, |end| end + 1);
     let (before, behind) = text.split_at(first);
-    output::print(&(before.to_string() + &notes.collect::<String>() + behind))
+    let text = before.to_string() + &notes.collect::<String>() + behind;
+    destination::text(arguments, &text)
 }

@@ -7,6 +7,7 @@ use crate::formulated;
 use crate::input::{self, Source};
 use crate::monitor_state::{self, MonitorState};
 use crate::output;
+use crate::report;
 use crate::station::{
     self, options, Fault, Fingerprint, Machine, Options, Progress, Reply, Request, StateFile,
 };
@@ -32,7 +33,7 @@ pub const COMMAND: Command = Command {
         former::FROM,
         former::MAP,
     ],
-    common: &[formulated::OPTIONS],
+    common: &[formulated::OPTIONS, report::OPTIONS],
     details: "A line is a letter, by number, by name or as in a & !b, or event and a letter, also one that is \
 called like a request; mark; verdict; keep N or return N, N from 0 to 7; who; or save. Empty lines \
 and comments, from # on, are passed over. Each other line has one answer: before and since, an \
@@ -91,7 +92,7 @@ fn tell_of_weakness(rule: &Source, options: &Options) -> Result<(), Failure> {
             if options.on_change {
                 return Err(refused);
             }
-            if let Failure::Refused(message) = refused {
+            if let Some(message) = refused.message() {
                 output::complain(&format!(
                     "{message}: events are followed, and a verdict is refused"
                 ));

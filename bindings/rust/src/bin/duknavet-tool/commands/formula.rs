@@ -2,6 +2,7 @@
 
 use crate::arguments::Arguments;
 use crate::command::{Answer, Choice, Command, Failure};
+use crate::destination;
 use crate::form::{self, Beyond, TO};
 use crate::{formulated, input};
 use duknavet::formulas::Alphabet;
@@ -37,7 +38,7 @@ pub const COMMAND: Command = Command {
         },
         TO,
     ],
-    common: &[],
+    common: &[destination::OPTIONS],
     details: "One of --letters, --ap and --rule is given. Operators, from strong to weak: ! and X F G; U W R M; &&; xor; \
 ||; -> and <->. Also [] <> /\\ \\/ ~ V, and the words always, eventually, next, never, until, weak until, \
 release, and, or, not, true, false. A chain of U W R M, or of -> and <->, needs brackets. {alarm, shut} is a \

@@ -2,6 +2,7 @@
 
 use crate::arguments::Arguments;
 use crate::command::{Answer, Choice, Command, Failure};
+use crate::destination;
 use crate::form::{self, Beyond, TO};
 use crate::formulated;
 use crate::input;
@@ -40,7 +41,7 @@ pub const COMMAND: Command = Command {
         },
         TO,
     ],
-    common: &[formulated::OPTIONS],
+    common: &[formulated::OPTIONS, destination::OPTIONS],
     details: "One of --name, --order, --rename and --add is given. Two rules whose letters have different names are \
 not compared or combined: this mends it. A letter without a name has its number for one. Grades stay as \
 they are: each lasso has the grade of the lasso that its letters act as. The rule is written as a text \

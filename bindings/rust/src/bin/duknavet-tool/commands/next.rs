@@ -2,6 +2,7 @@
 
 use crate::arguments::Arguments;
 use crate::command::{Answer, Command, Failure};
+use crate::destination;
 use crate::form::{self, Beyond, TO};
 use crate::formulated;
 use crate::input;
@@ -15,7 +16,7 @@ pub const COMMAND: Command = Command {
     most: 1,
     purpose: "write the rule that gives each lasso the grade of its endless word without the first letter",
     options: &[TO],
-    common: &[formulated::OPTIONS],
+    common: &[formulated::OPTIONS, destination::OPTIONS],
     details: "Names of letters stay as they are, and the description stands under `next of:`. Its elements are the pairs (value of what is behind \
 the first letter, or none; value of the word) that words have, and need not be the fewest: reduce makes them so. \
 A weak rule is refused by 12: strong says why it is weak; more than 64 such pairs are refused by 23.",

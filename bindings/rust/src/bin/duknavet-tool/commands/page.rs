@@ -2,7 +2,8 @@
 
 use crate::arguments::Arguments;
 use crate::command::{Answer, Choice, Command, Failure};
-use crate::{formulated, input, output};
+use crate::destination;
+use crate::{formulated, input};
 use duknavet::picture::page;
 
 pub const COMMAND: Command = Command {
@@ -16,7 +17,7 @@ pub const COMMAND: Command = Command {
         value: Some("TITLE"),
         meaning: "the heading; else the name of the file, or the formula",
     }],
-    common: &[formulated::OPTIONS],
+    common: &[formulated::OPTIONS, destination::OPTIONS],
     details: "The page has the description, the table, the letters, the marks by s, then by e, with their grades, each element's first word, and the \
 classes. It needs no other file and can be read in black and white.",
     run,
@@ -27,5 +28,5 @@ fn run(arguments: &Arguments) -> Result<Answer, Failure> {
     let title = arguments.value("title").unwrap_or_else(|| rule.title());
     let html = page(&rule.bytes, &rule.names, title, &rule.description)
         .map_err(|explained| rule.refused(&explained))?;
-    output::print(&html)
+    destination::text(arguments, &html)
 }

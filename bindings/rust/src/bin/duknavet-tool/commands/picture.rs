@@ -2,9 +2,9 @@
 
 use crate::arguments::Arguments;
 use crate::command::{Answer, Choice, Command, Failure};
+use crate::destination;
 use crate::formulated;
 use crate::kinds::{self, AS};
-use crate::output;
 use duknavet::files::{Automaton, Rule};
 use duknavet::owned;
 use duknavet::picture::{dot, graph_svg, table_svg, Diagram};
@@ -29,7 +29,7 @@ pub const COMMAND: Command = Command {
             meaning: "svg, or for a graph dot; else svg",
         },
     ],
-    common: &[formulated::OPTIONS],
+    common: &[formulated::OPTIONS, destination::OPTIONS],
     details: "Writes SVG, or DOT for Graphviz. In the table of a rule each element has a colour and its number, and a marked pair \
 (row, column) is framed, with as many dots as its grade. In the graph of right products an edge leads from each element to its product \
 with a letter's element; idempotents, and of an automaton final states, have two lines around them.",
@@ -48,7 +48,7 @@ fn run(arguments: &Arguments) -> Result<Answer, Failure> {
             };
             if of != Some("graph") {
                 return match to {
-                    "svg" => output::print(&table_svg(&rule, &source.names)),
+                    "svg" => destination::text(arguments, &table_svg(&rule, &source.names)),
                     _ => Err(arguments.usage("a table has no DOT; `--of graph` has")),
                 };
             }
@@ -68,8 +68,9 @@ fn run(arguments: &Arguments) -> Result<Answer, Failure> {
             )
         }
     };
-    output::print(&match to {
+    let drawn = match to {
         "dot" => dot(&diagram),
         _ => graph_svg(&diagram),
-    })
+    };
+    destination::text(arguments, &drawn)
 }

@@ -2,7 +2,9 @@
 
 use crate::arguments::Arguments;
 use crate::command::{Answer, Choice, Command, Failure};
-use crate::{formulated, input, output};
+use crate::json::Json;
+use crate::report::{self, Report};
+use crate::{formulated, input};
 use duknavet::{owned, MOST_ROUNDS};
 use std::fmt::Write;
 
@@ -17,7 +19,7 @@ pub const COMMAND: Command = Command {
         value: Some("ROUNDS"),
         meaning: "the most rounds after round 0; else 64, which always finishes",
     }],
-    common: &[formulated::OPTIONS],
+    common: &[formulated::OPTIONS, report::OPTIONS],
     details: "Prints how many rounds were done after round 0 and whether they are finished, that is whether one more would change \
 nothing; then a line for each block with its elements, by least elements; then the bytes that the call writes, for each element the \
 least of its block. Finished blocks are the elements of the smallest rule. Status 0 where they are finished, 1 where not. A limit above \
@@ -46,6 +48,15 @@ fn run(arguments: &Arguments) -> Result<Answer, Failure> {
         let _ = writeln!(text, "{{{}}}", listed(&block, ", "));
     }
     let _ = writeln!(text, "bytes {}", listed(&found.least, " "));
-    output::write(text.as_bytes())?;
-    Ok(Answer::from(finished))
+    let keys = [
+        ("rounds", found.partition.rounds.into()),
+        ("finished", finished.into()),
+        (
+            "blocks",
+            Json::list(found.by_least().into_iter().map(Json::list)),
+        ),
+        ("bytes", Json::list(found.least.iter().copied())),
+    ];
+    let report = Report::new(Answer::from(finished), text, keys);
+    report::told(arguments, arguments.plain(0), report)
 }

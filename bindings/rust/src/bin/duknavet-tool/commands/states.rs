@@ -4,7 +4,8 @@ use crate::arguments::Arguments;
 use crate::command::{Answer, Choice, Command, Failure};
 use crate::formulated;
 use crate::input::{self, Source};
-use crate::output;
+use crate::json::{keys, Json};
+use crate::report::{self, Report};
 use duknavet::text::{read_letter, Names};
 use duknavet::words::Explained;
 use duknavet::{owned, ListedState, Refusal, RuleAutomaton, RuleState, StateKind, NONE};
@@ -40,7 +41,7 @@ pub const COMMAND: Command = Command {
             meaning: "only where this letter leads: a number, a name, or as in a & !b",
         },
     ],
-    common: &[formulated::OPTIONS],
+    common: &[formulated::OPTIONS, report::OPTIONS],
     details: "A state is (s, e), e an idempotent and s an element or none. Initial are the pairs that the rule marks with the least grade \
 or more, final those whose s is none. The automaton accepts just the lassos that the rule gives that grade or more; the rule may be \
 weak. Prints how many states are listed, how many of them initial and final, then each by e and s. What is no state is refused by 17, a \
@@ -66,11 +67,12 @@ fn run(arguments: &Arguments) -> Result<Answer, Failure> {
     }
     let rule = input::rule(arguments, arguments.plain(0))?;
     let letter = letter(arguments, &rule.names)?;
-    let text = match asked {
+    let report = match asked {
         Some(state) => one(&rule, state, least, letter),
         None => list(&rule, least, letter, all),
     };
-    output::print(&text.map_err(|explained| rule.refused(&explained))?)
+    let report = report.map_err(|explained| rule.refused(&explained))?;
+    report::told(arguments, arguments.plain(0), report)
 }
 
 /// The words S,E. Every number is taken: whether the two are a state the call says.
@@ -100,15 +102,54 @@ fn one(
     state: RuleState,
     least: u8,
     letter: Option<u8>,
-) -> Result<String, Explained> {
+) -> Result<Report, Explained> {
     let listed = ListedState::of(&rule.bytes, state, least)?;
     if let Some(letter) = letter {
         owned::successors(&rule.bytes, state.s, state.e, letter)?;
     }
-    Ok(described(&listed, letter, &rule.names))
+    let text = described(&listed, letter, &rule.names);
+    let list = Json::list([object(&listed, letter, &rule.names)]);
+    let keys = [
+        ("states", Json::None),
+        ("initial", Json::None),
+        ("final", Json::None),
+        ("list", list),
+    ];
+    Ok(Report::new(Answer::Done, text, keys))
 }
 
-fn list(rule: &Source, least: u8, letter: Option<u8>, all: bool) -> Result<String, Explained> {
+/// A state (s, e), s none or an element.
+fn pair(state: RuleState) -> Json {
+    let s = match state.s {
+        NONE => Json::None,
+        s => s.into(),
+    };
+    Json::list([s, state.e.into()])
+}
+
+/// A state with its kind and where letters lead from it.
+fn object(listed: &ListedState, letter: Option<u8>, names: &Names) -> Json {
+    let kind = match listed.kind {
+        StateKind::Plain => "plain",
+        StateKind::Initial => "initial",
+        StateKind::Final => "final",
+    };
+    let leads = shown_letters(listed, letter)
+        .map(|own| (names.show(own), Json::list(listed.next(own).map(pair))));
+    Json::Object(keys([
+        ("state", pair(listed.state)),
+        ("kind", kind.into()),
+        ("leads", Json::Object(leads.collect())),
+    ]))
+}
+
+/// The one letter that is asked for, or each.
+fn shown_letters(listed: &ListedState, letter: Option<u8>) -> impl Iterator<Item = u8> {
+    let letters = (0..=u8::MAX).take(listed.leads.len());
+    letters.filter(move |own| letter.is_none_or(|letter| letter == *own))
+}
+
+fn list(rule: &Source, least: u8, letter: Option<u8>, all: bool) -> Result<Report, Explained> {
     let automaton = match all {
         true => RuleAutomaton::whole(&rule.bytes, least)?,
         false => RuleAutomaton::reached(&rule.bytes, least)?,
@@ -129,7 +170,15 @@ fn list(rule: &Source, least: u8, letter: Option<u8>, all: bool) -> Result<Strin
     for listed in &automaton.states {
         text.push_str(&described(listed, letter, &rule.names));
     }
-    Ok(text)
+    let states = automaton.states.iter();
+    let list = Json::list(states.map(|listed| object(listed, letter, &rule.names)));
+    let keys = [
+        ("states", automaton.states.len().into()),
+        ("initial", count(StateKind::Initial).into()),
+        ("final", count(StateKind::Final).into()),
+        ("list", list),
+    ];
+    Ok(Report::new(Answer::Done, text, keys))
 }
 
 /// Has the call refuse a letter that the rule does not have, also where no state is listed. It is asked of (none, e) for the first e
@@ -152,8 +201,7 @@ fn described(listed: &ListedState, letter: Option<u8>, names: &Names) -> String 
         StateKind::Final => ", final",
     };
     let mut text = format!("State {}{kind}\n", listed.state);
-    let letters = (0..=u8::MAX).take(listed.leads.len());
-    for own in letters.filter(|own| letter.is_none_or(|letter| letter == *own)) {
+    for own in shown_letters(listed, letter) {
         let states: Vec<String> = listed.next(own).map(|to| to.to_string()).collect();
         let leads = match states.is_empty() {
             true => "nowhere".to_string(),

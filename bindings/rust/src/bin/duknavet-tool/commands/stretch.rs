@@ -2,7 +2,9 @@
 
 use crate::arguments::Arguments;
 use crate::command::{Answer, Choice, Command, Failure};
-use crate::{input, output};
+use crate::input;
+use crate::json::Json;
+use crate::report::{self, Report};
 use duknavet::text::{print_word, Names};
 
 pub const COMMAND: Command = Command {
@@ -16,7 +18,7 @@ pub const COMMAND: Command = Command {
         value: Some("RULE"),
         meaning: "a text whose names of letters, or propositions, LASSO uses",
     }],
-    common: &[],
+    common: &[report::OPTIONS],
     details: "Positions count from 0; past u the place in v is the position less the length of u, modulo the length of v. Prints \
 the letters in a line, which is empty where v has no letter, or u or v more than 4224.",
     run,
@@ -32,8 +34,8 @@ fn run(arguments: &Arguments) -> Result<Answer, Failure> {
     let Ok(position) = position.parse::<usize>() else {
         return Err(arguments.usage(&format!("`{position}` is no position")));
     };
-    output::print(&format!(
-        "{}\n",
-        print_word(lasso.stretch(position), &names)
-    ))
+    let left = lasso.stretch(position);
+    let text = format!("{}\n", print_word(left, &names));
+    let report = Report::new(Answer::Done, text, [("letters", Json::word(left, &names))]);
+    report::told(arguments, arguments.plain(0), report)
 }

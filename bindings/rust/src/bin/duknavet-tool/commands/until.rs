@@ -3,6 +3,7 @@
 use super::combine::made_of_two;
 use crate::arguments::Arguments;
 use crate::command::{Answer, Command, Failure};
+use crate::destination;
 use crate::form::TO;
 use crate::formulated;
 use crate::meeting::BY_NUMBER;
@@ -15,7 +16,7 @@ pub const COMMAND: Command = Command {
     most: 2,
     purpose: "make the rule of a strong rule until another over as many letters",
     options: &[TO, BY_NUMBER],
-    common: &[formulated::OPTIONS],
+    common: &[formulated::OPTIONS, destination::OPTIONS],
     details: "Each lasso has the highest, over the places of its endless word, of the lowest of SECOND's grade from there \
 on and FIRST's from each place before. Letters meet as those of combine do, and the rule is written as combine writes \
 it, with the descriptions of both. It need not have the fewest elements: reduce makes it so. Different numbers of \

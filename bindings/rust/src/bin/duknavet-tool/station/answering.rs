@@ -4,12 +4,13 @@ use super::keeper::{self, Keeper, Snapshot};
 use super::language::{self, Request};
 use super::lines::{self, Line, Lines};
 use super::machine::{Fault, Machine, MachineState, Reply};
-use super::options::Options;
+use super::options::{Objects, Options};
 use super::progress::Progress;
 use super::sealed;
 use super::state_file::StateFile;
 use crate::command::{Answer, Failure};
-use crate::output;
+use crate::report::{self, About};
+use crate::{json, output};
 use duknavet::words::Explained;
 use duknavet::Refusal;
 
@@ -208,10 +209,20 @@ impl<M: Machine> Station<M> {
             Err(fault) => Err(fault),
         };
         match replied.and_then(|reply| self.shown(reply)) {
-            Ok(answer) => self.answers.extend(answer.as_bytes()),
+            Ok(answer) => self.say(answer, progress),
             Err(fault) => self.refuse(fault, progress)?,
         }
         Ok(())
+    }
+
+    /// Says a line, or the object of its words; nothing where it is empty.
+    fn say(&mut self, answer: String, progress: Progress) {
+        let told = match &self.options.json {
+            Some(_) if answer.is_empty() => answer,
+            Some(objects) => report::object(about(objects, progress, 0), json::of_answer(&answer)),
+            None => answer,
+        };
+        self.answers.extend(told.as_bytes());
     }
 
     /// The line that a reply is shown as, empty where the grade is wanted and is what it was.
@@ -257,6 +268,16 @@ impl<M: Machine> Station<M> {
         }
         self.settle()?;
         self.tally.refused = self.tally.refused.saturating_add(1);
+        if let Some(objects) = &self.options.json {
+            let (refused, message) = match fault {
+                Fault::Refused(explained) => (Some(explained.refused), explained.to_string()),
+                Fault::NotUnderstood(message) | Fault::NoLetter(message) => (None, message),
+            };
+            let keys = report::refusal(refused, &message);
+            let told = report::object(about(objects, progress, 2), keys);
+            self.answers.extend(told.as_bytes());
+            return Ok(());
+        }
         let answer = match fault {
             Fault::Refused(explained) => refused(&explained),
             Fault::NotUnderstood(message) | Fault::NoLetter(message) => {
@@ -267,6 +288,16 @@ impl<M: Machine> Station<M> {
         };
         self.answers.extend(answer.as_bytes());
         Ok(())
+    }
+}
+
+/// What the object of a line is of.
+fn about(objects: &Objects, progress: Progress, status: u8) -> About<'_> {
+    About {
+        command: objects.command,
+        file: objects.file.as_deref(),
+        line: Some(progress.lines + u64::from(progress.unfinished)),
+        status,
     }
 }
 

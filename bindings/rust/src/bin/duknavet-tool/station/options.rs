@@ -2,6 +2,7 @@
 
 use crate::arguments::Arguments;
 use crate::command::{Choice, Failure};
+use crate::report::JSON;
 use std::time::Duration;
 
 /// The most bytes that a line of requests has.
@@ -57,6 +58,14 @@ pub struct Options {
     pub on_change: bool,
     pub field: Option<isize>,
     pub skip_unknown: bool,
+    /// Where answers are objects, what they are of.
+    pub json: Option<Objects>,
+}
+
+/// What the objects of a station are of.
+pub struct Objects {
+    pub command: &'static str,
+    pub file: Option<String>,
 }
 
 impl Options {
@@ -75,6 +84,13 @@ impl Options {
             on_change: arguments.has(ON_CHANGE.name),
             field: field(arguments)?,
             skip_unknown: arguments.has(SKIP_UNKNOWN.name),
+            json: arguments.has(JSON.name).then(|| Objects {
+                command: arguments.command(),
+                file: arguments
+                    .all()
+                    .first()
+                    .map(|file| file.to_string_lossy().into_owned()),
+            }),
         })
     }
 

@@ -2,18 +2,15 @@
 
 use crate::command::Failure;
 use crate::output;
-use std::ffi::{OsStr, OsString};
+use crate::replacing::{beside, replace, resolved, write_directly};
+use std::ffi::OsStr;
 use std::fs::{self, File, OpenOptions, TryLockError};
-use std::io::{self, ErrorKind, Read as _, Write as _};
-use std::os::unix::fs::{fchown, MetadataExt as _, OpenOptionsExt as _};
+use std::io::{self, ErrorKind, Read as _};
 use std::path::{Path, PathBuf};
 
 /// The most bytes that are read of a state file: names of letters, no longer than the texts that are read, and
 /// eight rules.
 const LONGEST: u64 = 16 << 20;
-
-/// As many links as are followed to a file that is not there yet.
-const MOST_LINKS: usize = 40;
 
 /// A state file that no other process of the tool has.
 pub struct StateFile {
@@ -79,8 +76,8 @@ impl StateFile {
     /// Writes a state whole or not at all, and returns when it is on the disk.
     pub fn write(&self, text: &str) -> Result<(), Failure> {
         let written = match self.direct {
-            true => write_directly(&self.target, text),
-            false => replace(&self.target, text),
+            true => write_directly(&self.target, text.as_bytes()),
+            false => replace(&self.target, ".new", text.as_bytes(), true),
         };
         let name = self.given.display();
         written.map_err(|error| Failure::Files(format!("not saved: {name}: {error}")))
@@ -97,40 +94,6 @@ impl StateFile {
 
 fn failed(file: &Path, error: &io::Error) -> Failure {
     Failure::Files(format!("{}: {error}", file.display()))
-}
-
-/// The file that a name leads to, which need not be there.
-fn resolved(given: &Path) -> io::Result<PathBuf> {
-    let mut name = given.to_path_buf();
-    for _ in 0..MOST_LINKS {
-        match fs::read_link(&name) {
-            // A link that is not absolute is meant from the folder that it stands in.
-            Ok(target) => name = folder(&name).join(target),
-            // The folder's name may lead through links as well; where there is no such folder, the first save
-            // says so.
-            Err(_) => {
-                let folder = fs::canonicalize(folder(&name));
-                let file = name.file_name().map(OsStr::to_owned);
-                return Ok(match folder.ok().zip(file) {
-                    Some((folder, file)) => folder.join(file),
-                    None => name,
-                });
-            }
-        }
-    }
-    Err(io::Error::other("too many links lead to it"))
-}
-
-/// The folder that a file stands in.
-fn folder(file: &Path) -> &Path {
-    let named = file.parent().filter(|own| !own.as_os_str().is_empty());
-    named.unwrap_or(Path::new("."))
-}
-
-fn beside(file: &Path, ending: &str) -> PathBuf {
-    let mut name = OsString::from(file);
-    name.push(ending);
-    PathBuf::from(name)
 }
 
 fn lock(given: &Path, target: &Path) -> Result<Option<File>, Failure> {
@@ -155,45 +118,4 @@ fn lock(given: &Path, target: &Path) -> Result<Option<File>, Failure> {
         name.display()
     ));
     Ok(None)
-}
-
-/// Writes the new file beside the old, and puts it in its place once it is on the disk.
-fn replace(target: &Path, text: &str) -> io::Result<()> {
-    let new = beside(target, ".new");
-    // One that an interrupted save left.
-    let _ = fs::remove_file(&new);
-    let replaced = write_new(&new, target, text).and_then(|()| fs::rename(&new, target));
-    if replaced.is_err() {
-        let _ = fs::remove_file(&new);
-    }
-    replaced?;
-    sync_folder(target)
-}
-
-fn write_new(new: &Path, old: &Path, text: &str) -> io::Result<()> {
-    let old = fs::metadata(old).ok();
-    let mut options = OpenOptions::new();
-    options.write(true).create_new(true);
-    if old.is_some() {
-        // Nobody reads it before it has the old one's mode.
-        options.mode(0o600);
-    }
-    let mut file = options.open(new)?;
-    file.write_all(text.as_bytes())?;
-    if let Some(old) = old {
-        // Only some may give a file away; for the others it is theirs already, or stays theirs.
-        let _ = fchown(&file, Some(old.uid()), Some(old.gid()));
-        file.set_permissions(old.permissions())?;
-    }
-    file.sync_all()
-}
-
-/// The new name is on the disk only when the folder is.
-fn sync_folder(file: &Path) -> io::Result<()> {
-    File::open(folder(file))?.sync_all()
-}
-
-fn write_directly(target: &Path, text: &str) -> io::Result<()> {
-    let mut file = OpenOptions::new().write(true).open(target)?;
-    file.write_all(text.as_bytes())
 }
