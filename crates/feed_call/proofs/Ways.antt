@@ -11,8 +11,7 @@ use Rattle.formats.specs.Table.{morphismAt}
 use Rattle.formats.specs.RuleFile.{lettersOf}
 use Rattle.rule_layout.specs.declared.Shape.{Shape}
 use Rattle.rule_check.proofs.Calls.{shape-morphism}
-use Rattle.rule_marks.specs.declared.Fault.{Fault}
-use Rattle.rule_marks.specs.declared.Fault.the-variants.{Nothing, Refused as Fault-refused}
+use Rattle.rule_marks.specs.declared.Fault.the-variants.{Refused as Fault-refused}
 use Rattle.promises.specs.declared.Monitor.{Monitor}
 use Rattle.promises.specs.declared.Moved.the-variants.{To, Refused}
 use Rattle.promises.specs.EventWords.{logChecks, afterWord}

@@ -1,13 +1,12 @@
 -- Formulas that mean the same are written alike, and others not; and each answer is one. Assumes nothing.
-use Prim.Native.Nat.{ℕ, _≤_}
+use Prim.Native.Nat.{ℕ}
 use mathlib.Core.Path.{_≡_, sym, subst, _∙_}
-use mathlib.Core.Logic.{_↔_}
 use mathlib.Core.List.{List}
 use Rattle.theory.specs.Words.{Lasso}
 use Rattle.theory.specs.Rules.{Rule, Lawful}
 use Rattle.theory.specs.Smallest.{SameGrades}
 use Rattle.theory.proofs.SameGrades.{same-on, same-back}
-use Rattle.temporal.specs.Formulas.{Formula, Means}
+use Rattle.temporal.specs.Formulas.{Formula}
 use Rattle.formats.specs.RuleFile.{morphismOf}
 use Rattle.formats.specs.WrittenFile.{fileOf}
 use Rattle.formats.specs.ReadBack.{ReadsBack}

@@ -8,7 +8,6 @@ use lib.ListN.{length}
 use lib.Dec.{ltb}
 use Rattle.answer.specs.Checks.{Check}
 use Rattle.answer.proofs.Order.{AllSingle, single-nil, single-at, single-cons, single-append}
-use Rattle.theory.specs.Rules.{Rule}
 use Rattle.temporal.specs.Formulas.{Formula}
 use Rattle.formats.proofs.Buffers.{buffer-single}
 use Rattle.promises.specs.declared.Written.{Written}
@@ -16,7 +15,7 @@ use Rattle.temporal_promises.specs.FirstLetter.{LettersOutOfRangeAt}
 use Rattle.temporal_promises.proofs.OneFormed.{OneFile, one-formed}
 use Rattle.temporal_promises.proofs.OneFirstLetter.{smallest-file}
 use Rattle.formula_promises.specs.Operations.{behind, heightAfter, stackAfter, operationAt, below}
-use Rattle.formula_promises.specs.Checks.{TooLongAt, NoSuchCodeAt, OperandsCutAt, GradeAboveAt, ForeignLetterAt, UnbalancedAt, NotOneAt, operationChecks, programChecks, Making, making-pairs, making-until, making-next, makings, ReductionOf, PairsTooManyAt, UntilTooManyAt, NextTooManyAt, makingChecks, runChecks, lentChecks, scanChecks, formulaChecks}
+use Rattle.formula_promises.specs.Checks.{TooLongAt, NoSuchCodeAt, OperandsCutAt, GradeAboveAt, ForeignLetterAt, UnbalancedAt, NotOneAt, operationChecks, programChecks, Making, making-pairs, making-until, making-next, makings, ReductionOf, PairsTooManyAt, UntilTooManyAt, NextTooManyAt, makingChecks, runChecks, lentChecks, formulaChecks}
 use Rattle.formula_promises.specs.FormulaRule.{FormulaOf, FormulaMade, FormulaPromise}
 
 single-either : (b : Bool) {x y : List Check} → AllSingle x → AllSingle y → AllSingle (cond b x y)

@@ -1,16 +1,15 @@
 -- The theorem on `advance` and `advance_word`: where a first part of the checks passes the same part passes of the other call, and one verdict is left.
 -- Assumes nothing.
-use Prim.Native.Nat.{ℕ, suc, _≤_, _<_}
+use Prim.Native.Nat.{ℕ, _≤_, _<_}
 use mathlib.Core.Path.{_≡_, refl, sym, ap, _∙_, subst}
 use mathlib.Core.List.{List, [], _∷_}
 use native.Mathlib.Omega.{arith}
 use lib.ListN.{length}
 use Rattle.answer.specs.declared.Refusal.{Refusal}
-use Rattle.answer.specs.declared.Refusal.the-variants.{UnknownLetter}
-use Rattle.answer.specs.Checks.{passed, refused, FirstFailure}
-use Rattle.answer.proofs.Order.{FirstCase, decides-now, hands-on, first-case, first-passes, none-left, single-nil, passed-before, passed-first, passed-last, passes-head, passes-tail, one-verdict}
+use Rattle.answer.specs.Checks.{passed, FirstFailure}
+use Rattle.answer.proofs.Order.{first-passes, none-left, passed-before, passed-first, passed-last, passes-head, passes-tail, one-verdict}
 use Rattle.answer.proofs.Verdicts.{not-passed}
-use Rattle.theory.specs.Words.{over-nil, over-cons}
+use Rattle.theory.specs.Words.{over-nil}
 use Rattle.formats.specs.RuleFile.{lettersOf, morphismOf}
 use Rattle.formats.specs.RuleChecks.{scratchSize}
 use Rattle.formats.specs.Calls.{checkedChecks}
@@ -24,10 +23,10 @@ use Rattle.promises.specs.declared.Step.the-variants.{Event, Stay}
 use Rattle.promises.specs.declared.Advanced.{Advanced}
 use Rattle.promises.specs.declared.Advanced.the-variants.{To, Refused}
 use Rattle.promises.specs.Monitor.{noValue, monitorChecks}
-use Rattle.promises.specs.Moves.{loneLetterCheck, eventChecks}
+use Rattle.promises.specs.Moves.{eventChecks}
 use Rattle.promises.specs.Verdict.{verdictChecks, VerdictPromise}
 use Rattle.promises.specs.EventWords.{longestLog, logChecks, afterWord}
-use Rattle.promises.specs.Advance.{ForeignStep, standingChecks, strongMonitorChecks, foreignChecks, advancedVerdict, AdvanceAnswer, AdvancePromise, AdvanceWordPromise}
+use Rattle.promises.specs.Advance.{ForeignStep, standingChecks, strongMonitorChecks, advancedVerdict, AdvanceAnswer, AdvancePromise, AdvanceWordPromise}
 use Rattle.promises.specs.AdvanceTheorem.{behindLetter, AdvanceTheorem}
 use Rattle.promises.proofs.CheckParts.{behind-same, behind-passed, rule-as}
 use Rattle.promises.proofs.EventWords.{log-single, known-step, log-passes, behindVerdict, letter-refused, letter-passes}

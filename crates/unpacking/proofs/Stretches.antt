@@ -1,11 +1,10 @@
 -- The part of a lasso's word in numbers goes in three fields, and is read back from them. Assumes nothing.
-use Prim.Native.Nat.{ℕ, _-_, _%_, _≤_}
+use Prim.Native.Nat.{ℕ, _-_, _≤_}
 use native.Mathlib.Nat.{mod-lt}
 use native.Mathlib.Omega.{arith}
 use mathlib.Core.Path.{_≡_, refl, sym, subst}
-use mathlib.Core.Bool.{Bool, true, false, _&&_}
+use mathlib.Core.Bool.{Bool, true, false}
 use mathlib.Core.List.{List}
-use borrow.Author.Tests.{lt-ltb, le-ltb}
 use lib.Dec.{T, leb, leb→le}
 use lib.ListN.{length}
 use Rattle.finite.proofs.Numbers.{Compared, lesser, level, greater, compared-numbers}

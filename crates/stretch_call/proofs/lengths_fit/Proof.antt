@@ -1,7 +1,6 @@
 -- `stretch_call::lengths_fit` meets its contract: each test is one of the definition's. Assumes nothing.
 use native.Mathlib.Omega.{arith}
 use Rattle.stretch_call.proofs.Parts.{empty, long, fits-not-start, fits-not-cycle, fits-by-cycle}
-use borrow.Author.Needs.{needs}
 use Rattle.stretch_call.proofs.lengths_fit.Statement.{statement}
 use Rattle.stretch_call.proofs.lengths_fit.Tie as tie
 
