@@ -3,15 +3,15 @@
  *
  * What a caller owes
  *   - Each pointer is not null, also for a length of 0, and good for its length.
- *   - A buffer that is written (out, blocks, scratch, state, classes, map of duknavet_reduce, u and v of duknavet_included, points of duknavet_keep,
+ *   - A buffer that is written (out, blocks, scratch, state, classes, stack, spare, map of duknavet_reduce, u and v of duknavet_included, points of duknavet_keep,
  *     files of duknavet_board_enter)
  *     overlaps no other argument's bytes during the call. Bytes that are only read may overlap.
  *   - Nothing else: any bytes of any length, and any numbers, have their answer. No call keeps a pointer, allocates, or
  *     uses memory shared between calls; calls on different buffers may run at the same time.
  *
  * Buffers
- *   - scratch has DUKNAVET_SCRATCH bytes or more. It may hold anything, and ends as zeros over its whole length. So does classes of
- *     duknavet_until, which has DUKNAVET_UNTIL_CLASSES bytes or more.
+ *   - scratch has DUKNAVET_SCRATCH bytes or more. It may hold anything, and ends as zeros over its whole length. So do classes of
+ *     duknavet_until and duknavet_formula_rule, which has DUKNAVET_UNTIL_CLASSES bytes or more, and stack and spare of the latter.
  *   - Result buffers have the sizes below or more. Bytes past a result keep what they had; after a refusal so does every
  *     byte. Where a buffer is too short (DUKNAVET_BUFFER_TOO_SHORT) no buffer changes, the scratch included.
  *
@@ -61,12 +61,16 @@ extern "C" {
 #define DUKNAVET_BOARD 25      /* state of a board: three bytes for each of the names 0 to 7, then the lowest grade */
 #define DUKNAVET_FILES 131232  /* files of a board: DUKNAVET_RULE bytes for each name */
 #define DUKNAVET_UNTIL_CLASSES 262144 /* classes of until: 4,096 bytes for each of 64 elements */
+#define DUKNAVET_FORMULA_STACK 147636 /* stack of formula_rule: DUKNAVET_RULE bytes for each of nine rules */
 
 /* The most letters that u or v of a lasso may have; the fewest is 0 for u and 1 for v. */
 #define DUKNAVET_WORD 4224
 
 /* The most letters that the word of duknavet_feed or duknavet_advance_word may have; the fewest is 0. */
 #define DUKNAVET_LOG 16777216
+
+/* The most bytes that the formula of duknavet_formula_rule may have. */
+#define DUKNAVET_FORMULA 65535
 
 /* The highest limit of reduce_rounds. */
 #define DUKNAVET_MOST_ROUNDS 64
@@ -248,6 +252,23 @@ uint64_t duknavet_until(const uint8_t *first, size_t first_length,
                         uint8_t *out, size_t out_length,
                         uint8_t *classes, size_t classes_length,
                         uint8_t *scratch, size_t scratch_length);
+
+/* The smallest rule of a whole formula over so many letters, 1 to 16: each lasso has the grade that the formula gives it, and no strong rule that grades
+ * alike has fewer elements. The formula is a program of a stack of at most 8 rules, at most DUKNAVET_FORMULA bytes: a code with its operands for each
+ * operation. 0: a set (its grade; two bytes, low first, bit a for letter a); 1: a constant (its grade); 12: a copy (a byte: how far below the top, 0 the
+ * top); of the top: 2 not, 6 next, 8 eventually, 9 always; of the two on top, the top the second: 3 both, 4 either, 5 without, 7 until, 10 release, 11 weak
+ * until. One rule is left at the end. Field 0: how many bytes of out (DUKNAVET_RULE) it has. stack (DUKNAVET_FORMULA_STACK), spare (DUKNAVET_RULE) and
+ * classes (DUKNAVET_UNTIL_CLASSES) may hold anything, and end as zeros like scratch. Refused, in this order: 13; 2 for letters; 11 for the formula's length;
+ * operation by operation: 3 for a code above 12, its byte; 1 where its operands lack, the length; 3 for a grade above 3, its byte; 10 for a letter of the set
+ * that is not below letters, the set's first byte; 24 where there are too few rules for it, more than 8 with it, or a copy from below them, its byte; 24 where
+ * not exactly one rule is left, the length. Only then rules are made, and 19 and 23 have the byte of the operation whose tables are too large. */
+uint64_t duknavet_formula_rule(size_t letters,
+                               const uint8_t *formula, size_t formula_length,
+                               uint8_t *out, size_t out_length,
+                               uint8_t *stack, size_t stack_length,
+                               uint8_t *spare, size_t spare_length,
+                               uint8_t *classes, size_t classes_length,
+                               uint8_t *scratch, size_t scratch_length);
 
 /* The reduction of a strong rule by rounds: which elements stand together after at most limit rounds (0 to DUKNAVET_MOST_ROUNDS)
  * after round 0. Round 0 puts s and t together if, for every element z, lassos with the values (s, z) and (t, z) have equal

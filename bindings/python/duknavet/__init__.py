@@ -33,6 +33,7 @@ BOARD_NAMES = 8
 BOARD_STATE = 25
 BOARD_FILES = 131232
 UNTIL_CLASSES = 262144
+FORMULA_STACK = 147636
 #: The most letters that a word of events may have.
 LOG = 16777216
 #: The value of a monitor, and of a state's s, that stands for no letters.
@@ -172,6 +173,7 @@ def _load() -> ctypes.CDLL:
         "constant": [size, size] + written,
         "next": lent + written + written,
         "until": lent + lent + written + written + written,
+        "formula_rule": [size] + lent + written + written + written + written + written,
         "reduce_rounds": lent + [size] + written + written,
         "state_kind": lent + [size, size, ctypes.c_uint8] + written,
         "successors": lent + [size, size, ctypes.c_uint8] + written + written,
@@ -339,6 +341,13 @@ def until(first: bytes, second: bytes) -> bytes:
     out, classes = ctypes.create_string_buffer(RULE_OUT), ctypes.create_string_buffer(UNTIL_CLASSES)
     length, _, _ = _call("until", first, second, out, classes)
     return out.raw[:length]
+
+
+def formula_rule(letters: int, formula: bytes) -> bytes:
+    """The smallest rule, over so many letters, of a formula in postfix form: its operations one after the other, each a code with its operands."""
+    buffers = [ctypes.create_string_buffer(size) for size in (RULE_OUT, FORMULA_STACK, RULE_OUT, UNTIL_CLASSES)]
+    length, _, _ = _call("formula_rule", _size(letters, "a number of letters"), bytes(formula), *buffers)
+    return buffers[0].raw[:length]
 
 
 def reduce_rounds(rule: bytes, limit: int = 64) -> Rounds:

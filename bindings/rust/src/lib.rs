@@ -77,7 +77,8 @@ pub use rule_automaton::{ListedState, RuleAutomaton, RuleState};
 pub use rule_board::RuleBoard;
 pub use rule_monitor::RuleMonitor;
 pub use states::{state_kind, successors, StateKind, Successors};
-pub use temporal::{constant, first_letter, next, until, Formed, UNTIL_CLASSES};
+pub use temporal::{constant, first_letter, formula_rule, next, until};
+pub use temporal::{Formed, FORMULA, FORMULA_STACK, UNTIL_CLASSES};
 
 /// The bytes that a scratch must have; a longer one passes.
 pub const SCRATCH: usize = 65_536;

@@ -14,7 +14,7 @@ use crate::words::{explain, Asked, Explained};
 use crate::{Confirmation, Inclusion, Membership, Operation, Partition};
 use crate::{RuleState, StateKind, Strength};
 use crate::{BLOCKS, CLASSES_OUT, MAP_OUT, RULE_OUT, SCRATCH, SUCCESSORS_OUT, U_OUT};
-use crate::{UNTIL_CLASSES, V_OUT};
+use crate::{FORMULA_STACK, UNTIL_CLASSES, V_OUT};
 
 /// The conjugacy classes of a rule's linked pairs.
 #[derive(Clone, Debug, PartialEq, Eq, Hash)]
@@ -241,6 +241,26 @@ pub fn until(first: &[u8], second: &[u8]) -> Result<Vec<u8>, Explained> {
         crate::until(first, second, out, &mut classes, scratch).map(|written| written.length)
     };
     written(call, Asked::TwoRules { first, second })
+}
+
+/// The smallest rule of a formula in postfix form, over so many letters; see [`formula_rule`](crate::formula_rule).
+pub fn formula_rule(letters: usize, formula: &[u8]) -> Result<Vec<u8>, Explained> {
+    let mut stack = vec![0; FORMULA_STACK];
+    let mut spare = vec![0; RULE_OUT];
+    let mut classes = vec![0; UNTIL_CLASSES];
+    let call = |out: &mut [u8], scratch: &mut [u8]| {
+        let made = crate::formula_rule(
+            letters,
+            formula,
+            out,
+            &mut stack,
+            &mut spare,
+            &mut classes,
+            scratch,
+        );
+        made.map(|written| written.length)
+    };
+    written(call, Asked::Formula { letters, formula })
 }
 
 /// The reduction of a strong rule by rounds, at most `limit` of them after round 0.

@@ -61,6 +61,7 @@ exported! {
     constant = duknavet_constant(letters: usize, grade: usize, out: &mut [u8]);
     next = duknavet_next(rule: &[u8], out: &mut [u8], scratch: &mut [u8]);
     until = duknavet_until(first: &[u8], second: &[u8], out: &mut [u8], classes: &mut [u8], scratch: &mut [u8]);
+    formula_rule = duknavet_formula_rule(letters: usize, formula: &[u8], out: &mut [u8], stack: &mut [u8], spare: &mut [u8], classes: &mut [u8], scratch: &mut [u8]);
     reduce_rounds = duknavet_reduce_rounds(rule: &[u8], limit: usize, blocks: &mut [u8], scratch: &mut [u8]);
     state_kind = duknavet_state_kind(rule: &[u8], s: usize, e: usize, least: u8, scratch: &mut [u8]);
     successors = duknavet_successors(rule: &[u8], s: usize, e: usize, letter: u8, out: &mut [u8], scratch: &mut [u8]);

@@ -17,7 +17,7 @@ pub use document::{is_document, Document, Line};
 pub use meaning::{Alphabet, Formula, Shown};
 pub use parse::{read, Read};
 pub use program::{NoProgram, Operation, Program};
-pub use rule::{make, Made, NotMade, Step};
+pub use rule::{make, make_by_steps, Made, NotMade, Step};
 pub use tokens::FormulaError;
 pub use tree::Tree;
 

@@ -1,5 +1,4 @@
-//! The rule of a formula, by the library's calls: the operations of its program run over a stack of rules, and each result is reduced before the next is
-//! made of it. Every call is proved; that they are put together as the formula says is tested.
+//! The rule of a formula, by the proved call for its program; and what its operations come to one by one, for those who ask for the sizes on the way.
 
 use super::meaning::Formula;
 use super::program::{code, Program};
@@ -48,6 +47,20 @@ fn constant(rule: &[u8]) -> Option<u8> {
 
 /// Makes the smallest rule of a program's formula over so many letters.
 pub fn make(letters: usize, program: &Program) -> Result<Made, NotMade> {
+    let rule = owned::formula_rule(letters, &program.bytes).map_err(|explained| {
+        let place = usize::try_from(explained.refused.place).unwrap_or(usize::MAX);
+        let met = program.operations.iter().rev().find(|operation| operation.at <= place);
+        let part = met.or(program.operations.last()).map(|operation| operation.part.clone());
+        let part = part.unwrap_or(Formula::Constant(0));
+        NotMade { part, explained }
+    })?;
+    let steps = make_by_steps(letters, program)?.steps;
+    Ok(Made { rule, steps })
+}
+
+/// The same by the library's other calls, operation by operation. That they are put together as the formula says is tested, and so is that the rule is
+/// the proved call's.
+pub fn make_by_steps(letters: usize, program: &Program) -> Result<Made, NotMade> {
     let mut stack: Vec<Vec<u8>> = Vec::new();
     let mut steps = Vec::new();
     for operation in &program.operations {

@@ -5,6 +5,7 @@
 
 mod automaton;
 mod board;
+mod formula;
 mod marks;
 mod rule;
 mod state;
@@ -69,6 +70,13 @@ pub enum Asked<'a> {
         letters: usize,
         /// The grade.
         grade: usize,
+    },
+    /// A formula in postfix form.
+    Formula {
+        /// How many letters its rule would have.
+        letters: usize,
+        /// The bytes of its operations.
+        formula: &'a [u8],
     },
     /// A rule and the letter of an event.
     Event {
@@ -140,6 +148,9 @@ fn in_words(refused: Refused, asked: Asked<'_>) -> Option<String> {
     if let Asked::Numbers { letters, grade } = asked {
         return numbers(refused.refusal, place, letters, grade);
     }
+    if let Asked::Formula { letters, formula } = asked {
+        return formula::words(refused.refusal, place, letters, formula);
+    }
     match refused.refusal {
         Refusal::UnknownLetter => return unknown_letter(refused, asked),
         Refusal::WordLength => return Some(word_length(refused, asked)),
@@ -163,7 +174,9 @@ fn in_words(refused: Refused, asked: Asked<'_>) -> Option<String> {
         Refusal::LettersDiffer => return two_rules::letters_differ(asked),
         Refusal::TooManyPairs => return two_rules::too_many_pairs(asked),
         Refusal::TooManyClasses => return Some(too_many_classes(asked)),
-        Refusal::BufferTooShort | Refusal::TooManyMatrices | Refusal::UnbalancedFormula => return None,
+        Refusal::BufferTooShort | Refusal::TooManyMatrices | Refusal::UnbalancedFormula => {
+            return None
+        }
         // Byte 0 of a file is a count: the entry is the one that was handed over beside it.
         Refusal::EntryOutOfRange if place == 0 => {
             if let Asked::Kind { least, .. } = asked {
@@ -192,7 +205,7 @@ fn in_words(refused: Refused, asked: Asked<'_>) -> Option<String> {
         | Asked::Rounds { rule, .. }
         | Asked::Kind { rule, .. }
         | Asked::Successors { rule, .. } => rule::words(refused.refusal, place, rule),
-        Asked::Board { .. } | Asked::Numbers { .. } => None,
+        Asked::Board { .. } | Asked::Numbers { .. } | Asked::Formula { .. } => None,
     }
 }
 

@@ -1,6 +1,7 @@
 //! Temporal formulas: how they are read, what they mean, and the bytes that they become.
 
 mod automata;
+mod bytes;
 mod documents;
 mod errors;
 mod evaluation;
