@@ -51,6 +51,7 @@ ghost use Rattle.promises.specs.declared.Step.the-variants.{Event, Mark, Stay};
 ghost use Rattle.temporal_promises.specs.FirstLetter.{FirstLetterPromise, ConstantPromise};
 ghost use Rattle.temporal_promises.specs.Next.{NextPromise};
 ghost use Rattle.temporal_promises.specs.Until.{UntilPromise};
+ghost use Rattle.formula_promises.specs.FormulaRule.{FormulaPromise};
 ghost use Rattle.packing_counts.specs.Counts.{inspectedContents, listedContents, writtenContents, partitionContents, successorsContents, packStretch};
 ghost use Rattle.packing_decisions.specs.Decisions.{strengthContents, lassoVerdictContents, inclusionContents, confirmationContents, kindContents};
 ghost use Rattle.packing_monitors.specs.Monitors.{packMonitor, movedContents, advancedContents};
@@ -374,6 +375,22 @@ pub extern "C" fn duknavet_until(
     ensures { λ r. ⌜ Exported (UntilPromise (now (first .entry)) (now (second .entry)) (now (out .entry)) (now (out .exit)) (now (classes .entry)) (now (classes .exit)) (now (scratch .entry)) (now (scratch .exit))) writtenContents r ⌝ }
 {
     pack_written(rules::until(first, second, out, classes, scratch))
+}
+
+// How many bytes the smallest rule of a whole formula has, which stands in `out`.
+#[no_mangle]
+pub extern "C" fn duknavet_formula_rule(
+    letters: usize,
+    formula: &[u8],
+    out: &mut [u8],
+    stack: &mut [u8],
+    spare: &mut [u8],
+    classes: &mut [u8],
+    scratch: &mut [u8],
+) -> u64
+    ensures { λ r. ⌜ Exported (FormulaPromise letters (now (formula .entry)) (now (out .entry)) (now (out .exit)) (now (stack .entry)) (now (stack .exit)) (now (spare .entry)) (now (spare .exit)) (now (classes .entry)) (now (classes .exit)) (now (scratch .entry)) (now (scratch .exit))) writtenContents r ⌝ }
+{
+    pack_written(formula_call::formula_rule(letters, formula, out, stack, spare, classes, scratch))
 }
 
 // How many rounds of the reduction were done within the limit, and 1 if one more would change nothing; the blocks in `blocks`.

@@ -10,3 +10,4 @@ pub mod BoardBytes
 pub mod BoardRuns
 pub mod BoardOneAnswer
 pub mod Stretches
+pub mod FormulaLimits

@@ -87,6 +87,8 @@ use Rattle.packing_monitors.proofs.Contents.{moved-told, advanced-told}
 use Rattle.exports.specs.Exports.{Exported}
 use Rattle.exports.specs.BoardExports.{ExportedBoardCall, ExportedBoardEmpty, ExportedBoardEnter, ExportedBoardLeave, ExportedBoardEvent, ExportedBoardMark}
 use Rattle.unpacking.proofs.Limits.{Near, near-limit, refused-fits, at-zero, buffer-limited, rule-limited, checked-limited, second-limited, lasso-limited, log-limited}
+use Rattle.unpacking.proofs.FormulaLimits.{formula-limited}
+use Rattle.formula_promises.specs.FormulaRule.{FormulaPromise}
 use Rattle.unpacking.proofs.Advances.{advance-fits, advance-held, advance-word-fits, advance-word-held}
 use Rattle.unpacking.proofs.AutomatonLimits.{translated-limited}
 use Rattle.unpacking.proofs.BoardGrades.{board-enter-fits, board-leave-fits, board-event-fits, board-mark-fits}
@@ -224,6 +226,13 @@ until-fits {first} {second} {entry = entry} (Not-written r i place) p =
     (λ _. limited-append (ruleChecks 2 second) (rule-limited 2 second (omega arith))
     (λ _. limited-append (pairChecks first second) (pair-limited first second)
     (λ _. limited-cons (λ place (f : TooManyUntilAt _ _ place). at-zero (f .is-place)) (λ _. limited-nil))))))) (p .refusal)
+
+-- formula_rule
+formula-fits : {letters : ℕ} {formula before after stack stack′ spare spare′ classes classes′ entry exit : List ℕ} (answer : Written)
+    → FormulaPromise letters formula before after stack stack′ spare spare′ classes classes′ entry exit answer → Fits (writtenContents answer)
+formula-fits (Rule end) p = written-fits (p .answered .written)
+formula-fits {letters} {formula} {before} {stack = stack} {spare = spare} {classes = classes} {entry = entry} (Not-written r i place) p =
+    refused-fits r (buffer-limited (buffer-limited (buffer-limited (buffer-limited (buffer-limited (formula-limited letters formula)))))) (p .refusal)
 
 -- reduce_rounds: the limit passed its check, so that it is at most 64
 bit-small : (b : Bool) → bit b ≤ 1
@@ -364,6 +373,12 @@ module _ {out out-exit out′ out-exit′ : List ℕ} where
   pub constant-told : {letters grade letters′ grade′ : ℕ}
       → Told writtenContents (ConstantPromise letters grade out out-exit) (ConstantPromise letters′ grade′ out′ out-exit′)
   constant-told = told constant-fits constant-fits (λ a b p q. written-told a b)
+
+pub formula-told : {letters letters′ : ℕ}
+    {formula before after stack stack-exit spare spare-exit classes classes-exit entry exit formula′ before′ after′ stack′ stack-exit′ spare′ spare-exit′ classes′ classes-exit′ entry′ exit′ : List ℕ}
+    → Told writtenContents (FormulaPromise letters formula before after stack stack-exit spare spare-exit classes classes-exit entry exit)
+    (FormulaPromise letters′ formula′ before′ after′ stack′ stack-exit′ spare′ spare-exit′ classes′ classes-exit′ entry′ exit′)
+formula-told = told formula-fits formula-fits (λ a b p q. written-told a b)
 
 module _ {bytes entry exit bytes′ entry′ exit′ : List ℕ} where
   pub strong-told : Told strengthContents (StrongPromise bytes entry exit) (StrongPromise bytes′ entry′ exit′)
