@@ -1,12 +1,17 @@
 """Each call through the shared object, on the small rules of docs/FORMATS.md and on rules from fixed seeds."""
 
+import array
+import copy
 import ctypes
 import doctest
 import inspect
 import os
+import pickle
 import random
 import re
+import typing
 import unittest
+import zlib
 
 import duknavet
 from duknavet import FINAL, INITIAL, NONE, PLAIN, Graded, Mark, Monitor, Reduction, Refused, Rounds, Rule
@@ -152,7 +157,9 @@ class Calls(unittest.TestCase):
             self.assertEqual(call(remainders(8, 1), remainders(8, 1))[0], 8)
         with self.assertRaises(Refused) as caught:
             duknavet.both(W, remainders(1, 1))
-        self.assertEqual(str(caught.exception), "LettersDiffer (refusal 18, input 1, place 0)")
+        self.assertEqual(caught.exception.kind, "LettersDiffer")
+        said = "the first rule has 2 letters, but the second has 1 (refusal 18, input 1, place 0)"
+        self.assertEqual(str(caught.exception), said)
 
     def test_temporal_rules(self):
         ones = duknavet.first_letter(2, 0b10, 2)
@@ -233,7 +240,9 @@ class Calls(unittest.TestCase):
         self.assertEqual(found, {**points, **later, **names})
         with self.assertRaises(Refused) as caught:
             duknavet.successors(Z, 0, 1, 0)
-        self.assertEqual(str(caught.exception), "NoSuchState (refusal 17, input 1, place 0)")
+        self.assertEqual(caught.exception.kind, "NoSuchState")
+        said = "(0, 1) is no state: 1·1 = 0, so 1 is not idempotent (refusal 17, input 1, place 0)"
+        self.assertEqual(str(caught.exception), said)
 
     def test_included(self):
         self.assertIsNone(duknavet.included(W, bytes([1, 0, 0, 0, 3])))
@@ -300,8 +309,17 @@ class Calls(unittest.TestCase):
             letters.event(letter)
         self.assertEqual(fed, (letters.before, letters.since))
         self.refused(10, 1, 1, monitor.feed, word(0, 7, 9))
-        self.refused(11, 1, 0, monitor.feed, bytes(duknavet.LOG + 1))
         self.assertEqual((monitor.before, monitor.since), fed)
+
+    def test_formula_rule(self):
+        proper = duknavet.constant(2, 3)
+        # Letter 0 at every place, or not.
+        self.assertEqual(duknavet.formula_rule(2, word(0, 3, 1, 0, 9, 12, 0, 2, 4)), proper)
+        self.assertEqual(duknavet.formula_rule(2, [1, 3]), proper)
+        self.refused(24, 1, 0, duknavet.formula_rule, 2, b"")
+        self.refused(24, 1, 2, duknavet.formula_rule, 2, word(1, 3, 7))
+        self.refused(3, 1, 1, duknavet.formula_rule, 2, word(1, 4))
+        self.refused(10, 1, 2, duknavet.formula_rule, 2, word(0, 3, 4, 0))
 
     def test_counts_and_stretches(self):
         self.assertEqual(duknavet.inspect(W), (W[0], 2, 1))
@@ -543,6 +561,216 @@ class Automata(unittest.TestCase):
                 self.assertEqual(self.accepts(file, least, u, v), expected)
                 seen.add((duknavet.strong(file), expected))
         self.assertEqual(len(seen), 4)
+
+
+class Inputs(unittest.TestCase):
+    """What is taken for bytes, and what is refused before it is handed over."""
+
+    def test_lists_do_for_bytes(self):
+        for rule in (list(W), tuple(W), bytearray(W), memoryview(W), array.array("B", W), Rule.from_bytes(W), iter(list(W))):
+            self.assertTrue(duknavet.strong(rule))
+        self.assertEqual(duknavet.member(list(W), [1], (0,)), Graded(3, 1))
+        self.assertEqual(duknavet.member(Rule.from_bytes(W), [], range(1)), Graded(3, 1))
+        self.assertEqual(duknavet.both(list(W), Rule.from_bytes(W)), W)
+        self.assertEqual(duknavet.included(list(W), [0, 0]), (word(0), word(0)))
+        self.assertEqual(duknavet.automaton_rule(list(AUTOMATON)), duknavet.automaton_rule(AUTOMATON))
+        self.assertTrue(duknavet.confirm(list(W), W, [0, 1]))
+        self.assertEqual(duknavet.classes(list(Z)), duknavet.classes(Z))
+        self.assertEqual(duknavet.reduce_with_map(list(W)), Reduction(W, word(0, 1)))
+        self.assertEqual(duknavet.reduce_rounds(list(W)).blocks, [0, 1])
+        monitor = Monitor(list(W))
+        monitor.advance_word([1, 0])
+        self.assertEqual(monitor.verdict(), Graded(3, 1))
+        board = duknavet.Board()
+        board.enter(0, list(W))
+        self.assertEqual(board.names, [0])
+
+    def test_other_things_are_refused_clearly(self):
+        with self.assertRaisesRegex(TypeError, "a rule is bytes or a list of numbers, not str: read a text with `duknavet-tool convert`"):
+            duknavet.strong("duknavet rule 1")
+        with self.assertRaisesRegex(TypeError, "u is bytes or a list of numbers, not str"):
+            duknavet.member(W, "1", word(0))
+        with self.assertRaisesRegex(TypeError, "the second rule is bytes or a list of numbers, not NoneType"):
+            duknavet.both(W, None)
+        for odd in (7, 1.5, {0, 1}, {0: 1}, None):
+            with self.assertRaisesRegex(TypeError, "v is bytes or a list of numbers, not "):
+                duknavet.member(W, b"", odd)
+        with self.assertRaisesRegex(TypeError, "v has '1' at 1, which is no number"):
+            duknavet.member(W, b"", [0, "1"])
+        for odd in (256, -1):
+            with self.assertRaisesRegex(ValueError, f"v has {odd} at 2, which is no byte"):
+                duknavet.member(W, b"", [0, 1, odd])
+
+    def test_ragged_tables_are_refused(self):
+        with self.assertRaisesRegex(ValueError, "row 1 of the products has 1, but there are 2 rows"):
+            Rule([[0, 0], [0]], [0, 1], []).to_bytes()
+        with self.assertRaisesRegex(ValueError, "row 0 of the products has 3, but there are 2 rows"):
+            duknavet.strong(Rule([[0, 0, 1], [0]], [0, 1], []))
+        with self.assertRaisesRegex(ValueError, "mark 1 has 2 numbers, not s, e and a grade"):
+            Rule([[0]], [0], [Mark(0, 0, 3), (0, 0)]).to_bytes()
+        with self.assertRaisesRegex(ValueError, "row 0 of the products has 256 at 0, which is no byte"):
+            Rule([[256]], [0], []).to_bytes()
+        with self.assertRaisesRegex(ValueError, "too many elements or letters"):
+            Rule([[0]], [0] * 256, []).to_bytes()
+        self.assertEqual(Rule.from_bytes(THREE_GRADES).to_bytes(), THREE_GRADES)
+
+    def test_type_hints(self):
+        named = [(name, own) for name, own in vars(duknavet).items() if not name.startswith("_")]
+        functions = [(name, own) for name, own in named if inspect.isfunction(own) and own.__module__ == "duknavet"]
+        for kind in (Monitor, duknavet.Board, Rule, Refused):
+            own = [(name, getattr(part, "__func__", part)) for name, part in vars(kind).items()]
+            functions += [(name, part) for name, part in own if inspect.isfunction(part) and not name.startswith("_")]
+            functions.append((kind.__name__, kind.__init__)) if kind is not Rule else None
+        self.assertGreater(len(functions), 35)
+        for name, function in functions:
+            hints = typing.get_type_hints(function)
+            parameters = [own for own in inspect.signature(function).parameters if own != "self"]
+            self.assertEqual(sorted(hints), sorted(parameters + ["return"]), name)
+
+
+class Words(unittest.TestCase):
+    """Refusals in words; that they are those of the Rust package is tested there."""
+
+    def said(self, expected, call, *arguments):
+        with self.assertRaises(Refused) as caught:
+            call(*arguments)
+        self.assertTrue(str(caught.exception).startswith(f"{expected} (refusal "), str(caught.exception))
+
+    def test_words(self):
+        self.said("(0·0)·1 = 0 but 0·(0·1) = 1", duknavet.strong, [2, 1, 0, 0, 0, 2, 0, 1, 0, 0])
+        self.said("the file is empty", duknavet.strong, b"")
+        self.said("letter 2 at position 2 of v: the rule has 2 letters", duknavet.member, W, [0], [0, 1, 2])
+        self.said("the rule is weak", duknavet.complement, Z)
+        self.said("the second rule is weak", duknavet.both, W, Z)
+        self.said("words have 72 pairs of values in the two rules, more than 64", duknavet.both, remainders(8, 1), remainders(9, 1))
+        self.said("the name 3 was never kept", Monitor(W).return_to, 3)
+        self.said("the name 8 is above 7", Monitor(W).keep, 8)
+        self.said("letter 5: the rule has 2 letters", Monitor(W).event, 5)
+        self.said("no event came since the last mark", Monitor(W).verdict)
+        self.said("17 letters, not 1 to 16", duknavet.constant, 17, 3)
+        self.said("the limit of 65 rounds is above 64", duknavet.reduce_rounds, W, 65)
+        board = duknavet.Board()
+        board.enter(3, W)
+        self.said("the name 3 is taken", board.enter, 3, W)
+        self.said("the name 4 is that of no rule on the board", board.leave, 4)
+        self.said("letter 7: rule 3 has 2 letters", board.event, 7)
+        self.said("entering as rule 4: the rule is weak", board.enter, 4, Z)
+        self.said("entering as rule 5: the file is empty", board.enter, 5, b"")
+
+    def test_long_words_are_told_what_to_do(self):
+        long = [0] * 4225
+        advice = "; Monitor(rule) takes longer ones: feed(u), mark(), feed(v), verdict()"
+        self.said(f"u has 4225 letters, more than 4224{advice}", duknavet.member, W, long, [0])
+        self.said(f"v has 4225 letters, more than 4224{advice}", duknavet.member, W, [], long)
+        self.said("v has no letter", duknavet.member, W, long[1:], [])
+
+    def test_feed(self):
+        numbers = random.Random(46)
+        for file in (W, Z, THREE_GRADES, TWICE):
+            u, v = ([numbers.randrange(2) for _ in range(length)] for length in (4000, 200))
+            by_feeding, event_by_event = Monitor(file), Monitor(file)
+            by_feeding.feed(u)
+            by_feeding.mark()
+            by_feeding.feed(bytes(v))
+            for letter in u:
+                event_by_event.event(letter)
+            event_by_event.mark()
+            for letter in v:
+                event_by_event.event(letter)
+            self.assertEqual(by_feeding.save(), event_by_event.save())
+            if duknavet.strong(file):
+                self.assertEqual(by_feeding.verdict().grade, duknavet.member(file, u, v).grade)
+            stood = by_feeding.save()
+            with self.assertRaises(Refused) as caught:
+                by_feeding.feed(v + [2] + v)
+            self.assertEqual((caught.exception.number, caught.exception.place), (10, 200))
+            self.assertEqual(caught.exception.words, "letter 2 at position 200 of the word: the rule has 2 letters")
+            self.assertEqual(by_feeding.save(), stood)
+        with self.assertRaises(TypeError):
+            Monitor(W).feed("01")
+        monitor = Monitor(W)
+        monitor.feed([])
+        self.assertEqual((monitor.before, monitor.since), (NONE, NONE))
+
+
+class Saved(unittest.TestCase):
+    """Monitors and boards copied, pickled and saved."""
+
+    def copies(self, own):
+        kind = type(own)
+        yield copy.copy(own)
+        yield copy.deepcopy(own)
+        yield copy.deepcopy([own])[0]
+        for protocol in range(pickle.HIGHEST_PROTOCOL + 1):
+            yield pickle.loads(pickle.dumps(own, protocol))
+        yield kind.from_saved(own.save())
+        yield kind.from_saved(list(own.save()))
+
+    def test_monitors(self):
+        monitor = Monitor(THREE_GRADES)
+        for step in (monitor.event, monitor.keep):
+            step(1)
+        monitor.mark()
+        for other in self.copies(monitor):
+            self.assertEqual(other.save(), monitor.save())
+            other.event(1)
+            self.assertEqual(other.verdict(), Graded(1, 1))
+            other.keep(2)
+            other.return_to(1)
+            self.assertEqual((other.before, other.since), (NONE, 1))
+            # What happens to the copy does not happen to the monitor.
+            self.assertEqual((monitor.before, monitor.since), (1, NONE))
+            with self.assertRaises(Refused):
+                monitor.return_to(2)
+
+    def test_boards(self):
+        board = duknavet.Board()
+        board.enter(3, W)
+        board.enter(5, THREE_GRADES)
+        board.event(1)
+        for other in self.copies(board):
+            self.assertEqual((other.names, other.lowest), ([3, 5], 0))
+            other.leave(3)
+            self.assertEqual((other.names, other.lowest), ([5], 1))
+            self.assertEqual((board.names, board.lowest), ([3, 5], 0))
+
+    def test_damage_is_noticed(self):
+        monitor, board = Monitor(W), duknavet.Board()
+        monitor.event(1)
+        board.enter(0, W)
+        for own in (monitor, board):
+            kind, saved = type(own), own.save()
+            for at in range(0, len(saved), 7):
+                changed = bytearray(saved)
+                changed[at] ^= 1
+                with self.assertRaises(ValueError):
+                    kind.from_saved(changed)
+                with self.assertRaises(ValueError):
+                    kind.from_saved(saved[:at])
+        with self.assertRaises(ValueError):
+            Monitor.from_saved(board.save())
+        with self.assertRaises(ValueError):
+            duknavet.Board.from_saved(monitor.save())
+        # Bytes that are whole and say what cannot be are refused by the library.
+        with self.assertRaises(Refused):
+            Monitor.from_saved(duknavet.saved.seal("monitor", bytes([9, 9]) + bytes(24) + W))
+        with self.assertRaises(Refused):
+            Monitor.from_saved(duknavet.saved.seal("monitor", bytes([NONE, NONE]) + bytes(24) + b"x"))
+        short = duknavet.saved.seal("monitor", bytes([NONE]))
+        with self.assertRaises(ValueError):
+            Monitor.from_saved(short)
+        state = bytearray(board._state.raw)
+        state[1] = 9
+        with self.assertRaises(Refused):
+            duknavet.Board.from_saved(duknavet.saved.seal("board", bytes(state) + zlib.compress(board._files.raw)))
+
+    def test_refusals_are_pickled(self):
+        try:
+            duknavet.strong([2, 1, 0, 0, 0, 2, 0, 1, 0, 0])
+        except Refused as refused:
+            again = pickle.loads(pickle.dumps(refused))
+            self.assertEqual((str(again), again.kind, again.place), (str(refused), refused.kind, refused.place))
+        self.assertEqual(str(Refused(12, 1, 0)), "the rule is weak (refusal 12, input 1, place 0)")
 
 
 if __name__ == "__main__":
