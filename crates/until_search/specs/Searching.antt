@@ -9,12 +9,12 @@ use Rattle.temporal_promises.specs.Until.{untilClassesSize}
 use Rattle.until_step.specs.Bytes.{newAt, pairAt, classAt}
 
 -- class j has the clamp of the new one at (t, z)
-abbrev pub SameEntries : List ℕ → List ℕ → ℕ → ℕ → ℕ → Type 0
-SameEntries scratch classes j t z = classAt classes j t z ≡ newAt scratch t z
+abbrev pub SameClassEntries : List ℕ → List ℕ → ℕ → ℕ → ℕ → Type 0
+SameClassEntries scratch classes j t z = classAt classes j t z ≡ newAt scratch t z
 
 -- at each (t, z)
 abbrev pub RowSame : ℕ → List ℕ → List ℕ → ℕ → ℕ → Type 0
-RowSame np scratch classes j t = EachBelow (SameEntries scratch classes j t) np
+RowSame np scratch classes j t = EachBelow (SameClassEntries scratch classes j t) np
 
 -- at every context, and its pair is the one asked for
 pub record ClassSame (np : ℕ) (scratch classes : List ℕ) (j pair : ℕ) : Type 0 where

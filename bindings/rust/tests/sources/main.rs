@@ -6,6 +6,7 @@ mod edits;
 mod faces;
 mod floors;
 mod imports;
+mod names;
 mod pages;
 mod reading;
 mod sizes;

@@ -3,12 +3,12 @@ use Prim.Native.Nat.{_-_}
 use native.Mathlib.Omega.{arith}
 use Rattle.finite.specs.Each.{EachBelow}
 use Rattle.finite.proofs.Each.{each-none, each-more, each-all, each-not}
-use Rattle.until_search.specs.Searching.{SameEntries}
+use Rattle.until_search.specs.Searching.{SameClassEntries}
 use Rattle.until_search.proofs.same_row.Statement.{statement}
 use Rattle.until_search.proofs.same_row.Tie as tie
 
 abbrev Inv-loop : tie.InvT-loop
-Inv-loop classes scratch np j t z₀ z = EachBelow (SameEntries scratch classes j t) z
+Inv-loop classes scratch np j t z₀ z = EachBelow (SameClassEntries scratch classes j t) z
 
 abbrev μ-loop : tie.MeasureT-loop
 μ-loop classes scratch np j t z₀ z = np - z
