@@ -7,25 +7,9 @@ use board_state::STATE_SIZE;
 use board_state::read_board;
 use board_state::write_board;
 use board_state::write_posted;
-use packing::pack_fields;
 use packing::pack_refusal;
-use packing_counts::pack_inspected;
-use packing_counts::pack_listed;
-use packing_counts::pack_partition;
-use packing_counts::pack_stretch;
-use packing_counts::pack_successors;
 use packing_counts::pack_written;
-use packing_decisions::pack_confirmation;
-use packing_decisions::pack_inclusion;
-use packing_decisions::pack_kind;
-use packing_decisions::pack_lasso_verdict;
-use packing_decisions::pack_strength;
-use packing_monitors::pack_advanced;
-use packing_monitors::pack_moved;
 use packing_monitors::pack_notice;
-use promises::Monitor;
-use promises::Operation;
-use promises::Step;
 ghost use mathlib.Core.Path.{_≡_};
 ghost use Rattle.promises.specs.Advance.{AdvancePromise, AdvanceWordPromise};
 ghost use Rattle.promises.specs.Automaton.{RulePromise};
@@ -55,7 +39,7 @@ ghost use Rattle.formula_promises.specs.FormulaRule.{FormulaPromise};
 ghost use Rattle.packing_counts.specs.Counts.{inspectedContents, listedContents, writtenContents, partitionContents, successorsContents, packStretch};
 ghost use Rattle.packing_decisions.specs.Decisions.{strengthContents, lassoVerdictContents, inclusionContents, confirmationContents, kindContents};
 ghost use Rattle.packing_monitors.specs.Monitors.{packMonitor, movedContents, advancedContents};
-ghost use Rattle.exports.specs.Exports.{Exported};
+ghost use Rattle.packing.specs.Exports.{Exported};
 ghost use Rattle.exports.specs.BoardExports.{ExportedBoardEmpty, ExportedBoardEnter, ExportedBoardLeave, ExportedBoardEvent, ExportedBoardMark};
 
 // The elements, the letters and the marks of a rule file.
@@ -63,7 +47,7 @@ ghost use Rattle.exports.specs.BoardExports.{ExportedBoardEmpty, Exporte
 pub extern "C" fn duknavet_inspect(rule: &[u8], scratch: &mut [u8]) -> u64
     ensures { λ r. ⌜ Exported (InspectPromise (now (rule .entry)) (now (scratch .entry)) (now (scratch .exit))) inspectedContents r ⌝ }
 {
-    pack_inspected(rules::inspect(rule, scratch))
+    exported_lassos::inspect(rule, scratch)
 }
 
 // The linked pairs, the classes and the joins; each pair's class in `out`.
@@ -71,7 +55,7 @@ pub extern "C" fn duknavet_inspect(rule: &[u8], scratch: &mut [u8]) -> u64
 pub extern "C" fn duknavet_classes(rule: &[u8], out: &mut [u8], scratch: &mut [u8]) -> u64
     ensures { λ r. ⌜ Exported (ListPromise (now (rule .entry)) (now (out .entry)) (now (out .exit)) (now (scratch .entry)) (now (scratch .exit))) listedContents r ⌝ }
 {
-    pack_listed(rules::list_classes(rule, out, scratch))
+    exported_lassos::classes(rule, out, scratch)
 }
 
 // 1 for a strong rule, 0 for a weak one.
@@ -79,7 +63,7 @@ pub extern "C" fn duknavet_classes(rule: &[u8], out: &mut [u8], scratch: &mut [u
 pub extern "C" fn duknavet_strong(rule: &[u8], scratch: &mut [u8]) -> u64
     ensures { λ r. ⌜ Exported (StrongPromise (now (rule .entry)) (now (scratch .entry)) (now (scratch .exit))) strengthContents r ⌝ }
 {
-    pack_strength(rules::strong(rule, scratch))
+    exported_lassos::strong(rule, scratch)
 }
 
 // The lasso's grade, 0 to 3, and how many turns settle the value of v.
@@ -87,7 +71,7 @@ pub extern "C" fn duknavet_strong(rule: &[u8], scratch: &mut [u8]) -> u64
 pub extern "C" fn duknavet_member(rule: &[u8], u: &[u8], v: &[u8], scratch: &mut [u8]) -> u64
     ensures { λ r. ⌜ Exported (MemberPromise (now (rule .entry)) (now (u .entry)) (now (v .entry)) (now (scratch .entry)) (now (scratch .exit))) lassoVerdictContents r ⌝ }
 {
-    pack_lasso_verdict(rules::member(rule, u, v, scratch))
+    exported_lassos::member(rule, u, v, scratch)
 }
 
 // How many bytes the complement has, which stands in `out`.
@@ -95,7 +79,7 @@ pub extern "C" fn duknavet_member(rule: &[u8], u: &[u8], v: &[u8], scratch: &mut
 pub extern "C" fn duknavet_complement(rule: &[u8], out: &mut [u8], scratch: &mut [u8]) -> u64
     ensures { λ r. ⌜ Exported (ComplementPromise (now (rule .entry)) (now (out .entry)) (now (out .exit)) (now (scratch .entry)) (now (scratch .exit))) writtenContents r ⌝ }
 {
-    pack_written(rules::complement(rule, out, scratch))
+    exported_lassos::complement(rule, out, scratch)
 }
 
 // 1 for an inclusion; else 0 and how many letters the lasso has in u and in v.
@@ -109,7 +93,7 @@ pub extern "C" fn duknavet_included(
 ) -> u64
     ensures { λ r. ⌜ Exported (InclusionPromise (now (rule .entry)) (now (second .entry)) (now (u .entry)) (now (u .exit)) (now (v .entry)) (now (v .exit)) (now (scratch .entry)) (now (scratch .exit))) inclusionContents r ⌝ }
 {
-    pack_inclusion(rules::included(rule, second, u, v, scratch))
+    exported_lassos::included(rule, second, u, v, scratch)
 }
 
 // The values of a monitor that has seen nothing.
@@ -117,8 +101,7 @@ pub extern "C" fn duknavet_included(
 pub extern "C" fn duknavet_fresh() -> u64
     ensures { λ r. ⌜ r ≡ packMonitor freshMonitor ⌝ }
 {
-    let m = rules::fresh();
-    pack_fields(m.before, m.since, 0)
+    exported_monitors::fresh()
 }
 
 // The values of a monitor after an event.
@@ -132,7 +115,7 @@ pub extern "C" fn duknavet_event(
 ) -> u64
     ensures { λ r. ⌜ Exported (EventPromise (now (rule .entry)) (record { before = before; since = since }) letter (now (scratch .entry)) (now (scratch .exit))) movedContents r ⌝ }
 {
-    pack_moved(rules::event(rule, Monitor { before, since }, letter, scratch))
+    exported_monitors::event(rule, before, since, letter, scratch)
 }
 
 // The values of a monitor after a mark.
@@ -140,7 +123,7 @@ pub extern "C" fn duknavet_event(
 pub extern "C" fn duknavet_mark(rule: &[u8], before: usize, since: usize, scratch: &mut [u8]) -> u64
     ensures { λ r. ⌜ Exported (MarkPromise (now (rule .entry)) (record { before = before; since = since }) (now (scratch .entry)) (now (scratch .exit))) movedContents r ⌝ }
 {
-    pack_moved(rules::mark(rule, Monitor { before, since }, scratch))
+    exported_monitors::mark(rule, before, since, scratch)
 }
 
 // The values of a monitor after an event for each letter of a word.
@@ -154,7 +137,7 @@ pub extern "C" fn duknavet_feed(
 ) -> u64
     ensures { λ r. ⌜ Exported (FeedPromise (now (rule .entry)) (record { before = before; since = since }) (now (word .entry)) (now (scratch .entry)) (now (scratch .exit))) movedContents r ⌝ }
 {
-    pack_moved(rules::feed(rule, Monitor { before, since }, word, scratch))
+    exported_monitors::feed(rule, before, since, word, scratch)
 }
 
 // The values of a monitor that is kept under a name in `points`.
@@ -169,7 +152,7 @@ pub extern "C" fn duknavet_keep(
 ) -> u64
     ensures { λ r. ⌜ Exported (KeepPromise (now (rule .entry)) (record { before = before; since = since }) name (now (points .entry)) (now (points .exit)) (now (scratch .entry)) (now (scratch .exit))) movedContents r ⌝ }
 {
-    pack_moved(rules::keep(rule, Monitor { before, since }, name, points, scratch))
+    exported_monitors::keep(rule, before, since, name, points, scratch)
 }
 
 // The values of the monitor that was kept under a name.
@@ -184,7 +167,7 @@ pub extern "C" fn duknavet_return(
 ) -> u64
     ensures { λ r. ⌜ Exported (ReturnPromise (now (rule .entry)) (record { before = before; since = since }) name (now (points .entry)) (now (scratch .entry)) (now (scratch .exit))) movedContents r ⌝ }
 {
-    pack_moved(rules::return_to(rule, Monitor { before, since }, name, points, scratch))
+    exported_monitors::return_to(rule, before, since, name, points, scratch)
 }
 
 // The grade of the lassos with the monitor's values, 0 to 3, and how many turns settle the value of since.
@@ -197,7 +180,7 @@ pub extern "C" fn duknavet_verdict(
 ) -> u64
     ensures { λ r. ⌜ Exported (VerdictPromise (now (rule .entry)) (record { before = before; since = since }) (now (scratch .entry)) (now (scratch .exit))) lassoVerdictContents r ⌝ }
 {
-    pack_lasso_verdict(rules::verdict(rule, Monitor { before, since }, scratch))
+    exported_monitors::verdict(rule, before, since, scratch)
 }
 
 // The values of a monitor after an event, and the grade of the lassos with these values, 0 to 3, with 256 times the turns that settle the value of since. This and the three calls
@@ -212,13 +195,7 @@ pub extern "C" fn duknavet_advance_event(
 ) -> u64
     ensures { λ r. ⌜ Exported (AdvancePromise 1 (now (rule .entry)) (record { before = before; since = since }) (Event letter) (now (scratch .entry)) (now (scratch .exit))) advancedContents r ⌝ }
 {
-    pack_advanced(rules::advance(
-        rule,
-        1,
-        Monitor { before, since },
-        Step::Event(letter),
-        scratch,
-    ))
+    exported_monitors::advance_event(rule, before, since, letter, scratch)
 }
 
 // The same after a mark.
@@ -231,7 +208,7 @@ pub extern "C" fn duknavet_advance_mark(
 ) -> u64
     ensures { λ r. ⌜ Exported (AdvancePromise 1 (now (rule .entry)) (record { before = before; since = since }) Mark (now (scratch .entry)) (now (scratch .exit))) advancedContents r ⌝ }
 {
-    pack_advanced(rules::advance(rule, 1, Monitor { before, since }, Step::Mark, scratch))
+    exported_monitors::advance_mark(rule, before, since, scratch)
 }
 
 // The same of the monitor as it is.
@@ -244,7 +221,7 @@ pub extern "C" fn duknavet_advance_stay(
 ) -> u64
     ensures { λ r. ⌜ Exported (AdvancePromise 1 (now (rule .entry)) (record { before = before; since = since }) Stay (now (scratch .entry)) (now (scratch .exit))) advancedContents r ⌝ }
 {
-    pack_advanced(rules::advance(rule, 1, Monitor { before, since }, Step::Stay, scratch))
+    exported_monitors::advance_stay(rule, before, since, scratch)
 }
 
 // The same after an event for each letter of a word.
@@ -258,7 +235,7 @@ pub extern "C" fn duknavet_advance_word(
 ) -> u64
     ensures { λ r. ⌜ Exported (AdvanceWordPromise 1 (now (rule .entry)) (record { before = before; since = since }) (now (word .entry)) (now (scratch .entry)) (now (scratch .exit))) advancedContents r ⌝ }
 {
-    pack_advanced(rules::advance_word(rule, 1, Monitor { before, since }, word, scratch))
+    exported_monitors::advance_word(rule, before, since, word, scratch)
 }
 
 // The part of a lasso's word that is left to read at a position: 1 where it lies in u or 2 in v, where it begins there, and how many letters it has.
@@ -266,7 +243,7 @@ pub extern "C" fn duknavet_advance_word(
 pub extern "C" fn duknavet_stretch(u: &[u8], v: &[u8], position: usize) -> u64
     ensures { λ r. ⌜ r ≡ packStretch (stretchNumbers (now (u .entry)) (now (v .entry)) position) ⌝ }
 {
-    pack_stretch(rules::stretch_place(u, v, position))
+    exported_lassos::stretch(u, v, position)
 }
 
 // How many bytes the reduction has, which stands in `out`; in `map` for each element of the rule the number of the element that it went to.
@@ -279,7 +256,7 @@ pub extern "C" fn duknavet_reduce(
 ) -> u64
     ensures { λ r. ⌜ Exported (ReducePromise (now (rule .entry)) (now (out .entry)) (now (out .exit)) (now (map .entry)) (now (map .exit)) (now (scratch .entry)) (now (scratch .exit))) writtenContents r ⌝ }
 {
-    pack_written(rules::reduce(rule, out, map, scratch))
+    exported_makings::reduce(rule, out, map, scratch)
 }
 
 // 1 if the second rule is the first one reduced by the map, else 0.
@@ -292,7 +269,7 @@ pub extern "C" fn duknavet_confirm(
 ) -> u64
     ensures { λ r. ⌜ Exported (ConfirmPromise (now (first .entry)) (now (second .entry)) (now (map .entry)) (now (scratch .entry)) (now (scratch .exit))) confirmationContents r ⌝ }
 {
-    pack_confirmation(rules::confirm(first, second, map, scratch))
+    exported_makings::confirm(first, second, map, scratch)
 }
 
 // How many bytes the rule with the lower of two grades has, which stands in `out`.
@@ -305,7 +282,7 @@ pub extern "C" fn duknavet_both(
 ) -> u64
     ensures { λ r. ⌜ Exported (CombinePromise (now (first .entry)) (now (second .entry)) Both (now (out .entry)) (now (out .exit)) (now (scratch .entry)) (now (scratch .exit))) writtenContents r ⌝ }
 {
-    pack_written(rules::combine(first, second, Operation::Both, out, scratch))
+    exported_makings::both(first, second, out, scratch)
 }
 
 // The same with the higher of two grades.
@@ -318,7 +295,7 @@ pub extern "C" fn duknavet_either(
 ) -> u64
     ensures { λ r. ⌜ Exported (CombinePromise (now (first .entry)) (now (second .entry)) Either (now (out .entry)) (now (out .exit)) (now (scratch .entry)) (now (scratch .exit))) writtenContents r ⌝ }
 {
-    pack_written(rules::combine(first, second, Operation::Either, out, scratch))
+    exported_makings::either(first, second, out, scratch)
 }
 
 // The same with the lower of the first grade and 3 less the second.
@@ -331,7 +308,7 @@ pub extern "C" fn duknavet_without(
 ) -> u64
     ensures { λ r. ⌜ Exported (CombinePromise (now (first .entry)) (now (second .entry)) Without (now (out .entry)) (now (out .exit)) (now (scratch .entry)) (now (scratch .exit))) writtenContents r ⌝ }
 {
-    pack_written(rules::combine(first, second, Operation::Without, out, scratch))
+    exported_makings::without(first, second, out, scratch)
 }
 
 // How many bytes the rule that gives a grade where the first letter is in a set has, which stands in `out`.
@@ -344,7 +321,7 @@ pub extern "C" fn duknavet_first_letter(
 ) -> u64
     ensures { λ r. ⌜ Exported (FirstLetterPromise letters set grade (now (out .entry)) (now (out .exit))) writtenContents r ⌝ }
 {
-    pack_written(rules::first_letter(letters, set, grade, out))
+    exported_makings::first_letter(letters, set, grade, out)
 }
 
 // The same of the rule that gives every lasso a grade.
@@ -352,7 +329,7 @@ pub extern "C" fn duknavet_first_letter(
 pub extern "C" fn duknavet_constant(letters: usize, grade: usize, out: &mut [u8]) -> u64
     ensures { λ r. ⌜ Exported (ConstantPromise letters grade (now (out .entry)) (now (out .exit))) writtenContents r ⌝ }
 {
-    pack_written(rules::constant(letters, grade, out))
+    exported_makings::constant(letters, grade, out)
 }
 
 // The same of the rule that gives the grade of the word without its first letter.
@@ -360,7 +337,7 @@ pub extern "C" fn duknavet_constant(letters: usize, grade: usize, out: &mut [u8]
 pub extern "C" fn duknavet_next(rule: &[u8], out: &mut [u8], scratch: &mut [u8]) -> u64
     ensures { λ r. ⌜ Exported (NextPromise (now (rule .entry)) (now (out .entry)) (now (out .exit)) (now (scratch .entry)) (now (scratch .exit))) writtenContents r ⌝ }
 {
-    pack_written(rules::next(rule, out, scratch))
+    exported_makings::next(rule, out, scratch)
 }
 
 // The same of the rule of the first rule until the second.
@@ -374,7 +351,7 @@ pub extern "C" fn duknavet_until(
 ) -> u64
     ensures { λ r. ⌜ Exported (UntilPromise (now (first .entry)) (now (second .entry)) (now (out .entry)) (now (out .exit)) (now (classes .entry)) (now (classes .exit)) (now (scratch .entry)) (now (scratch .exit))) writtenContents r ⌝ }
 {
-    pack_written(rules::until(first, second, out, classes, scratch))
+    exported_makings::until(first, second, out, classes, scratch)
 }
 
 // How many bytes the smallest rule of a whole formula has, which stands in `out`.
@@ -403,7 +380,7 @@ pub extern "C" fn duknavet_reduce_rounds(
 ) -> u64
     ensures { λ r. ⌜ Exported (RoundsPromise (now (rule .entry)) limit (now (blocks .entry)) (now (blocks .exit)) (now (scratch .entry)) (now (scratch .exit))) partitionContents r ⌝ }
 {
-    pack_partition(rules::reduce_rounds(rule, limit, blocks, scratch))
+    exported_makings::reduce_rounds(rule, limit, blocks, scratch)
 }
 
 // How many bytes the rule made from an automaton has, which stands in `out`.
@@ -415,7 +392,7 @@ pub extern "C" fn duknavet_automaton_rule(
 ) -> u64
     ensures { λ r. ⌜ Exported (RulePromise (now (automaton .entry)) (now (out .entry)) (now (out .exit)) (now (scratch .entry)) (now (scratch .exit))) writtenContents r ⌝ }
 {
-    pack_written(rules::automaton_rule(automaton, out, scratch))
+    exported_makings::automaton_rule(automaton, out, scratch)
 }
 
 // The kind of a state of the rule's automaton for a least grade: 0 plain, 1 initial, 2 final.
@@ -429,7 +406,7 @@ pub extern "C" fn duknavet_state_kind(
 ) -> u64
     ensures { λ r. ⌜ Exported (KindPromise (now (rule .entry)) s e least (now (scratch .entry)) (now (scratch .exit))) kindContents r ⌝ }
 {
-    pack_kind(rules::state_kind(rule, s, e, least, scratch))
+    exported_makings::state_kind(rule, s, e, least, scratch)
 }
 
 // How many states a letter leads to from a state of the rule's automaton; the states in `out`.
@@ -444,7 +421,7 @@ pub extern "C" fn duknavet_successors(
 ) -> u64
     ensures { λ r. ⌜ Exported (SuccessorsPromise (now (rule .entry)) s e letter (now (out .entry)) (now (out .exit)) (now (scratch .entry)) (now (scratch .exit))) successorsContents r ⌝ }
 {
-    pack_successors(rules::successors(rule, s, e, letter, out, scratch))
+    exported_makings::successors(rule, s, e, letter, out, scratch)
 }
 
 // A board where nobody is present, in `state`. This and the calls below answer the board's lowest grade, 4 for none.

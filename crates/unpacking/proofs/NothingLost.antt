@@ -84,7 +84,7 @@ use Rattle.packing.proofs.ReadBack.{FieldsFit, Fits, read-back}
 use Rattle.packing_counts.proofs.Contents.{inspected-told, listed-told, written-told, partition-told, successors-told}
 use Rattle.packing_decisions.proofs.Contents.{strength-told, lasso-verdict-told, confirmation-told, inclusion-told, kind-told}
 use Rattle.packing_monitors.proofs.Contents.{moved-told, advanced-told}
-use Rattle.exports.specs.Exports.{Exported}
+use Rattle.packing.specs.Exports.{Exported}
 use Rattle.exports.specs.BoardExports.{ExportedBoardCall, ExportedBoardEmpty, ExportedBoardEnter, ExportedBoardLeave, ExportedBoardEvent, ExportedBoardMark}
 use Rattle.unpacking.proofs.Limits.{Near, near-limit, refused-fits, at-zero, buffer-limited, rule-limited, checked-limited, second-limited, lasso-limited, log-limited}
 use Rattle.unpacking.proofs.FormulaLimits.{formula-limited}

@@ -27,14 +27,15 @@ const FLOORS_OF_BOARD: [&str; 7] = [
     "board_promises",
 ];
 
-/// The seven more for the calls for C and Rust, whose promises say how an answer is packed, and how a board stands in bytes.
-const FLOORS_OF_EXPORTS: [&str; 15] = [
+/// The eight more for the calls for C and Rust, whose promises say how an answer is packed, and how a board stands in bytes.
+const FLOORS_OF_EXPORTS: [&str; 16] = [
     "theory",
     "temporal",
     "buchi",
     "formats",
     "promises",
     "temporal_promises",
+    "formula_promises",
     "finite",
     "answer",
     "board_promises",
@@ -47,7 +48,7 @@ const FLOORS_OF_EXPORTS: [&str; 15] = [
 ];
 
 /// Those for the theorems, with what holds after many calls of the board, by value and in bytes.
-const FLOORS_OF_THEOREMS: [&str; 18] = [
+const FLOORS_OF_THEOREMS: [&str; 19] = [
     "theory",
     "temporal",
     "temporal_laws",
@@ -55,6 +56,7 @@ const FLOORS_OF_THEOREMS: [&str; 18] = [
     "formats",
     "promises",
     "temporal_promises",
+    "formula_promises",
     "finite",
     "answer",
     "board_promises",
