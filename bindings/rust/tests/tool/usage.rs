@@ -70,7 +70,7 @@ fn examples(text: &str) -> Vec<String> {
 #[test]
 fn topics_of_help_have_examples_that_hold() {
     let overview = run(&["--help"]);
-    for topic in ["formats", "grades", "marks"] {
+    for topic in ["formats", "grades", "marks", "formulas"] {
         assert!(overview.printed(0).contains(&format!("help {topic} ")));
     }
     let formats = run(&["help", "formats"]);
@@ -83,17 +83,25 @@ fn topics_of_help_have_examples_that_hold() {
     run(&["check", rule.name()]).printed(0);
     run(&["check", automaton.name()]).printed(0);
     run(&["member", rule.name(), lasso.trim_end()]).printed(0);
-    for topic in ["grades", "marks"] {
+    for (topic, count) in [("grades", 1), ("marks", 1), ("formulas", 4)] {
         let help = run(&["help", topic]);
-        for command in examples(help.printed(0)) {
-            let shown = command.strip_prefix("$ duknavet-tool ").expect("a command");
-            let words: Vec<&str> = match shown.split_once('\'') {
-                Some((words, quoted)) => words
-                    .split_whitespace()
-                    .chain([quoted.trim_end().trim_end_matches('\'')])
-                    .collect(),
-                None => shown.split_whitespace().collect(),
+        let examples = examples(help.printed(0));
+        assert_eq!(examples.len(), count, "{topic}");
+        for example in examples {
+            let Some(command) = example.strip_prefix("$ duknavet-tool ") else {
+                let document = Scrap::holding(example.as_bytes());
+                let words = ["formula", document.name(), "--letters", "alarm,pump,shut"];
+                run(&words).printed(0);
+                continue;
             };
+            // Every second part stands between quotes.
+            let parts = command.trim_end().split('\'').enumerate();
+            let words: Vec<&str> = parts
+                .flat_map(|(at, part)| match at % 2 {
+                    0 => part.split_whitespace().collect(),
+                    _ => vec![part],
+                })
+                .collect();
             let root = std::path::Path::new(env!("CARGO_MANIFEST_DIR")).join("../..");
             let ended = tool().args(&words).current_dir(root).output();
             let ended = ended.expect("the tool runs");

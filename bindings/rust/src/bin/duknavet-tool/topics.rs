@@ -1,4 +1,4 @@
-//! What help says beyond the subcommands: the files, grades and marks.
+//! What help says beyond the subcommands: the files, grades, marks and formulas.
 
 /// A subject that help explains.
 pub struct Topic {
@@ -9,7 +9,7 @@ pub struct Topic {
     pub text: &'static str,
 }
 
-pub const ALL: [Topic; 3] = [
+pub const ALL: [Topic; 4] = [
     Topic {
         name: "formats",
         purpose: "the files: rules, automata, marks, lassos and maps, as bytes and as texts",
@@ -24,6 +24,11 @@ pub const ALL: [Topic; 3] = [
         name: "marks",
         purpose: "which pairs may be marked, and which the tool writes",
         text: MARKS,
+    },
+    Topic {
+        name: "formulas",
+        purpose: "rules from temporal formulas, and formulas where a rule is wanted",
+        text: FORMULAS,
     },
 ];
 
@@ -93,3 +98,32 @@ then some endless word, cut at two places, has both for its values.
 
 A rule need not mark all conjugates of a marked pair, and may be strong all the same. What the tool writes marks every linked \
 pair whose lassos have a grade of 1 or more, with that grade, ordered by s, then by e.";
+
+const FORMULAS: &str = "\
+A formula says what has to hold of an endless sequence of events, and of what is left of it after some of them. With --letters \
+exactly one of the named events is at each place, and {alarm, shut} is one of several; with --ap up to four propositions hold or do \
+not hold at each place.
+
+    $ duknavet-tool formula --letters alarm,pump,shut 'G (alarm -> (!pump U shut))'
+
+From strong to weak: !f, not f; X f, next f: f holds without the first event; F f, eventually f: from some place on; G f, always f: \
+from every place on; never f is G !f. f U g, f until g: g holds from some place on, and f from each place before; f W g, f weak until \
+g: that, or f always; f R g, f release g: g up to where f holds, that place included, or for ever; f M g: g U (f && g). f && g; f xor g; \
+f || g; f -> g and f <-> g. Chains of U W R M, or of -> and <->, need brackets.
+
+Before a formula f: makes it stand where a rule does:
+
+    $ duknavet-tool included --letters alarm,calm 'f:G F alarm' 'f:F alarm'
+
+    $ duknavet-tool member --ap alarm,pump 'f:G (alarm -> F !pump)' 'v: alarm&!pump'
+
+A file that begins `duknavet formula 1` has parts and grades, and an endless sequence has the highest grade of a line whose formula \
+holds:
+
+    duknavet formula 1
+    quiet = !pump U shut
+    proper: G (alarm -> X quiet)
+    tolerable: G F shut
+    poor: F shut
+
+docs/FORMULAS.md of the repository has the specification patterns, such as response(S, P), and ten rules worked through.";
