@@ -640,8 +640,9 @@ class Words(unittest.TestCase):
         self.said("(0·0)·1 = 0 but 0·(0·1) = 1", duknavet.strong, [2, 1, 0, 0, 0, 2, 0, 1, 0, 0])
         self.said("the file is empty", duknavet.strong, b"")
         self.said("letter 2 at position 2 of v: the rule has 2 letters", duknavet.member, W, [0], [0, 1, 2])
-        self.said("the rule is weak", duknavet.complement, Z)
-        self.said("the second rule is weak", duknavet.both, W, Z)
+        why = "is weak: u: 0  v: 0 0 has grade 3, but u: 0  v: 1 has grade 0, both with the values 1 and 0"
+        self.said(f"the rule {why}", duknavet.complement, Z)
+        self.said(f"the second rule {why}", duknavet.both, W, Z)
         self.said("words have 72 pairs of values in the two rules, more than 64", duknavet.both, remainders(8, 1), remainders(9, 1))
         self.said("the name 3 was never kept", Monitor(W).return_to, 3)
         self.said("the name 8 is above 7", Monitor(W).keep, 8)
@@ -654,7 +655,7 @@ class Words(unittest.TestCase):
         self.said("the name 3 is taken", board.enter, 3, W)
         self.said("the name 4 is that of no rule on the board", board.leave, 4)
         self.said("letter 7: rule 3 has 2 letters", board.event, 7)
-        self.said("entering as rule 4: the rule is weak", board.enter, 4, Z)
+        self.said(f"entering as rule 4: the rule {why}", board.enter, 4, Z)
         self.said("entering as rule 5: the file is empty", board.enter, 5, b"")
 
     def test_long_words_are_told_what_to_do(self):

@@ -18,7 +18,7 @@ the repository, where `build` puts it.
 import ctypes
 import os
 import zlib
-from typing import Any, Iterable, List, NamedTuple, Optional, Tuple
+from typing import Any, Callable, Iterable, List, NamedTuple, Optional, Tuple, Union
 
 from . import words
 from .inputs import Bytes
@@ -59,14 +59,23 @@ class Refused(Exception):
     it is 2 for a second marks section, a second rule and the word v, otherwise 1.
     """
 
-    def __init__(self, number: int, input: int, place: int, said: Optional[str] = None) -> None:
+    def __init__(self, number: int, input: int, place: int, said: Union[None, str, Callable[[], str]] = None) -> None:
         self.number = number
         self.kind = KINDS.get(number, "Refused")
         self.input = input
         self.place = place
-        #: What is wrong with the inputs, as the Rust package says it.
-        self.words = said or words.without_inputs(number, place)
-        super().__init__(number, input, place, self.words)
+        self._said = said
+        super().__init__(number, input, place)
+
+    @property
+    def words(self) -> str:
+        """What is wrong with the inputs, as the Rust package says it. It is worked out where it is asked for: why a rule is weak takes a search."""
+        if callable(self._said):
+            self._said = self._said()
+        return self._said or words.without_inputs(self.number, self.place)
+
+    def __reduce__(self) -> Tuple[Any, ...]:
+        return Refused, (self.number, self.input, self.place, self.words)
 
     def __str__(self) -> str:
         return f"{self.words} (refusal {self.number}, input {self.input}, place {self.place})"
@@ -220,7 +229,12 @@ def _call(name: str, *arguments: Any) -> Tuple[int, int, int]:
     answer = getattr(_library, f"duknavet_{name}")(*handed)
     if answer & 255:
         number, input, place = answer & 255, answer >> 8 & 255, answer >> 16
-        raise Refused(number, input, place, words.explain(name, number, input, place, arguments))
+
+        def said() -> str:
+            return words.explain(name, number, input, place, arguments)
+
+        # A board may have other rules by the time that the words are asked for.
+        raise Refused(number, input, place, said() if name.startswith("board_") else said)
     return answer >> 16 & 65535, answer >> 32 & 65535, answer >> 48
 
 

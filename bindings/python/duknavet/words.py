@@ -1,7 +1,6 @@
 """Refusals in words, as the Rust package has them: what is wrong, with the place translated into the thing that stands there.
 
-Everything is counted from 0: bytes, positions, elements, letters, marks and transitions. Only that a rule is weak is said without the two
-lassos that show it.
+Everything is counted from 0: bytes, positions, elements, letters, marks and transitions.
 """
 
 from typing import Any, Optional, Sequence
@@ -89,7 +88,7 @@ def too_many(number: int, last: str) -> str:
     return f"{count(number, 'byte')} too many {'follows' if number == 1 else 'follow'} the last {last}"
 
 
-class _Table:
+class Table:
     """The sections of a rule file as far as they can be told."""
 
     def __init__(self, file: bytes) -> None:
@@ -105,9 +104,22 @@ class _Table:
     def images(self) -> Sequence[int]:
         return self.file[self.letters_at + 1 : self.marks_at]
 
+    def whole(self) -> bytes:
+        """The file without what stands behind its marks."""
+        at = self.marks_at
+        return self.file[: at + 2 + 3 * int.from_bytes(self.file[at : at + 2], "little")]
+
+
+def _weak(which: str, rule: bytes) -> str:
+    """That a rule is weak, with the two lassos that show it."""
+    from .weakness import why_weak
+
+    weakness = why_weak(rule)
+    return f"{which} is weak" if weakness is None else f"{which} is weak: {weakness.in_words()}"
+
 
 def _rule(number: int, place: int, file: bytes) -> Optional[str]:
-    table = _Table(file)
+    table = Table(file)
     if place >= table.marks_at and len(file) >= table.marks_at and number not in (5, 6):
         return _marks(number, place, file, table.marks_at, table)
     if number == 1:
@@ -134,7 +146,7 @@ def _rule(number: int, place: int, file: bytes) -> Optional[str]:
     return None
 
 
-def _truncated_rule(length: int, table: _Table) -> str:
+def _truncated_rule(length: int, table: Table) -> str:
     if length == 0:
         return "the file is empty"
     end = f"the file ends at byte {length}"
@@ -145,7 +157,7 @@ def _truncated_rule(length: int, table: _Table) -> str:
     return f"{end}, within the letters' elements: {length - table.letters_at - 1} of {table.letters} are there"
 
 
-def _marks(number: int, place: int, file: bytes, at: int, table: _Table) -> Optional[str]:
+def _marks(number: int, place: int, file: bytes, at: int, table: Table) -> Optional[str]:
     """Of a marks section that begins at a byte."""
     end = f"the file ends at byte {len(file)}"
     if len(file) < at + 2:
@@ -223,7 +235,7 @@ def _automaton(number: int, place: int, file: bytes) -> Optional[str]:
     return None
 
 
-def _pairs(first: _Table, second: _Table) -> int:
+def _pairs(first: Table, second: Table) -> int:
     """How many pairs of values words have in two rules."""
     images = list(zip(first.images(), second.images()))
     found, waiting = set(images), list(set(images))
@@ -238,7 +250,7 @@ def _pairs(first: _Table, second: _Table) -> int:
 
 
 def _two(name: str, number: int, input: int, place: int, first: bytes, second: bytes) -> Optional[str]:
-    one, two = _Table(first), _Table(second)
+    one, two = Table(first), Table(second)
     if number == 18:
         return f"the first rule has {count(one.letters, 'letter')}, but the second has {two.letters}"
     if number == 19:
@@ -247,7 +259,7 @@ def _two(name: str, number: int, input: int, place: int, first: bytes, second: b
         return "the rule of `until` would have more than 64 elements"
     which, file = ("the second rule", second) if input == 2 else ("the first rule", first)
     if number == 12:
-        return f"{which} is weak"
+        return _weak(which, file)
     words = _rule(number, place, file)
     return None if words is None else f"{which}: {words}"
 
@@ -255,7 +267,7 @@ def _two(name: str, number: int, input: int, place: int, first: bytes, second: b
 def _lasso(number: int, input: int, place: int, rule: bytes, u: bytes, v: bytes) -> Optional[str]:
     which, word = ("v", v) if input == 2 else ("u", u)
     if number == 10:
-        return f"letter {word[place]} at position {place} of {which}: the rule has {count(_Table(rule).letters, 'letter')}"
+        return f"letter {word[place]} at position {place} of {which}: the rule has {count(Table(rule).letters, 'letter')}"
     if number == 11:
         if not word:
             return f"{which} has no letter"
@@ -264,7 +276,7 @@ def _lasso(number: int, input: int, place: int, rule: bytes, u: bytes, v: bytes)
 
 
 def _state(rule: bytes, s: int, e: int) -> str:
-    table = _Table(rule)
+    table = Table(rule)
     there = there_are(table.elements, "element")
     if s != NONE and s >= table.elements:
         why = f"s is {s}, but {there}"
@@ -284,11 +296,11 @@ def _board(name: str, number: int, input: int, place: int, inputs: Sequence[Any]
     if name == "board_enter" and inputs[1] == input:
         who, file = f"entering as rule {input}", inputs[2]
     else:
-        who, file = f"rule {input}", inputs[-1].raw[16404 * input : 16404 * (input + 1)]
+        who, file = f"rule {input}", Table(inputs[-1].raw[16404 * input : 16404 * (input + 1)]).whole()
     if number == 12:
-        return f"{who}: the rule is weak" if who.startswith("entering") else f"{who} is weak"
+        return f"{who}: {_weak('the rule', file)}" if who.startswith("entering") else _weak(who, file)
     if number == 10:
-        return f"letter {inputs[1]}: {who} has {count(_Table(file).letters, 'letter')}"
+        return f"letter {inputs[1]}: {who} has {count(Table(file).letters, 'letter')}"
     return f"{who}: {_rule(number, place, file) or without_inputs(number, place)}"
 
 
@@ -312,8 +324,10 @@ def _of_call(name: str, number: int, input: int, place: int, inputs: Sequence[An
     if name == "member":
         return _lasso(number, input, place, rule, inputs[1], inputs[2])
     if name == "included" and input == 2:
-        return _marks(number, place, inputs[1], 0, _Table(rule))
-    letters = count(_Table(rule).letters, "letter")
+        return _marks(number, place, inputs[1], 0, Table(rule))
+    if number == 12:
+        return _weak("the rule", rule)
+    letters = count(Table(rule).letters, "letter")
     if number == 10:
         letter = inputs[3]
         if name == "advance_word":

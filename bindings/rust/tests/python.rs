@@ -104,16 +104,40 @@ impl Random {
     }
 }
 
-/// Python says of a refusal what this package says of it, but for the two lassos of a weak rule.
+/// Sums modulo m and modulo n, of one letter, with one mark.
+fn remainders(m: u8, n: u8) -> [Vec<u8>; 2] {
+    [m, n].map(|n| {
+        let products = (0..n).flat_map(|a| (0..n).map(move |b| (a + b) % n));
+        let marks = [1, 1, 1, 0, 0, 0, 3];
+        [n].into_iter().chain(products).chain(marks).collect()
+    })
+}
+
+/// Sums modulo n of two or three letters, with some of the pairs (s, 0) marked: mostly weak, since they are all conjugate.
+fn weak_rule(random: &mut Random, number: usize) -> Vec<u8> {
+    let n = 2 + (number % 5) as u8;
+    let products = (0..n).flat_map(|a| (0..n).map(move |b| (a + b) % n));
+    let letters = 2 + random.below(2);
+    let images = (0..letters).map(|at| match at {
+        0 => 1,
+        _ => random.below(usize::from(n)) as u8,
+    });
+    let images: Vec<u8> = images.collect();
+    let marked: Vec<u8> = (0..n).filter(|_| random.below(2) == 0).collect();
+    let marks = marked.iter().flat_map(|s| [*s, 0, 1 + s % 3]);
+    let counts = [letters as u8];
+    let count = [marked.len() as u8, 0];
+    let table = [n].into_iter().chain(products).chain(counts);
+    table.chain(images).chain(count).chain(marks).collect()
+}
+
+/// Python says of a refusal what this package says of it.
 #[test]
 fn words_are_those_of_this_package() {
     let mut lines = String::new();
     let mut kinds = std::collections::BTreeSet::new();
     let mut add = |call: &str, inputs: &[&[u8]], refused: Option<Explained>| {
         let Some(explained) = refused else { return };
-        if explained.refused.refusal == Refusal::NotStrong {
-            return;
-        }
         let hexed = |bytes: &&[u8]| bytes.iter().map(|byte| format!("{byte:02x}")).collect();
         let inputs: Vec<String> = inputs.iter().map(hexed).collect();
         lines += &format!("{call},{}\t{explained}\n", inputs.join(","));
@@ -127,6 +151,7 @@ fn words_are_those_of_this_package() {
             3, 0, 2, 2, 0, 1, 2, 0, 2, 2, 2, 0, 1, 2, 0, 0, 0, 3, 2, 2, 3,
         ],
     ];
+    let sums = remainders(8, 9);
     let automaton = [2, 1, 2, 2, 4, 0, 0, 0, 1, 0, 1, 0, 1, 0, 1, 1, 1, 0];
     let mut random = Random(0x5eed_0046);
     for _ in 0..1500 {
@@ -162,6 +187,14 @@ fn words_are_those_of_this_package() {
         let both = owned::combine(rules[0], &damaged, Operation::Both);
         add("both", &[rules[0], &damaged], both.err());
     }
+    for number in 0..200 {
+        let weak = weak_rule(&mut random, number);
+        add("complement", &[&weak], owned::complement(&weak).err());
+    }
+    let (eight, nine) = (&sums[0], &sums[1]);
+    let both = owned::combine(eight, nine, Operation::Both);
+    add("both", &[eight, nine], both.err());
+    assert!(kinds.contains(&("complement".to_string(), 12)), "{kinds:?}");
     assert!(kinds.len() > 30, "{kinds:?}");
     for number in 1..=255 {
         if let Some(refusal) = Refusal::from_number(number) {

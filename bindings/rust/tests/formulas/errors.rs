@@ -152,15 +152,14 @@ fn long_documents_are_told() {
         assert!(doubled(10).is_ok());
         let fault = doubled(60).expect_err("too long");
         assert!(fault.message.contains("more than 65535 names"), "{fault}");
-        let wide = format!("wide = {}\n", "(X a U a)".to_string());
-        let wide = (0..9).fold(wide, |text, at| {
-            let before = if at == 0 {
-                "wide".to_string()
-            } else {
-                format!("wide{}", at - 1)
-            };
-            format!("{text}wide{at} = (X {before}) U (X {before})\n")
-        });
+        // wide8 has some four thousand.
+        let mut wide = "wide = X a U a\n".to_string();
+        let names = [
+            "wide", "wide0", "wide1", "wide2", "wide3", "wide4", "wide5", "wide6", "wide7",
+        ];
+        for (at, before) in names.into_iter().enumerate() {
+            wide += &format!("wide{at} = X {before} U X {before}\n");
+        }
         let many = |count: usize| -> String {
             let lines = (0..count).map(|at| format!("more{at} = X wide8\n"));
             format!(

@@ -134,14 +134,11 @@ fn outputs_are_no_inputs() {
     symlink(&rule, folder.file("link")).expect("a link");
     fs::hard_link(&rule, folder.file("same")).expect("a second name");
     let refused = "it is an input, and is not written over";
-    for out in ["a.rule", "link", "same", "../".to_string().as_str()] {
-        let out = match out {
-            "../" => format!("{}/./a.rule", folder.0.display()),
-            out => folder.file(out),
-        };
-        run(&["reduce", &rule, "-o", &out]).said(3, refused);
-        run(&["combine", "both", &other, &rule, "-o", &out]).said(3, refused);
-        run(&["reduce", &rule, "--map", &out]).said(3, refused);
+    let outs = ["a.rule", "link", "same", "./a.rule"].map(|out| folder.file(out));
+    for out in &outs {
+        run(&["reduce", &rule, "-o", out]).said(3, refused);
+        run(&["combine", "both", &other, &rule, "-o", out]).said(3, refused);
+        run(&["reduce", &rule, "--map", out]).said(3, refused);
     }
     let redirected = tool()
         .args(["reduce", "-", "-o", &rule])
@@ -241,6 +238,15 @@ fn reductions_into_a_directory() {
         .said(3, "two rules would be written to `first.rule`");
     run(&["reduce", &first, "-", "-o", &into]).said(3, "standard input has no name");
     run(&["reduce", &first, &text, "-o", &into, "--map", "m"]).said(3, "a map is of one rule");
+    // A link there leads to a rule that is still to be read.
+    symlink(&text, out.file("weak.rule")).expect("a link");
+    fs::write(&weak, &translated.out).expect("another rule");
+    let ran = run(&["reduce", &weak, &text, "-o", &into]);
+    assert_eq!(
+        (ran.status, ran.text()),
+        (3, format!("{text}: elements 2\n").as_str())
+    );
+    assert_eq!(fs::read(&text).expect("a text"), NAMED.as_bytes());
     // The directory that the rules stand in: each would be written over itself.
     let home = folder.0.to_str().expect("a plain name");
     let ran = run(&["reduce", &first, &text, "-o", home]);

@@ -147,8 +147,8 @@ pub fn shown(name: &OsStr) -> String {
 static INPUTS: Mutex<Vec<(u64, u64)>> = Mutex::new(Vec::new());
 
 /// Notes a file that is read, so that it is not written over.
-pub fn note_input(file: &File) {
-    let found = file.metadata().ok().filter(Metadata::is_file);
+pub fn note_input(found: io::Result<Metadata>) {
+    let found = found.ok().filter(Metadata::is_file);
     if let (Some(found), Ok(mut inputs)) = (found, INPUTS.lock()) {
         inputs.push((found.dev(), found.ino()));
     }
@@ -167,7 +167,7 @@ pub fn contents(name: &OsStr) -> Result<Vec<u8>, Failure> {
     if name == "-" {
         let input = standard_input()?;
         if let Ok(own) = io::stdin().as_fd().try_clone_to_owned() {
-            note_input(&File::from(own));
+            note_input(File::from(own).metadata());
         }
         input
             .take(MOST + 1)
@@ -175,7 +175,7 @@ pub fn contents(name: &OsStr) -> Result<Vec<u8>, Failure> {
             .map_err(fault)?;
     } else {
         let file = File::open(name).map_err(fault)?;
-        note_input(&file);
+        note_input(file.metadata());
         file.take(MOST + 1).read_to_end(&mut bytes).map_err(fault)?;
     }
     if bytes.len() as u64 > MOST {

@@ -13,6 +13,7 @@ use duknavet::owned::{self, Reduction};
 use duknavet::text::Names;
 use std::collections::HashSet;
 use std::ffi::{OsStr, OsString};
+use std::fs;
 use std::path::Path;
 
 pub const COMMAND: Command = Command {
@@ -111,6 +112,8 @@ fn names_within<'a>(
             let message = format!("two rules would be written to `{name}` of the directory");
             return Err(arguments.usage(&message));
         }
+        // Whatever is still to be read is not written over before.
+        input::note_input(fs::metadata(file));
         names.push((file, name));
     }
     Ok(names)
