@@ -30,6 +30,8 @@ pub struct Made {
 pub struct NotMade {
     /// The part.
     pub part: Formula,
+    /// How many elements the rules have that it would be made of, in the order in which they were made.
+    pub operands: Vec<usize>,
     /// The refusal.
     pub explained: Explained,
 }
@@ -43,6 +45,10 @@ fn constant(rule: &[u8]) -> Option<u8> {
         },
         _ => None,
     }
+}
+
+fn elements(rule: &[u8]) -> usize {
+    rule.first().copied().map_or(0, usize::from)
 }
 
 /// Makes the smallest rule of a program's formula over so many letters.
@@ -65,13 +71,20 @@ pub fn make_by_steps(letters: usize, program: &Program) -> Result<Made, NotMade>
     let mut steps = Vec::new();
     for operation in &program.operations {
         let bytes = &program.bytes[operation.at..];
+        let below = stack.len().saturating_sub(operation.part.parts().len());
+        let operands: Vec<usize> = stack
+            .iter()
+            .skip(below)
+            .map(|rule| elements(rule))
+            .collect();
         let rule = operate(letters, bytes, &mut stack).map_err(|explained| NotMade {
             part: operation.part.clone(),
+            operands,
             explained,
         })?;
         steps.push(Step {
             part: operation.part.clone(),
-            elements: rule.first().copied().map_or(0, usize::from),
+            elements: elements(&rule),
             constant: constant(&rule),
         });
         stack.push(rule);

@@ -164,4 +164,7 @@ fn the_subcommand_takes_them_so_too() {
     run(&words).said(3, "one of --letters, --ap and --rule is given");
     let deep = (0..12).fold("F b".to_string(), |inner, _| format!("(F a U X {inner})"));
     run(&["formula", &deep, "--ap", "a,b"]).said(2, "the formula: it is too deeply nested at `");
+    // A part that is too large is told with the sizes of what it would be made of.
+    let large = run(&["formula", "G a || X X X X X b", "--letters", "a,b"]);
+    large.said(2, "the formula: of `X X X X X b`, whose part has 62 elements, no rule is made: the rule of `next` would have more than 64 elements (refusal 23, input 1, place 0)");
 }

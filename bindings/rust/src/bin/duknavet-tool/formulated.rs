@@ -9,6 +9,7 @@ use duknavet::formulas::{
     make, Alphabet, Document, Formula, Made, NoProgram, NotMade, Program, Shown,
 };
 use duknavet::text::Names;
+use duknavet::words::count;
 
 /// The options of every subcommand that takes formulas.
 pub const OPTIONS: &[Choice] = &[LETTERS, PROPOSITIONS];
@@ -107,7 +108,16 @@ fn no_program(fault: &NoProgram, alphabet: &Alphabet) -> String {
 
 fn not_made(fault: &NotMade, alphabet: &Alphabet) -> String {
     let part = shortened(&fault.part, alphabet);
-    format!("of `{part}` no rule is made: {}", fault.explained)
+    let parts = match fault.operands[..] {
+        [] => String::new(),
+        [own] => format!(", whose part has {}", count(own, "element")),
+        [first, second, ..] => {
+            let second = count(second, "element");
+            format!(", whose parts have {first} and {second}")
+        }
+    };
+    let explained = &fault.explained;
+    format!("of `{part}`{parts}, no rule is made: {explained}")
 }
 
 /// A part in a message.
