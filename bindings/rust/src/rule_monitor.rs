@@ -99,7 +99,13 @@ impl RuleMonitor {
                 self.monitor = monitor;
                 Ok(())
             }
-            Err(not_moved) => Err(explain(not_moved.refused, Asked::Events { rule: &self.rule, word })),
+            Err(not_moved) => Err(explain(
+                not_moved.refused,
+                Asked::Events {
+                    rule: &self.rule,
+                    word,
+                },
+            )),
         }
     }
 

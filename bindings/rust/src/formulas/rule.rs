@@ -53,15 +53,19 @@ fn elements(rule: &[u8]) -> usize {
 
 /// Makes the smallest rule of a program's formula over so many letters.
 pub fn make(letters: usize, program: &Program) -> Result<Made, NotMade> {
-    let rule = owned::formula_rule(letters, &program.bytes).map_err(|explained| {
-        let place = usize::try_from(explained.refused.place).unwrap_or(usize::MAX);
-        let met = program.operations.iter().rev().find(|operation| operation.at <= place);
-        let part = met.or(program.operations.last()).map(|operation| operation.part.clone());
-        let part = part.unwrap_or(Formula::Constant(0));
-        NotMade { part, explained }
-    })?;
+    // The sizes on the way are asked one by one; the rule that is handed out is the proved call's.
     let steps = make_by_steps(letters, program)?.steps;
-    Ok(Made { rule, steps })
+    match owned::formula_rule(letters, &program.bytes) {
+        Ok(rule) => Ok(Made { rule, steps }),
+        Err(explained) => {
+            let whole = program.operations.last().map(|last| last.part.clone());
+            Err(NotMade {
+                part: whole.unwrap_or(Formula::Constant(0)),
+                operands: Vec::new(),
+                explained,
+            })
+        }
+    }
 }
 
 /// The same by the library's other calls, operation by operation. That they are put together as the formula says is tested, and so is that the rule is

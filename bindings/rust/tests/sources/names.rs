@@ -65,7 +65,9 @@ fn doubled(repository: &Repository) -> Vec<String> {
     let twice = homes.into_iter().filter(|(name, paths)| {
         paths.len() > 1 && paths.iter().any(|path| promised(path)) && !SHARED.contains(name)
     });
-    twice.map(|(name, paths)| format!("{name}: {paths:?}")).collect()
+    twice
+        .map(|(name, paths)| format!("{name}: {paths:?}"))
+        .collect()
 }
 
 #[test]
@@ -77,10 +79,16 @@ fn a_name_of_the_promises_stands_once() {
 fn a_name_that_stands_twice_is_told() {
     let repository = Repository::made_up(&[
         ("promises/specs/Moves.antt", "abbrev pub eventChecks : ℕ\n"),
-        ("board/specs/Checks.antt", "pub record eventChecks : Type 0 where\n  pub at : ℕ\n"),
+        (
+            "board/specs/Checks.antt",
+            "pub record eventChecks : Type 0 where\n  pub at : ℕ\n",
+        ),
         ("board/specs/Other.antt", "pub record Own : Type 0 where\n"),
         ("rules/specs/Other.antt", "pub record Own : Type 0 where\n"),
     ]);
     let told = doubled(&repository);
-    assert!(told.len() == 1 && told[0].starts_with("eventChecks: "), "{told:?}");
+    assert!(
+        told.len() == 1 && told[0].starts_with("eventChecks: "),
+        "{told:?}"
+    );
 }

@@ -135,7 +135,10 @@ impl Comparison {
             one = one.and_then(|m| self.event(subject, m, *letter, MONITOR_SIZES));
         }
         if let (Some(fed), Some(one)) = (fed, one) {
-            assert_eq!(fed, one, "a word that is fed and its letters from {monitor:?}");
+            assert_eq!(
+                fed, one,
+                "a word that is fed and its letters from {monitor:?}"
+            );
             self.tally.count("feed", "as letter by letter");
         }
         if whole.is_some() {

@@ -58,7 +58,9 @@ impl Comparison {
         });
         let inputs: [&[u8]; 1] = [&subject.bytes];
         let found = self.agreed("inspect", &inputs, answer, expected, (&[], &scratch));
-        let Some((counts, expected)) = found else { return };
+        let Some((counts, expected)) = found else {
+            return;
+        };
         let counted = (counts.elements, counts.letters, counts.marks);
         assert_eq!(counted, expected, "counts of {inputs:?}");
         self.tally.count("inspect", "counted");
