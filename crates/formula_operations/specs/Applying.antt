@@ -22,6 +22,7 @@ pub record ApplyNeeds (letters code operand set height : ℕ) : Type 0 where
   pub known-letters : (a : ℕ) → letters ≤ a → T (inSet (setOf (operationOf code operand set)) a) → ⊥
   pub enough : asks (operationOf code operand set) ≤ height
   pub few : heightAfter (operationOf code operand set) height ≤ highestStack
+  pub low : height ≤ highestStack
 
 -- what is told of the operation at a byte
 abbrev pub appliedVerdict : ℕ → Applied → Verdict

@@ -1,0 +1,28 @@
+-- `formula_derived::release_in` meets its contract: the negation of until of both negated. Assumes nothing.
+use borrow.Author.Needs.{needs}
+use Rattle.formula_derived.proofs.Keeping.{kept-then}
+use Rattle.formula_derived.proofs.Deriving.{release-step}
+use Rattle.formula_derived.proofs.release_in.Statement.{statement}
+use Rattle.formula_derived.proofs.release_in.Tie as tie
+
+returns : tie.Need-returns
+returns c =
+    let left = c .before .before .before .before in
+    let call = left .before .before .before .before in
+    let lent = call .before .before .before .before in
+    let back = lent .before .before .before .before .before in
+    let first = back .before .before .before .before in
+    let made = first .until-negated-in .ensures in
+    (release-step (made .0) (call .negate-made .ensures .0), kept-then (made .1) (call .negate-made .ensures .1) (λ i p q. p))
+
+pub release-in-spec : {M : Type 1} → statement M
+release-in-spec =
+    tie.close
+    (tie.spec
+    (λ c κs. search needs)
+    (λ c κs. search needs)
+    (λ c. search needs)
+    (λ c. search needs)
+    (λ c. search needs)
+    (λ c. search needs)
+    returns)

@@ -1,0 +1,6 @@
+pub mod Checked
+pub mod Transfers
+pub mod Rules
+pub mod Refusals
+pub mod Grades
+pub mod Made

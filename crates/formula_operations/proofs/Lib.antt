@@ -1,0 +1,4 @@
+pub mod Codes
+pub mod Applying
+pub mod Needed
+pub mod Grouped
