@@ -18,7 +18,7 @@ use Rattle.temporal.specs.Formulas.{Formula, Means, constant, negation, until, 
 use Rattle.formats.specs.RuleChecks.{ruleSize, scratchSize, bufferCheck}
 use Rattle.temporal_promises.specs.FirstLetter.{inSet, letterCountCheck, SmallestFor}
 use Rattle.temporal_promises.specs.Until.{untilClassesSize, PairGrades}
-use Rattle.formula_promises.specs.Operations.{One, op-not, op-next, op-eventually, op-always, Two, op-both, op-either, op-without, op-until, op-release, op-weak-until, Operation, push-set, push-constant, push-copy, on-one, on-two, codeAt, operationAt, behind, asks, heightAfter, stackAfter}
+use Rattle.formula_promises.specs.Operations.{One, op-not, op-next, op-eventually, op-always, Two, op-both, op-either, op-without, op-until, op-release, op-weak-until, Operation, push-set, push-constant, push-copy, on-one, on-two, operationCodeAt, operationAt, behind, asks, heightAfter, stackAfter}
 
 -- "`stack` has 9 · 16,404 bytes"; "a stack of at most 8 rules"; "more than 65,535 bytes"
 abbrev pub stackSize : ℕ
@@ -46,7 +46,7 @@ lengthCheck formula = formulaCheck WordLength (TooLongAt formula)
 
 -- "the code (3, its byte)"
 pub record NoSuchCodeAt (formula : List ℕ) (at place : ℕ) : Type 0 where
-  pub above : 12 < codeAt formula at
+  pub above : 12 < operationCodeAt formula at
   pub is-place : place ≡ at
 
 -- "its operands present (1, the length)"

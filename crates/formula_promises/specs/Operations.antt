@@ -49,8 +49,8 @@ operationOf code byte number =
     (cond (eqb code 11) (on-two op-weak-until) (push-copy byte))))))))))))
 
 -- the code at a byte, the byte behind it, and the two behind that, low first
-abbrev pub codeAt : List ℕ → ℕ → ℕ
-codeAt formula at = getD formula at 0
+abbrev pub operationCodeAt : List ℕ → ℕ → ℕ
+operationCodeAt formula at = getD formula at 0
 
 abbrev pub operandAt : List ℕ → ℕ → ℕ
 operandAt formula at = getD formula (at + 1) 0
@@ -59,7 +59,7 @@ abbrev pub setAt : List ℕ → ℕ → ℕ
 setAt formula at = getD formula (at + 2) 0 + 256 * getD formula (at + 3) 0
 
 abbrev pub operationAt : List ℕ → ℕ → Operation
-operationAt formula at = operationOf (codeAt formula at) (operandAt formula at) (setAt formula at)
+operationAt formula at = operationOf (operationCodeAt formula at) (operandAt formula at) (setAt formula at)
 
 -- the bytes of an operation, its code and its operands
 unfoldable pub bytesOf : Operation → ℕ

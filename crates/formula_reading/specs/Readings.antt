@@ -3,7 +3,7 @@ use Prim.Native.Nat.{ℕ, _≤_}
 use mathlib.Core.Path.{_≡_}
 use mathlib.Core.Bool.{Bool, true, false}
 use mathlib.Core.List.{List}
-use Rattle.formula_promises.specs.Operations.{One, Two, Operation, on-one, on-two, operationOf, codeAt, operandAt, setAt, operationAt, bytesOf, asks, heightAfter}
+use Rattle.formula_promises.specs.Operations.{One, Two, Operation, on-one, on-two, operationOf, operationCodeAt, operandAt, setAt, operationAt, bytesOf, asks, heightAfter}
 use Rattle.formula_promises.specs.Checks.{gradeOf, setOf}
 use Rattle.formula_reading.specs.declared.Facts.{Facts}
 use Rattle.formula_reading.specs.declared.Reading.{Reading}
@@ -29,7 +29,7 @@ pub record FactsOf (operation : Operation) (height : ℕ) (r : Facts) : Type 0 w
   pub after : r .height ≡ heightAfter operation height
 
 pub record ReadingAt (formula : List ℕ) (at height : ℕ) (r : Reading) : Type 0 where
-  pub code : r .code ≡ codeAt formula at
+  pub code : r .code ≡ operationCodeAt formula at
   pub operand : r .operand ≡ operandAt formula at
   pub number : r .number ≡ setAt formula at
   pub facts : FactsOf (operationAt formula at) height (r .facts)

@@ -17,6 +17,7 @@ ghost use Rattle.promises.specs.ConfirmTheorem.{ConfirmTheorem};
 ghost use Rattle.board_histories.specs.Histories.{BoardTheorem};
 ghost use Rattle.temporal_laws.specs.Laws.{FormulaLaws};
 ghost use Rattle.temporal_promises.specs.OneAnswers.{TemporalOneAnswers};
+ghost use Rattle.formula_promises.specs.FormulasTheorem.{FormulasTheorem};
 ghost use Rattle.unpacking.specs.BoardTheorem.{ExportedBoardTheorem, ExportedBoardOneAnswers};
 
 // Each call leaves one answer and one of every lent byte; of `included` only the lasso is open.
@@ -97,6 +98,11 @@ fn temporal_one_answers_theorem()
 // and formulas keep the laws that their users know.
 fn formula_laws_theorem()
     ensures { λ r. ⌜ FormulaLaws ⌝ }
+{}
+
+// A whole formula has one answer, and two are written alike exactly if they mean the same.
+fn formulas_theorem()
+    ensures { λ r. ⌜ FormulasTheorem ⌝ }
 {}
 
 // Document 02, Job 14.
