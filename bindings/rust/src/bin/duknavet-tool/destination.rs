@@ -2,8 +2,8 @@
 
 use crate::arguments::Arguments;
 use crate::command::{Answer, Choice, Failure};
-use crate::input;
 use crate::output;
+use crate::reading;
 use crate::replacing::{replace, resolved, write_directly};
 use crate::report::{self, Report, JSON};
 use std::ffi::OsStr;
@@ -70,7 +70,7 @@ pub fn free(file: &OsStr) -> Result<PathBuf, Failure> {
     let target = resolved(Path::new(file)).map_err(|error| failed(file, &error))?;
     match fs::metadata(&target) {
         Ok(found) if found.is_dir() => Err(failed(file, &ErrorKind::IsADirectory.into())),
-        Ok(found) if input::was_read(&found) => Err(Failure::Usage(format!(
+        Ok(found) if reading::was_read(&found) => Err(Failure::Usage(format!(
             "{}: it is an input, and is not written over",
             file.to_string_lossy()
         ))),

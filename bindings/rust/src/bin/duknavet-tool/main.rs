@@ -22,6 +22,7 @@ mod meeting;
 mod monitor_state;
 mod nearest;
 mod output;
+mod reading;
 mod replacing;
 mod report;
 mod station;

@@ -4,6 +4,7 @@ use crate::arguments::Arguments;
 use crate::command::{Answer, Choice, Command, Failure};
 use crate::destination;
 use crate::form::{self, Beyond, TO};
+use crate::reading;
 use crate::{formulated, input};
 use duknavet::formulas::Alphabet;
 use duknavet::text::Names;
@@ -87,6 +88,6 @@ fn text(arguments: &Arguments) -> Result<String, Failure> {
     if !named {
         return Ok(words.into_owned());
     }
-    let bytes = input::contents(argument)?;
-    input::decoded(&input::shown(argument), bytes)
+    let bytes = reading::contents(argument)?;
+    reading::decoded(&reading::shown(argument), bytes)
 }

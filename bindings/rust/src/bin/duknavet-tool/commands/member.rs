@@ -3,6 +3,7 @@
 use crate::arguments::Arguments;
 use crate::command::{Answer, Choice, Command, Failure};
 use crate::input::Source;
+use crate::reading;
 use crate::report::{self, About, Report};
 use crate::{formulated, input, output};
 use duknavet::files::Lasso;
@@ -71,10 +72,10 @@ fn of_lines(
 ) -> Result<Answer, Failure> {
     owned::check(&rule.bytes).map_err(|explained| rule.refused(&explained))?;
     let json = arguments.has(report::JSON.name);
-    let name = input::shown(file);
+    let name = reading::shown(file);
     let asked = arguments.plain(0).to_string_lossy();
     let mut worst = 0;
-    for (number, line) in (1..).zip(input::lines(file)?) {
+    for (number, line) in (1..).zip(reading::lines(file)?) {
         let line = line.map_err(|error| Failure::Files(format!("{name}: {error}")))?;
         let bare = line.trim_ascii();
         if bare.is_empty() || bare.starts_with(b"#") {

@@ -6,6 +6,7 @@ use crate::destination;
 use crate::form::{self, TO};
 use crate::input::{self, Source};
 use crate::meeting::acting;
+use crate::reading;
 use crate::report::{self, Report};
 use duknavet::files::Rule;
 use duknavet::letters::{all_called, in_order};
@@ -103,7 +104,7 @@ fn names_within<'a>(
         let Some(name) = name else {
             let message = format!(
                 "{} has no name for a file in a directory",
-                input::shown(file)
+                reading::shown(file)
             );
             return Err(arguments.usage(&message));
         };
@@ -113,7 +114,7 @@ fn names_within<'a>(
             return Err(arguments.usage(&message));
         }
         // Whatever is still to be read is not written over before.
-        input::note_input(fs::metadata(file));
+        reading::note_input(fs::metadata(file));
         names.push((file, name));
     }
     Ok(names)
