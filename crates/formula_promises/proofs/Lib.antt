@@ -1,2 +1,3 @@
 pub mod OneFormula
 pub mod EqualFormulas
+pub mod Examples
