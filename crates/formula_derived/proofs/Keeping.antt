@@ -2,26 +2,21 @@
 use Prim.Native.Nat.{ℕ, _<_}
 use mathlib.Core.Path.{_≡_, sym, _∙_, subst}
 use mathlib.Core.List.{List}
-use native.Mathlib.Omega.{arith}
 use Rattle.temporal.specs.Formulas.{Formula}
 use Rattle.board_promises.specs.Boards.{fileAt}
 use Rattle.formula_slots.specs.Slots.{ReductionFile}
 use Rattle.formula_slots.specs.Kept.{OthersKept}
 use Rattle.formula_derived.specs.Derived.{KeptBelow}
 
-module _ {a b c : ℕ} {entry mid exit : List ℕ} where
-  -- by two steps that touch two slots in all
-  pub kept-on : OthersKept c c entry mid → OthersKept a b mid exit → ((i : ℕ) → (i ≡ a → ⊥) → (i ≡ b → ⊥) → i ≡ c → ⊥) → OthersKept a b entry exit
-  kept-on p q apart = record { others = λ i na nb. q .others i na nb ∙ p .others i (apart i na nb) (apart i na nb) }
-
-  pub kept-then : OthersKept a b entry mid → OthersKept c c mid exit → ((i : ℕ) → (i ≡ a → ⊥) → (i ≡ b → ⊥) → i ≡ c → ⊥) → OthersKept a b entry exit
-  kept-then p q apart = record { others = λ i na nb. q .others i (apart i na nb) (apart i na nb) ∙ p .others i na nb }
-
-pub kept-two : {a b : ℕ} {entry mid exit : List ℕ} → OthersKept a a entry mid → OthersKept b b mid exit → OthersKept a b entry exit
-kept-two p q = record { others = λ i na nb. q .others i nb nb ∙ p .others i na na }
-
-pub kept-turned : {a b : ℕ} {entry mid exit : List ℕ} → OthersKept b b entry mid → OthersKept a a mid exit → OthersKept a b entry exit
-kept-turned p q = record { others = λ i na nb. q .others i na na ∙ p .others i nb nb }
+-- by two steps: what is none of two slots is none of those that either step touches
+pub kept-by : {a b c d e f : ℕ} {entry mid exit : List ℕ} → OthersKept a b entry mid → OthersKept c d mid exit → ((i : ℕ) → (i ≡ e → ⊥) → (i ≡ f → ⊥) → (i ≡ a → ⊥) × (i ≡ b → ⊥))
+    → ((i : ℕ) → (i ≡ e → ⊥) → (i ≡ f → ⊥) → (i ≡ c → ⊥) × (i ≡ d → ⊥)) → OthersKept e f entry exit
+kept-by p q before after = record {
+  others = λ i ne nf.
+      let x = before i ne nf in
+      let y = after i ne nf in
+      q .others i (y .0) (y .1) ∙ p .others i (x .0) (x .1);
+}
 
 -- the rule of a formula in a slot that is kept
 pub file-kept : {a b : ℕ} {entry exit : List ℕ} (slot : ℕ) → (slot ≡ a → ⊥) → (slot ≡ b → ⊥) → OthersKept a b entry exit → {letters : ℕ} {f : Formula}

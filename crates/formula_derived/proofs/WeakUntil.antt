@@ -7,13 +7,11 @@ use native.Mathlib.Omega.{arith}
 use Rattle.answer.specs.declared.Refusal.the-variants.{TooManyPairs, TooManyClasses}
 use Rattle.answer.specs.Checks.{Check, Verdict, FirstFailure}
 use Rattle.answer.proofs.Order.{refused-before, passed-before}
-use Rattle.temporal.specs.Formulas.{Formula, negation, either, until, always}
-use Rattle.board_promises.specs.Boards.{fileAt}
+use Rattle.temporal.specs.Formulas.{negation, until, always}
 use Rattle.promises.specs.declared.Written.{Written}
 use Rattle.promises.specs.declared.Written.the-variants.{Rule as Is-rule, Refused}
 use Rattle.formula_promises.specs.Operations.{op-either, op-until, op-always, op-weak-until, madeOfOne, madeOfTwo}
 use Rattle.formula_promises.specs.Checks.{Making, making-pairs, making-until, making-next, proper, makingsOfOne, makingsOfTwo, PairsTooManyAt, UntilTooManyAt, NextTooManyAt, makingChecks}
-use Rattle.formula_slots.specs.Slots.{ReductionFile}
 use Rattle.formula_slots.specs.Kept.{OthersKept}
 use Rattle.formula_makings.specs.Makings.{toldAt, IsWritten, Made}
 use Rattle.formula_steps.specs.Steps.{isRefusal, OneStep, TwoStep}

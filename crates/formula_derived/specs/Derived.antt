@@ -8,13 +8,7 @@ use Rattle.promises.specs.declared.Written.{Written}
 use Rattle.formula_promises.specs.Operations.{op-always, op-release}
 use Rattle.formula_promises.specs.Checks.{Making, making-pairs, making-until, proper, makingsOfOne, makingsOfTwo}
 use Rattle.formula_slots.specs.Slots.{ReductionFile}
-use Rattle.formula_makings.specs.Makings.{IsWritten, Made}
-use Rattle.formula_steps.specs.Steps.{Negated}
-
--- an answer passed on; what was written is negated
-pub record NegatedMade (slot : ℕ) (entry exit : List ℕ) (made answer : Written) : Type 0 where
-  pub same-answer : answer ≡ made
-  pub negated : IsWritten made → Negated slot entry exit
+use Rattle.formula_makings.specs.Makings.{Made}
 
 -- the rules in two slots are negated
 pub record BothNegated (first second : ℕ) (entry exit : List ℕ) : Type 0 where

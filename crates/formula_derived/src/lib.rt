@@ -15,8 +15,8 @@ ghost use Rattle.formula_promises.specs.Operations.{op-eventually, op-always, o
 ghost use Rattle.formula_promises.specs.Checks.{stackSize};
 ghost use Rattle.formula_slots.specs.Kept.{OthersKept};
 ghost use Rattle.formula_pushes.specs.Pushes.{RuleNeeds};
-ghost use Rattle.formula_steps.specs.Steps.{OneStep, TwoStep};
-ghost use Rattle.formula_derived.specs.Derived.{NegatedMade, BothNegated, EventuallyNot, UntilNegated, OrAlways, KeptBelow};
+ghost use Rattle.formula_steps.specs.Steps.{PassedOn, Negated, OneStep, TwoStep};
+ghost use Rattle.formula_derived.specs.Derived.{BothNegated, EventuallyNot, UntilNegated, OrAlways, KeptBelow};
 
 // Negates what was made in a slot, unless it was refused.
 fn negate_made(
@@ -32,7 +32,7 @@ fn negate_made(
     requires { ⌜ ruleSize ≤ length (now spare) ⌝ }
     requires { ⌜ untilClassesSize ≤ length (now classes) ⌝ }
     requires { ⌜ scratchSize ≤ length (now scratch) ⌝ }
-    ensures negated { λ r. ⌜ NegatedMade slot (now (stack .entry)) (now (stack .exit)) made r ⌝ }
+    ensures negated { λ r. ⌜ PassedOn (Negated slot (now (stack .entry)) (now (stack .exit))) made r ⌝ }
     ensures kept { λ r. ⌜ OthersKept slot slot (now (stack .entry)) (now (stack .exit)) ⌝ }
 {
     if is_refusal(made) {

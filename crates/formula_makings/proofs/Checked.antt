@@ -1,6 +1,6 @@
 -- Checks of the library that stand for checks of a formula, one for one: what they come to is told at the operation's byte. Assumes nothing.
 use Prim.Native.Nat.{ℕ}
-use mathlib.Core.Path.{_≡_, refl, sym, _∙_, subst}
+use mathlib.Core.Path.{_≡_, sym, subst}
 use mathlib.Core.List.{List, [], _∷_, _++_, append-nil}
 use Rattle.answer.specs.Refusals.{numberOf}
 use Rattle.answer.specs.Checks.{Verdict, passed, numbered, Check, Passes, firstOf, FirstFailure}

@@ -6,7 +6,6 @@ use native.Mathlib.Omega.{arith}
 use lib.ListN.{length}
 use Rattle.answer.specs.declared.Refusal.the-variants.{TooManyPairs, TooManyClasses}
 use Rattle.answer.specs.Checks.{Check, Verdict, Passes, FirstFailure}
-use Rattle.theory.specs.Rules.{Rule}
 use Rattle.temporal.specs.Formulas.{Formula}
 use Rattle.formats.specs.RuleFile.{lettersOf}
 use Rattle.formats.specs.RuleChecks.{scratchSize, ruleSize, bufferCheck, ruleChecks}

@@ -1,19 +1,16 @@
 -- A rule that was written whole and is a strong one for a formula has the formula's file; and a reduction's file is one of a strong rule for its formula. Assumes
 -- nothing.
 use Prim.Native.Nat.{ℕ, _≤_}
-use mathlib.Core.Path.{_≡_, sym, ap, _∙_, subst}
+use mathlib.Core.Path.{_≡_, sym, _∙_, subst}
 use mathlib.Core.Logic.{_↔_}
 use mathlib.Core.List.{List}
 use Rattle.theory.specs.Words.{Lasso}
 use Rattle.theory.specs.Rules.{Rule}
 use Rattle.theory.specs.Grades.{AtLeast, RuleStrong}
-use Rattle.theory.proofs.Gradings.{at-least-small}
 use Rattle.temporal.specs.Formulas.{Formula, Means}
 use Rattle.temporal.proofs.Meanings.{RuleFor}
-use Rattle.formats.specs.RuleFile.{lettersOf, morphismOf, markingOf}
-use Rattle.formats.specs.WrittenFile.{fileOf}
 use Rattle.formats.specs.ReadBack.{ReadsBack, WrittenRule}
-use Rattle.formats.proofs.GoodRule.{good-rule, graded-marks}
+use Rattle.formats.proofs.GoodRule.{graded-marks}
 use Rattle.formats.proofs.ReadBack.{reads-back}
 use Rattle.formats.proofs.ReadRules.{reads-at-least, reads-strong}
 use Rattle.board_promises.specs.Boards.{fileAt}

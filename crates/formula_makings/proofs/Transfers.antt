@@ -1,7 +1,7 @@
 -- Tables of pairs and of classes over rules that bytes read back as are such over the rules that the bytes mean. Assumes nothing.
-use Prim.Native.Nat.{ℕ, _≤_, _<_}
+use Prim.Native.Nat.{ℕ, _<_}
 use mathlib.Core.Path.{_≡_, refl, sym, _∙_, subst}
-use mathlib.Core.List.{List, [], _∷_}
+use mathlib.Core.List.{List}
 use Rattle.theory.specs.Words.{Over, over-nil, over-cons}
 use Rattle.theory.specs.Rules.{Morphism, Marking, Lawful}
 use Rattle.theory.specs.Combined.{PairWord, PairsOf, MorePairs}

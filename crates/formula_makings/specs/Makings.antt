@@ -13,7 +13,7 @@ use Rattle.promises.specs.declared.Operation.{Operation}
 use Rattle.promises.specs.declared.Operation.the-variants.{Both, Either, Without}
 use Rattle.promises.specs.declared.Written.{Written}
 use Rattle.promises.specs.declared.Written.the-variants.{Rule as Is-rule, Refused}
-use Rattle.formula_promises.specs.Operations.{One, op-next, Two, op-both, op-either, op-without, op-until, madeOfOne, madeOfTwo}
+use Rattle.formula_promises.specs.Operations.{One, Two, op-both, op-either, op-without, madeOfOne, madeOfTwo}
 use Rattle.formula_promises.specs.Checks.{Making, makingsOfOne, makingsOfTwo, makingChecks}
 use Rattle.formula_slots.specs.Slots.{ReductionFile}
 

@@ -50,13 +50,9 @@ pub fn combine_of(
     requires { ⌜ scratchSize ≤ length (now scratch) ⌝ }
     ensures { λ r. ⌜ TwoMade (twoOf operation) (fileAt (now (stack .entry)) first) (fileAt (now (stack .entry)) second) (fileAt (now (spare .exit)) 0) r ⌝ }
 {
-    combine(
-        rule_in(stack, first),
-        rule_in(stack, second),
-        operation,
-        spare,
-        scratch,
-    )
+    let one = rule_in(stack, first);
+    let other = rule_in(stack, second);
+    combine(one, other, operation, spare, scratch)
 }
 
 // The rule in a slot until that in another.
@@ -75,11 +71,7 @@ pub fn until_of(
     requires { ⌜ scratchSize ≤ length (now scratch) ⌝ }
     ensures { λ r. ⌜ TwoMade op-until (fileAt (now (stack .entry)) first) (fileAt (now (stack .entry)) second) (fileAt (now (spare .exit)) 0) r ⌝ }
 {
-    until(
-        rule_in(stack, first),
-        rule_in(stack, second),
-        spare,
-        classes,
-        scratch,
-    )
+    let kept = rule_in(stack, first);
+    let reached = rule_in(stack, second);
+    until(kept, reached, spare, classes, scratch)
 }

@@ -1,13 +1,10 @@
 -- Codes and the operations that they are. Assumes nothing.
 use Prim.Native.Nat.{ℕ, zero, suc, _≤_, _<_}
-use mathlib.Core.Path.{_≡_, refl, sym, ap, _∙_}
-use mathlib.Core.Bool.{cond, true}
+use mathlib.Core.Path.{_≡_, refl, ap, _∙_}
 use native.Mathlib.Omega.{arith}
-use borrow.Author.Tests.{eq-eqb, ne-eqb, le-leb, lt-leb}
-use lib.Dec.{eqb, leb}
-use Rattle.promises.specs.declared.Operation as combine
-use Rattle.promises.specs.declared.Operation.the-variants.{Both, Either, Without}
-use Rattle.formula_promises.specs.Operations.{One, op-always, Two, op-until, op-release, op-weak-until, Operation, on-one, on-two, push-constant, push-copy, operationOf}
+use borrow.Author.Tests.{ne-eqb, le-leb, lt-leb}
+use Rattle.promises.specs.declared.Operation.the-variants.{Without}
+use Rattle.formula_promises.specs.Operations.{op-always, op-weak-until, Operation, on-one, on-two, push-constant, push-copy, operationOf}
 use Rattle.formula_makings.specs.Makings.{twoOf}
 use Rattle.formula_operations.specs.Groups.{pushOf, oneOf, combinedOf, pairOf, groupOf}
 

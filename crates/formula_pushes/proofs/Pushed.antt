@@ -5,10 +5,9 @@ use mathlib.Core.Logic.{_↔_, ⊎-elim}
 use mathlib.Core.List.{List}
 use native.Mathlib.Omega.{arith}
 use lib.ListN.{length}
-use Rattle.answer.specs.Checks.{passed, Passes, FirstFailure}
+use Rattle.answer.specs.Checks.{passed, Passes}
 use Rattle.answer.proofs.Order.{first-passes, none-left}
 use Rattle.answer.proofs.Verdicts.{not-passed}
-use Rattle.theory.specs.Words.{Lasso}
 use Rattle.theory.specs.Rules.{Rule}
 use Rattle.temporal.specs.Formulas.{Formula, firstLetter, constant, Means}
 use Rattle.formats.specs.RuleChecks.{ruleSize}

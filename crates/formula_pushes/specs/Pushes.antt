@@ -3,7 +3,7 @@ use Prim.Native.Nat.{ℕ, _≤_}
 use mathlib.Core.Path.{_≡_}
 use mathlib.Core.List.{List}
 use lib.Dec.{T}
-use Rattle.temporal.specs.Formulas.{Formula, firstLetter, constant}
+use Rattle.temporal.specs.Formulas.{firstLetter, constant}
 use Rattle.formats.specs.ReadBack.{FileShape}
 use Rattle.temporal_promises.specs.FirstLetter.{inSet}
 use Rattle.formula_slots.specs.Slots.{ReductionFile}

@@ -1,5 +1,5 @@
 -- The file of a formula's reduction: the rule that its bytes mean is the reduction, and a rule that was written whole has such a file. Assumes nothing.
-use Prim.Native.Nat.{ℕ, _≤_}
+use Prim.Native.Nat.{ℕ}
 use mathlib.Core.Path.{_≡_, sym, _∙_, subst}
 use mathlib.Core.List.{List}
 use Rattle.answer.specs.Checks.{passed, FirstFailure}
@@ -9,7 +9,6 @@ use Rattle.theory.specs.Smallest.{SameGrades}
 use Rattle.theory.proofs.SameGrades.{smallest-same}
 use Rattle.temporal.specs.Formulas.{Formula}
 use Rattle.formats.specs.FirstWords.{ByFirstWords}
-use Rattle.formats.specs.RuleFile.{lettersOf, morphismOf, markingOf}
 use Rattle.formats.specs.RuleChecks.{ruleChecks}
 use Rattle.formats.specs.WrittenFile.{fileOf}
 use Rattle.formats.specs.ReadBack.{ReadsBack, FileShape, WrittenRule}

@@ -4,11 +4,11 @@ use mathlib.Core.Path.{_≡_, sym, _∙_, subst}
 use mathlib.Core.List.{List}
 use native.Mathlib.Omega.{arith}
 use lib.ListN.{length}
-use Rattle.answer.specs.Checks.{passed, FirstFailure}
+use Rattle.answer.specs.Checks.{passed}
 use Rattle.answer.proofs.Verdicts.{not-passed}
 use Rattle.theory.specs.Words.{Lasso}
 use Rattle.temporal.specs.Formulas.{Formula}
-use Rattle.formats.specs.RuleChecks.{scratchSize, ruleSize, ruleChecks}
+use Rattle.formats.specs.RuleChecks.{scratchSize, ruleSize}
 use Rattle.formats.proofs.Buffers.{buffer-long}
 use Rattle.board_promises.specs.Boards.{fileAt}
 use Rattle.promises.specs.declared.Written.{Written}

@@ -21,10 +21,10 @@ abbrev pub isRefusal : Written → Bool
 isRefusal (Is-rule end) = false
 isRefusal (Refused refusal input place) = true
 
--- an answer passed on; what was written is reduced
-pub record Settled (slot : ℕ) (spare exit : List ℕ) (made answer : Written) : Type 0 where
+-- an answer passed on, after something was done with what was written
+pub record PassedOn (Result : Type 0) (made answer : Written) : Type 0 where
   pub same-answer : answer ≡ made
-  pub reduced : IsWritten made → ReducedInto slot spare exit
+  pub result : IsWritten made → Result
 
 -- the reduction of a complement takes its place
 pub record Negated (slot : ℕ) (entry exit : List ℕ) : Type 0 where

@@ -17,7 +17,7 @@ ghost use Rattle.formula_promises.specs.Operations.{op-next, op-until};
 ghost use Rattle.formula_promises.specs.Checks.{stackSize};
 ghost use Rattle.formula_slots.specs.Kept.{OthersKept};
 ghost use Rattle.formula_makings.specs.Makings.{twoOf};
-ghost use Rattle.formula_steps.specs.Steps.{ReducedInto, isRefusal, Settled, Negated, OneStep, TwoStep};
+ghost use Rattle.formula_steps.specs.Steps.{ReducedInto, isRefusal, PassedOn, Negated, OneStep, TwoStep};
 
 // Reduces the rule in spare into a slot. The map goes to classes, and is not asked for.
 fn reduce_into(spare: &[u8], slot: usize, stack: &mut [u8], classes: &mut [u8], scratch: &mut [u8])
@@ -62,7 +62,7 @@ fn settle(
     requires { ⌜ stackSize ≤ length (now stack) ⌝ }
     requires { ⌜ untilClassesSize ≤ length (now classes) ⌝ }
     requires { ⌜ scratchSize ≤ length (now scratch) ⌝ }
-    ensures settled { λ r. ⌜ Settled slot (now (spare .entry)) (now (stack .exit)) made r ⌝ }
+    ensures settled { λ r. ⌜ PassedOn (ReducedInto slot (now (spare .entry)) (now (stack .exit))) made r ⌝ }
     ensures kept { λ r. ⌜ OthersKept slot slot (now (stack .entry)) (now (stack .exit)) ⌝ }
 {
     if is_refusal(made) {

@@ -1,6 +1,6 @@
 -- `formula_derived::eventually_in` meets its contract: 3 until the rule. Assumes nothing.
 use borrow.Author.Needs.{needs}
-use Rattle.formula_derived.proofs.Keeping.{kept-turned}
+use Rattle.formula_derived.proofs.Keeping.{kept-by}
 use Rattle.formula_derived.proofs.Deriving.{eventually-step}
 use Rattle.formula_derived.proofs.eventually_in.Statement.{statement}
 use Rattle.formula_derived.proofs.eventually_in.Tie as tie
@@ -14,7 +14,7 @@ returns c =
     let begin = first .before .before .before .before .before .before in
     let constant = first .constant-into .ensures in
     let until = call .until-into .ensures in
-    (eventually-step (begin .pre .1 .0) (constant .0) (constant .1) (until .0), kept-turned (constant .1) (until .1))
+    (eventually-step (begin .pre .1 .0) (constant .0) (constant .1) (until .0), kept-by (constant .1) (until .1) (λ i p q. (q, q)) (λ i p q. (p, p)))
 
 pub eventually-in-spec : {M : Type 1} → statement M
 eventually-in-spec =

@@ -1,6 +1,6 @@
 -- `formula_derived::or_always_in` meets its contract: always, and then either; what is refused first is told. Assumes nothing.
 use borrow.Author.Needs.{needs}
-use Rattle.formula_derived.proofs.Keeping.{kept-then}
+use Rattle.formula_derived.proofs.Keeping.{kept-by}
 use Rattle.formula_derived.proofs.WeakUntil.{or-always-refused, or-always-step}
 use Rattle.formula_derived.proofs.or_always_in.Statement.{statement}
 use Rattle.formula_derived.proofs.or_always_in.Tie as tie
@@ -26,7 +26,7 @@ returns-2 c =
     let made = first .always-in .ensures in
     let both = call .combine-into .ensures in (
       or-always-step (begin .pre .1 .0) (begin .pre .1 .1 .0) _ (asked .is-refusal .ensures) (going .if1 .left) (made .0) (made .1) (both .0),
-      kept-then (made .1) (both .1) (λ i p q. p),
+      kept-by (made .1) (both .1) (λ i p q. (p, q)) (λ i p q. (p, p)),
     )
 
 pub or-always-in-spec : {M : Type 1} → statement M

@@ -1,6 +1,6 @@
 -- `formula_derived::release_in` meets its contract: the negation of until of both negated. Assumes nothing.
 use borrow.Author.Needs.{needs}
-use Rattle.formula_derived.proofs.Keeping.{kept-then}
+use Rattle.formula_derived.proofs.Keeping.{kept-by}
 use Rattle.formula_derived.proofs.Deriving.{release-step}
 use Rattle.formula_derived.proofs.release_in.Statement.{statement}
 use Rattle.formula_derived.proofs.release_in.Tie as tie
@@ -13,7 +13,7 @@ returns c =
     let back = lent .before .before .before .before .before in
     let first = back .before .before .before .before in
     let made = first .until-negated-in .ensures in
-    (release-step (made .0) (call .negate-made .ensures .0), kept-then (made .1) (call .negate-made .ensures .1) (λ i p q. p))
+    (release-step (made .0) (call .negate-made .ensures .0), kept-by (made .1) (call .negate-made .ensures .1) (λ i p q. (p, q)) (λ i p q. (p, p)))
 
 pub release-in-spec : {M : Type 1} → statement M
 release-in-spec =

@@ -1,6 +1,6 @@
 -- `formula_derived::until_negated_in` meets its contract: both negated, and then until. Assumes nothing.
 use borrow.Author.Needs.{needs}
-use Rattle.formula_derived.proofs.Keeping.{kept-then}
+use Rattle.formula_derived.proofs.Keeping.{kept-by}
 use Rattle.formula_derived.proofs.Deriving.{until-negated-step}
 use Rattle.formula_derived.proofs.until_negated_in.Statement.{statement}
 use Rattle.formula_derived.proofs.until_negated_in.Tie as tie
@@ -14,7 +14,7 @@ returns c =
     let first = back .before .before .before .before in
     let both = first .negate-both .ensures in
     let until = call .until-into .ensures in
-    (until-negated-step (both .0) (until .0), kept-then (both .1) (until .1) (λ i p q. p))
+    (until-negated-step (both .0) (until .0), kept-by (both .1) (until .1) (λ i p q. (p, q)) (λ i p q. (p, p)))
 
 pub until-negated-in-spec : {M : Type 1} → statement M
 until-negated-in-spec =
