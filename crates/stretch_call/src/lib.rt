@@ -27,40 +27,40 @@ pub fn stretch<'a>(u: &'a [u8], v: &'a [u8], position: usize) -> &'a [u8]
 }
 
 // Whether both words have lengths that a call takes.
-fn lengths_fit(u: &[u8], v: &[u8]) -> bool
-    ensures { λ r. ⌜ r ≡ lassoFits (now (u .entry)) (now (v .entry)) ⌝ }
+fn lengths_fit(start: &[u8], cycle: &[u8]) -> bool
+    ensures { λ r. ⌜ r ≡ lassoFits (now (start .entry)) (now (cycle .entry)) ⌝ }
 {
-    if LONGEST_WORD < u.len() {
+    if LONGEST_WORD < start.len() {
         return false;
     }
-    if v.len() < 1 {
+    if cycle.len() < 1 {
         return false;
     }
-    v.len() <= LONGEST_WORD
+    cycle.len() <= LONGEST_WORD
 }
 
 // The same part in numbers, for callers who have no slices.
-pub fn stretch_place(u: &[u8], v: &[u8], position: usize) -> StretchPlace
-    ensures { λ r. ⌜ r ≡ stretchNumbers (now (u .entry)) (now (v .entry)) position ⌝ }
+pub fn stretch_place(start: &[u8], cycle: &[u8], position: usize) -> StretchPlace
+    ensures { λ r. ⌜ r ≡ stretchNumbers (now (start .entry)) (now (cycle .entry)) position ⌝ }
 {
-    if !lengths_fit(u, v) {
+    if !lengths_fit(start, cycle) {
         return StretchPlace {
             word: 1,
             from: 0,
             letters: 0,
         };
     }
-    if position < u.len() {
+    if position < start.len() {
         return StretchPlace {
             word: 1,
             from: position,
-            letters: u.len() - position,
+            letters: start.len() - position,
         };
     }
-    let at = (position - u.len()) % v.len();
+    let at = (position - start.len()) % cycle.len();
     StretchPlace {
         word: 2,
         from: at,
-        letters: v.len() - at,
+        letters: cycle.len() - at,
     }
 }

@@ -19,13 +19,13 @@ returns-2 c = numbers-start _ _ _ (sym (c .before .before .lengths-fit .ensures)
 rem-at : tie.Need-rem-at
 rem-at c =
     let a = c .before .before .before .before .before .args in
-    omega (arith, cycle-some (a .u .now) (a .v .now) (a .position) (sym (c .before .before .lengths-fit .ensures) ∙ not-false _ (c .before .if1 .left)))
+    omega (arith, cycle-some (a .start .now) (a .cycle .now) (a .position) (sym (c .before .before .lengths-fit .ensures) ∙ not-false _ (c .before .if1 .left)))
 
 sub-t11 : tie.Need-sub-t11
 sub-t11 c =
     let a = c .before .before .before .before .before .args in
-    let some = cycle-some (a .u .now) (a .v .now) (a .position) (sym (c .before .before .lengths-fit .ensures) ∙ not-false _ (c .before .if1 .left)) in
-    omega (arith, mod-lt (a .position - length (a .u .now)) {m = length (a .v .now)} some)
+    let some = cycle-some (a .start .now) (a .cycle .now) (a .position) (sym (c .before .before .lengths-fit .ensures) ∙ not-false _ (c .before .if1 .left)) in
+    omega (arith, mod-lt (a .position - length (a .start .now)) {m = length (a .cycle .now)} some)
 
 returns-3 : tie.Need-returns-3
 returns-3 c = numbers-cycle _ _ _ (sym (c .before .before .lengths-fit .ensures) ∙ not-false _ (c .before .if1 .left)) (c .if2 .left)
