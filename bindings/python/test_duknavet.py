@@ -232,7 +232,7 @@ class Calls(unittest.TestCase):
             named = re.findall(r"^    DUKNAVET_(\w+) = (\d+)", file.read(), re.MULTILINE)
         kinds = {int(number): name.title().replace("_", "") for name, number in named if name != "RESULT"}
         self.assertEqual(duknavet.KINDS, kinds)
-        self.assertEqual(sorted(kinds), [number for number in range(1, 24) if number != 9])
+        self.assertEqual(sorted(kinds), [number for number in range(1, 25) if number != 9])
         found = {number: kind for number, kind in duknavet.KINDS.items() if number > 14}
         points = {15: "NameOutOfRange", 16: "NameNeverKept"}
         later = {17: "NoSuchState", 18: "LettersDiffer", 19: "TooManyPairs", 20: "LimitOutOfRange"}

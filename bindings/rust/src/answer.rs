@@ -284,6 +284,7 @@ mod tests {
             (21, "the name is above 7 or taken"),
             (22, "no rule is present under the name"),
             (23, "the rule would have more than 64 elements"),
+            (24, "the formula's operations do not leave one rule"),
         ];
         let numbers: Vec<u8> = (0..=255)
             .filter(|own| Refusal::from_number(*own).is_some())
@@ -328,10 +329,10 @@ mod tests {
 
     #[test]
     fn what_packs_no_answer_panics() {
-        for packed in [0x0000_0118, 0x0000_0109, 0x0100, 0x0001, 0x0301] {
+        for packed in [0x0000_0119, 0x0000_0109, 0x0100, 0x0001, 0x0301] {
             assert!(catch_unwind(|| unpack(packed)).is_err());
         }
-        for packed in [0x0000_0118, 0x0000_0109, 0x0100, 0x0801] {
+        for packed in [0x0000_0119, 0x0000_0109, 0x0100, 0x0801] {
             assert!(catch_unwind(|| unpack_of_board(packed)).is_err());
         }
         assert!(catch_unwind(|| unpack_bool(0x2_0000)).is_err());

@@ -49,7 +49,7 @@ fn module() {
         .expect("Python runs");
     let said = String::from_utf8_lossy(&tested.stderr);
     assert!(tested.status.success(), "{said}");
-    assert!(said.contains("Ran 39 tests"), "{said}");
+    assert!(said.contains("Ran 42 tests"), "{said}");
 }
 
 /// Calls by their names, with bytes in base 16 between commas, and what is to be said, behind a tab.

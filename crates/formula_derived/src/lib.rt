@@ -136,7 +136,7 @@ fn negate_both(
     negate(second, stack, spare, classes, scratch);
 }
 
-// Puts the negation of the rule in a slot until that of the rule in another in its place. The other's place has its negation then.
+// Puts `until` of the negations of the rules in two slots in the first's place. The second's place has its negation then.
 fn until_negated_in(
     first: usize,
     second: usize,
@@ -158,7 +158,7 @@ fn until_negated_in(
     until_into(first, second, first, stack, spare, classes, scratch)
 }
 
-// Puts the rule in a slot released by that in another in its place. The other's place is free then.
+// Puts `release` of the rules in two slots in the first's place. The second's place is free then.
 pub fn release_in(
     first: usize,
     second: usize,
@@ -180,7 +180,7 @@ pub fn release_in(
     negate_made(made, first, stack, spare, classes, scratch)
 }
 
-// Puts the rule in a slot or `always` of that in another in the other's place. A free slot takes the constant.
+// Puts the rule in another slot or `always` of the rule in a slot in the latter's place. A free slot takes the constant.
 fn or_always_in(
     letters: usize,
     first: usize,
@@ -210,7 +210,7 @@ fn or_always_in(
     combine_into(other, first, either, first, stack, spare, classes, scratch)
 }
 
-// Puts the rule in a slot weakly until that in another in its place. The other's place and a free slot take what is between.
+// Puts `weak until` of the rules in two slots in the first's place. The second's place and a free slot take what is between.
 pub fn weak_until_in(
     letters: usize,
     first: usize,

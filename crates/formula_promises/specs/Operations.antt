@@ -1,8 +1,8 @@
 -- The operations of a formula in postfix form, and the stack of formulas that they lead to. Assumes nothing.
-use Prim.Native.Nat.{ℕ, zero, suc, _+_, _-_, _*_, _≤_, min}
+use Prim.Native.Nat.{ℕ, zero, suc, _+_, _-_, _*_, _≤_, min, zero-le}
 use mathlib.Core.Bool.{cond}
 use mathlib.Core.List.{List, [], _∷_}
-use native.Mathlib.Omega.{arith}
+use native.Mathlib.Nat.{min-le-right}
 use lib.ListN.{length, getD}
 use lib.Dec.{ltb, eqb}
 use Rattle.temporal.specs.Formulas.{Formula, firstLetter, constant, negation, both, either, next, until, without, eventually, always, release, weakUntil}
@@ -105,11 +105,11 @@ madeOfTwo op-weak-until f g = weakUntil f g
 
 -- grades above 3 are refused, so that this is the grade
 abbrev pub small : (grade : ℕ) → min grade 3 ≤ 3
-small grade = omega arith
+small grade = min-le-right grade 3
 
 -- the formula so far below the top of a stack
 unfoldable pub below : ℕ → List Formula → Formula
-below d [] = constant 0 (omega arith)
+below d [] = constant 0 zero-le
 below zero (f ∷ stack) = f
 below (suc d) (f ∷ stack) = below d stack
 

@@ -1,7 +1,7 @@
 -- Where the refusals of a whole formula lie: at its bytes, or at its end, and it has at most 65,535 bytes. Assumes nothing.
-use Prim.Native.Nat.{ℕ, zero, suc, _+_, _≤_, _<_}
+use Prim.Native.Nat.{ℕ, zero, suc, _≤_, _<_}
 use native.Mathlib.Omega.{arith}
-use mathlib.Core.Path.{_≡_, refl, sym, subst}
+use mathlib.Core.Path.{refl}
 use mathlib.Core.Bool.{Bool, true, false, cond}
 use mathlib.Core.List.{List, [], _∷_}
 use lib.Dec.{T, ltb, ltb→lt}
@@ -11,7 +11,7 @@ use Rattle.answer.proofs.Limits.{Limited, limited-nil, limited-cons, limited-ap
 use Rattle.temporal.specs.Formulas.{Formula}
 use Rattle.temporal_promises.specs.FirstLetter.{LettersOutOfRangeAt}
 use Rattle.formula_promises.specs.Operations.{operationAt, behind, heightAfter, stackAfter}
-use Rattle.formula_promises.specs.Checks.{longestFormula, TooLongAt, NoSuchCodeAt, OperandsCutAt, GradeAboveAt, ForeignLetterAt, UnbalancedAt, NotOneAt, operationChecks, programChecks, Making, making-pairs, making-until, making-next, makings, PairsTooManyAt, UntilTooManyAt, NextTooManyAt, makingChecks, runChecks, scanChecks, formulaChecks}
+use Rattle.formula_promises.specs.Checks.{longestFormula, TooLongAt, NoSuchCodeAt, OperandsCutAt, GradeAboveAt, ForeignLetterAt, UnbalancedAt, NotOneAt, operationChecks, programChecks, Making, making-pairs, making-until, making-next, makings, PairsTooManyAt, UntilTooManyAt, NextTooManyAt, makingChecks, runChecks, formulaChecks}
 use Rattle.unpacking.proofs.Limits.{Near, near-limit, at-zero}
 
 -- one of two lists, by a test

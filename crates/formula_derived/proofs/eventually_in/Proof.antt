@@ -11,7 +11,8 @@ returns c =
     let call = left .before .before .before .before in
     let lent = call .before .before .before .before in
     let first = lent .before .before .before in
-    let begin = first .before .before .before .before .before .before in
+    let entered = first .before .before in
+    let begin = entered .before .before .before .before in
     let constant = first .constant-into .ensures in
     let until = call .until-into .ensures in
     (eventually-step (begin .pre .1 .0) (constant .0) (constant .1) (until .0), kept-by (constant .1) (until .1) (λ i p q. (q, q)) (λ i p q. (p, p)))

@@ -10,7 +10,8 @@ returns c =
     let back = c .before .before .before in
     let call = back .before .before .before in
     let lent = call .before .before .before .before in
-    let made = lent .before .before .before .before .before .before .before in
+    let spent = lent .before .before .before in
+    let made = spent .before .before .before .before in
     (two-settled op-until (made .until-of .ensures) (call .settle .ensures .0), call .settle .ensures .1)
 
 pub until-into-spec : {M : Type 1} → statement M
