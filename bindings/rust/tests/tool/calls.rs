@@ -169,6 +169,45 @@ fn automaton() {
 }
 
 #[test]
+fn feed() {
+    let rule = Scrap::holding(NAMED.as_bytes());
+    let fed = |log: &[u8]| run_with(&["feed", rule.name(), "-"], log);
+    let log = b"shut\n# a comment\n\nmark\nopen\nevent shut\n";
+    let followed = run_with(&["follow", rule.name()], log);
+    let graded = fed(log);
+    let graded = graded.printed(0);
+    assert_eq!(graded.lines().next(), followed.printed(0).lines().last());
+    let verdict = run_with(&["follow", rule.name()], &[&log[..], b"verdict\n"].concat());
+    assert_eq!(graded.lines().last(), verdict.printed(0).lines().last());
+    assert_eq!(fed(b"").printed(0), "before none since none\n");
+    fed(b"open\n\nslam\n").said(2, "standard input: line 3: ");
+    fed(b"open\nverdict\n").said(2, "line 2: a line of a log is an event or mark");
+    fed(b"open\n\xff\n").said(2, "line 2: it is no UTF-8");
+    let numbers = Scrap::holding(W);
+    let foreign = run_with(&["feed", numbers.name(), "-"], b"0\nmark\n1\n1\n7\n0\n");
+    foreign.said(2, "line 5: letter 7 at position 2 of the word");
+    run(&["feed", "-", "-"]).said(3, "standard input is the rule or the log");
+    // A weak rule is fed too; it has no grades.
+    let weak = Scrap::holding(Z);
+    let answer = run_with(&["feed", weak.name(), "-"], b"0\n0\n0\n");
+    assert_eq!(answer.printed(0).lines().count(), 1);
+    let column = run_with(&["feed", numbers.name(), "-", "--field", "-1"], b"08:00 flap 0\n08:01 flap 1\n");
+    assert_eq!(column.printed(0), run_with(&["feed", numbers.name(), "-"], b"0\n1\n").printed(0));
+}
+
+/// More events than one call is fed, as the letters alone would come out.
+#[test]
+fn a_long_log_is_fed_in_parts() {
+    let rule = Scrap::holding(Z);
+    let line = |i: usize| if i % 3 == 0 { "0\n" } else { "1\n" };
+    let log: String = (0..2_500_000).map(line).collect();
+    let zeros = (0..2_500_000).filter(|i| i % 3 == 0).count();
+    let fed = run_with(&["feed", rule.name(), "-"], log.as_bytes());
+    let expected = run_with(&["feed", rule.name(), "-"], "0\n".repeat(2 + zeros % 2).as_bytes());
+    assert_eq!(fed.printed(0), expected.printed(0));
+}
+
+#[test]
 fn stretch() {
     let asked = |lasso: &str, position: &str| run(&["stretch", lasso, position]);
     assert_eq!(asked("u: 1 0  v: 0 1 2", "1").printed(0), "0\n");

@@ -41,7 +41,7 @@ fn every_subcommand_survives() {
     ];
     let rule = Scrap::holding(W);
     let map = Scrap::holding(&[0, 1]);
-    let calls: [&[&str]; 31] = [
+    let calls: [&[&str]; 32] = [
         &["check", "-"],
         &["check", "--as", "automaton", "-"],
         &["summary", "-"],
@@ -64,6 +64,7 @@ fn every_subcommand_survives() {
         &["automaton", "-"],
         &["states", "-"],
         &["states", "-", "--state", "none,0", "--letter", "1"],
+        &["feed", rule.name(), "-"],
         &["follow", rule.name()],
         &["stretch", "-", "3"],
         &["convert", "-"],

@@ -142,6 +142,13 @@ fn answers() {
             one.trim_start_matches("\"list\": [").trim_end_matches(']'),
         ],
     );
+    let rule = Scrap::holding(W);
+    told(
+        &asked(&["feed", rule.name(), "-"], b"1\nmark\n0\n1\n"),
+        0,
+        "before since grade turns",
+        &["\"before\": 1, \"since\": 0, \"grade\": 3, \"turns\": 1"],
+    );
     told(
         &asked(&["stretch", "u: 1 v: 0", "0"], b""),
         0,

@@ -3,7 +3,7 @@
 use crate::program::{run, tool, Scrap};
 use crate::samples::{AUTOMATON, W};
 
-const COMMANDS: [&str; 25] = [
+const COMMANDS: [&str; 26] = [
     "check",
     "summary",
     "strong",
@@ -20,6 +20,7 @@ const COMMANDS: [&str; 25] = [
     "automaton",
     "formula",
     "states",
+    "feed",
     "follow",
     "board",
     "stretch",
@@ -173,6 +174,7 @@ fn full_disk() {
     let rule = Scrap::holding(W);
     let automaton = Scrap::holding(AUTOMATON);
     let map = Scrap::holding(&[0, 1]);
+    let log = Scrap::holding(b"0\n1\n");
     for name in COMMANDS {
         let words = match name {
             "member" => vec![name, rule.name(), "v: 0"],
@@ -182,6 +184,7 @@ fn full_disk() {
             "automaton" => vec![name, automaton.name()],
             "formula" => vec![name, "G a", "--letters", "a,b"],
             "letters" => vec![name, rule.name(), "--name", "a,b"],
+            "feed" => vec![name, rule.name(), log.name()],
             "stretch" => vec![name, "v: 0", "0"],
             "compare" => vec![name, rule.name(), automaton.name()],
             "confirm" => vec![name, rule.name(), rule.name(), map.name()],

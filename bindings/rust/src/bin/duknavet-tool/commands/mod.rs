@@ -9,6 +9,7 @@ mod compare;
 mod complement;
 mod confirm;
 mod convert;
+mod feed;
 mod follow;
 mod formula;
 mod included;
@@ -46,6 +47,7 @@ pub const ALL: &[&Command] = &[
     &automaton::COMMAND,
     &formula::COMMAND,
     &states::COMMAND,
+    &feed::COMMAND,
     &follow::COMMAND,
     &board::COMMAND,
     &stretch::COMMAND,

@@ -15,7 +15,7 @@ mod state_file;
 
 pub use answering::run;
 pub use fingerprint::Fingerprint;
-pub use language::Request;
+pub use language::{request, request_in_column, Request};
 pub use machine::{letter, Fault, Machine, MachineState, Reply};
 pub use options::Options;
 pub use progress::Progress;

@@ -103,7 +103,7 @@ impl Options {
     }
 }
 
-fn field(arguments: &Arguments) -> Result<Option<isize>, Failure> {
+pub fn field(arguments: &Arguments) -> Result<Option<isize>, Failure> {
     let Some(value) = arguments.value(FIELD.name) else {
         return Ok(None);
     };
