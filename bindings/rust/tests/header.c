@@ -286,6 +286,19 @@ int main(void)
     /* Letter 1 comes after letter 0, from where the first rule gives grade 2. */
     expect("until letter 1", is_result(duknavet_member(large, duknavet_field(answer, 0), letter, 1, letter + 1, 1, scratch, sizeof scratch), 2, 1, 0));
     expect("never letter 1", is_result(duknavet_member(large, duknavet_field(answer, 0), letter, 1, letter, 1, scratch, sizeof scratch), 0, 1, 0));
+    {
+        static uint8_t stack[DUKNAVET_FORMULA_STACK];
+        static uint8_t spare[DUKNAVET_RULE];
+        /* Letter 0 always, or not always: every lasso has grade 3, as by the constant. */
+        static const uint8_t always_or_not[] = {0, 3, 1, 0, 9, 12, 0, 2, 4};
+        static const uint8_t too_many[] = {1, 3, 1, 3};
+        answer = duknavet_formula_rule(2, always_or_not, sizeof always_or_not, out, sizeof out, stack, sizeof stack, spare, sizeof spare, until_classes, sizeof until_classes,
+                                       scratch, sizeof scratch);
+        expect("formula", duknavet_refusal_of(answer) == DUKNAVET_RESULT && out[0] == 1 && out[duknavet_field(answer, 0) - 1] == 3);
+        answer = duknavet_formula_rule(2, too_many, sizeof too_many, out, sizeof out, stack, sizeof stack, spare, sizeof spare, until_classes, sizeof until_classes,
+                                       scratch, sizeof scratch);
+        expect("two rules left", duknavet_refusal_of(answer) == DUKNAVET_UNBALANCED_FORMULA && duknavet_input_of(answer) == 1 && duknavet_place_of(answer) == 4);
+    }
     answer = duknavet_included(rule, sizeof rule, no_marks, sizeof no_marks, u, sizeof u, v, sizeof v, scratch, sizeof scratch);
     expect("included", duknavet_refusal_of(answer) == DUKNAVET_RESULT && duknavet_field(answer, 0) == 0);
     expect("witness", is_result(duknavet_member(rule, sizeof rule, u, duknavet_field(answer, 1), v, duknavet_field(answer, 2),

@@ -2,6 +2,7 @@
 
 mod automata;
 mod bytes;
+mod claims;
 mod documents;
 mod errors;
 mod evaluation;

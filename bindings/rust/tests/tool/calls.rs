@@ -191,8 +191,14 @@ fn feed() {
     let weak = Scrap::holding(Z);
     let answer = run_with(&["feed", weak.name(), "-"], b"0\n0\n0\n");
     assert_eq!(answer.printed(0).lines().count(), 1);
-    let column = run_with(&["feed", numbers.name(), "-", "--field", "-1"], b"08:00 flap 0\n08:01 flap 1\n");
-    assert_eq!(column.printed(0), run_with(&["feed", numbers.name(), "-"], b"0\n1\n").printed(0));
+    let column = run_with(
+        &["feed", numbers.name(), "-", "--field", "-1"],
+        b"08:00 flap 0\n08:01 flap 1\n",
+    );
+    assert_eq!(
+        column.printed(0),
+        run_with(&["feed", numbers.name(), "-"], b"0\n1\n").printed(0)
+    );
 }
 
 /// More events than one call is fed, as the letters alone would come out.
@@ -203,7 +209,10 @@ fn a_long_log_is_fed_in_parts() {
     let log: String = (0..2_500_000).map(line).collect();
     let zeros = (0..2_500_000).filter(|i| i % 3 == 0).count();
     let fed = run_with(&["feed", rule.name(), "-"], log.as_bytes());
-    let expected = run_with(&["feed", rule.name(), "-"], "0\n".repeat(2 + zeros % 2).as_bytes());
+    let expected = run_with(
+        &["feed", rule.name(), "-"],
+        "0\n".repeat(2 + zeros % 2).as_bytes(),
+    );
     assert_eq!(fed.printed(0), expected.printed(0));
 }
 

@@ -180,8 +180,14 @@ fn answer(rule: &Source, watched: &mut RuleMonitor) -> Result<Report, Failure> {
         [
             ("before", number(monitor.before)),
             ("since", number(monitor.since)),
-            ("grade", verdict.map_or(Json::None, |verdict| verdict.grade.into())),
-            ("turns", verdict.map_or(Json::None, |verdict| verdict.turns.into())),
+            (
+                "grade",
+                verdict.map_or(Json::None, |verdict| verdict.grade.into()),
+            ),
+            (
+                "turns",
+                verdict.map_or(Json::None, |verdict| verdict.turns.into()),
+            ),
         ],
     ))
 }
