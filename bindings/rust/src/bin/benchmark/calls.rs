@@ -67,6 +67,8 @@ pub enum Call {
     Confirm(Vec<u8>, Vec<u8>, Vec<u8>),
     Event(Vec<u8>),
     Mark(Vec<u8>),
+    /// A word of events.
+    Feed(Vec<u8>, Vec<u8>),
     Verdict(Vec<u8>),
     Member(Vec<u8>, (Vec<u8>, Vec<u8>)),
     Included(Vec<u8>, Vec<u8>),
@@ -161,6 +163,9 @@ impl Call {
             Call::Mark(rule) => {
                 moved(library::mark(rule, monitor, scratch).map_err(|n| n.refused)?)
             }
+            Call::Feed(rule, word) => {
+                moved(library::feed(rule, monitor, word, scratch).map_err(|n| n.refused)?)
+            }
             Call::Verdict(rule) => {
                 let answer = library::verdict(rule, monitor, scratch)?;
                 graded((answer.grade, answer.turns))
@@ -207,6 +212,7 @@ impl Call {
             }
             Call::Event(rule) => moved(monitors::event(how, rule, monitor, 0, scratch)?),
             Call::Mark(rule) => moved(monitors::mark(how, rule, monitor, scratch)?),
+            Call::Feed(rule, word) => moved(monitors::feed(how, rule, monitor, word, scratch)?),
             Call::Verdict(rule) => graded(monitors::verdict(how, rule, monitor, scratch)?),
             Call::Member(rule, (u, v)) => graded(lassos::member(how, rule, u, v, scratch)?),
             Call::Included(rule, second) => {

@@ -69,6 +69,11 @@ fn rows_with(letters: usize) -> Vec<Row> {
             add(format!("member of {length}, {kind}"), Box::new(member));
         }
     }
+    for length in [1, 100, 1_000, 4_224, 1_000_000] {
+        let word = move || inputs::lasso(length, letters).0;
+        let feed = move |n: usize| Call::Feed(inputs::closed(n, letters).file(), word());
+        add(format!("feed of {length}, closed"), Box::new(feed));
+    }
     let markings: [(&str, Made, Made); 5] = [
         ("yes", inputs::weak, inputs::closed),
         ("no", inputs::closed, inputs::weak),

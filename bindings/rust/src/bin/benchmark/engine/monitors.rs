@@ -6,6 +6,9 @@ use super::{lengths, on_memory, Needs, Refusal, Rule, Strategy, SCRATCH, SECOND,
 
 pub type Values = (usize, usize);
 
+/// The most letters of a word of events.
+const LONGEST_LOG: usize = 1 << 24;
+
 /// Runs a call's work on a checked rule, if the monitor's values fit it.
 fn with_monitor<T>(
     (strategy, needs): (Strategy, Needs),
@@ -44,6 +47,30 @@ pub fn event(
     with_monitor(how, bytes, values, scratch, |rule, _| {
         let image = *rule.images.get(letter as usize).ok_or((10, 1, 0))? as usize;
         Ok((values.0, join(rule, values.1, image)))
+    })
+}
+
+/// A loop over the table, once the letters are known.
+pub fn feed(
+    strategy: Strategy,
+    bytes: &[u8],
+    values: Values,
+    word: &[u8],
+    scratch: &mut [u8],
+) -> Result<Values, Refusal> {
+    let how = (strategy, Needs::Marks);
+    with_monitor(how, bytes, values, scratch, |rule, _| {
+        if word.len() > LONGEST_LOG {
+            return Err((11, 1, 0));
+        }
+        let known = |letter: &u8| usize::from(*letter) < rule.images.len();
+        if let Some(place) = word.iter().position(|letter| !known(letter)) {
+            return Err((10, 1, place as u64));
+        }
+        let since = word.iter().fold(values.1, |since, letter| {
+            join(rule, since, usize::from(rule.images[usize::from(*letter)]))
+        });
+        Ok((values.0, since))
     })
 }
 
