@@ -100,6 +100,19 @@ impl Rule {
         self.product(e, e) == Some(e) && self.product(s, e) == Some(s)
     }
 
+    /// The idempotent power of an element and its exponent, the least c with x^c·x^c = x^c; none where there is no such element, or
+    /// the products are not associative.
+    pub fn idempotent_power(&self, element: u8) -> Option<(u8, usize)> {
+        let mut power = element;
+        for exponent in 1..=usize::from(self.elements) {
+            if self.product(power, power)? == power {
+                return Some((power, exponent));
+            }
+            power = self.product(power, element)?;
+        }
+        None
+    }
+
     /// The grade of a pair: that of the first mark that lists it, 0 where none does.
     pub fn grade(&self, s: u8, e: u8) -> u8 {
         let mut marks = self.marks.iter();

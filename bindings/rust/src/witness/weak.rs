@@ -97,7 +97,9 @@ impl Search<'_> {
         for cut in 0..found.v.len() {
             let rotated = [&found.v[cut..], &found.v[..cut]].concat();
             let u = [start.as_slice(), &found.v[..cut]].concat();
-            let Some((e, times)) = self.idempotent_power(&rotated) else {
+            let value = self.parts.value(&rotated);
+            let power = value.and_then(|value| self.parts.idempotent_power(value));
+            let Some((e, times)) = power else {
                 continue;
             };
             if u.len() > WORD || times * rotated.len() > WORD {
@@ -118,19 +120,6 @@ impl Search<'_> {
             }
         }
         Ok(None)
-    }
-
-    /// The idempotent power of a word's value, and its exponent.
-    fn idempotent_power(&self, word: &[u8]) -> Option<(u8, usize)> {
-        let value = self.parts.value(word)?;
-        let mut power = value;
-        for exponent in 1..=usize::from(self.parts.elements) {
-            if self.parts.product(power, power) == Some(power) {
-                return Some((power, exponent));
-            }
-            power = self.parts.product(power, value)?;
-        }
-        None
     }
 
     /// The lasso and one with the same values by conjugacy, if `member` gives them different grades.

@@ -41,13 +41,15 @@ fn every_subcommand_survives() {
     ];
     let rule = Scrap::holding(W);
     let map = Scrap::holding(&[0, 1]);
-    let calls: [&[&str]; 32] = [
+    let calls: [&[&str]; 34] = [
         &["check", "-"],
         &["check", "--as", "automaton", "-"],
         &["summary", "-"],
         &["strong", "-"],
         &["member", "-", "u: 0 v: 1"],
         &["member", rule.name(), "-"],
+        &["explain", "-", "u: 0 v: 1"],
+        &["explain", "-", "--state", "none,1"],
         &["classes", "-"],
         &["complement", "-"],
         &["combine", "either", rule.name(), "-"],

@@ -115,6 +115,24 @@ fn answers() {
         &[],
     );
     told(
+        &asked(&["explain", "-", "v: 0"], Z),
+        0,
+        "grade turns values pair mark writing pairs higher",
+        &["\"values\": [null, 1], \"pair\": [0, 0], \"mark\": {\"pair\": [0, 0], \"grade\": 3}, \"writing\": {\"p\": [0, 0], \"w\": [0, 0]}, \"pairs\": [[0, 0], [1, 0]], \"higher\": []"],
+    );
+    told(
+        &asked(&["explain", "-", "u: 0 v: 1"], W),
+        1,
+        "grade turns values pair mark writing pairs higher",
+        &["\"mark\": null, \"writing\": null, \"pairs\": [[0, 1]], \"higher\": [{\"grade\": 1, \"marks\": 0}, {\"grade\": 2, \"marks\": 0}, {\"grade\": 3, \"marks\": 1}]"],
+    );
+    told(
+        &asked(&["explain", "-", "--state", "none"], W),
+        1,
+        "value settled grades",
+        &["\"value\": null, \"settled\": false, \"grades\": [{\"grade\": 0, \"lasso\": {\"u\": [], \"v\": [1]}}, {\"grade\": 3, "],
+    );
+    told(
         &asked(&["classes", "-"], W),
         0,
         "linked classes joins pairs",

@@ -18,6 +18,7 @@ mod confirmations;
 mod damage;
 mod descriptions;
 mod exchanges;
+mod explained;
 mod following;
 mod forms;
 mod formulas;

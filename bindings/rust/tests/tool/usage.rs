@@ -3,11 +3,12 @@
 use crate::program::{run, tool, Scrap};
 use crate::samples::{AUTOMATON, W};
 
-const COMMANDS: [&str; 26] = [
+const COMMANDS: [&str; 27] = [
     "check",
     "summary",
     "strong",
     "member",
+    "explain",
     "classes",
     "complement",
     "combine",
@@ -177,7 +178,7 @@ fn full_disk() {
     let log = Scrap::holding(b"0\n1\n");
     for name in COMMANDS {
         let words = match name {
-            "member" => vec![name, rule.name(), "v: 0"],
+            "member" | "explain" => vec![name, rule.name(), "v: 0"],
             "combine" => vec![name, "both", rule.name(), rule.name()],
             "until" => vec![name, rule.name(), rule.name()],
             "included" | "follow" | "board" => continue,

@@ -9,6 +9,7 @@ mod compare;
 mod complement;
 mod confirm;
 mod convert;
+mod explain;
 mod feed;
 mod follow;
 mod formula;
@@ -35,6 +36,7 @@ pub const ALL: &[&Command] = &[
     &summary::COMMAND,
     &strong::COMMAND,
     &member::COMMAND,
+    &explain::COMMAND,
     &classes::COMMAND,
     &complement::COMMAND,
     &combine::COMMAND,
