@@ -1,4 +1,4 @@
-//! Automata of other tools: the Hanoi format (HOA) both ways, Spin's never claims in.
+//! Automata of other tools: the Hanoi format (HOA) both ways, Spin's never claims in. And strong rules as C tables, out.
 //!
 //! Their letters are valuations of at most four propositions. The letter of a valuation is the sum of 2^i over the propositions i
 //! that hold, in the order in which the file declares them, or for a never claim first names them: letter 0 has none, letter 1 the
@@ -16,9 +16,11 @@ mod preprocessor;
 mod print;
 mod reserved;
 mod scanner;
+mod tables;
 
 pub use graph::too_many_left;
 pub use print::{print_hoa, print_rule_hoa};
+pub use tables::print_rule_tables;
 
 use crate::files::Automaton;
 use crate::text::{Names, Place, TextError};

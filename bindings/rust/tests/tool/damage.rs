@@ -41,7 +41,7 @@ fn every_subcommand_survives() {
     ];
     let rule = Scrap::holding(W);
     let map = Scrap::holding(&[0, 1]);
-    let calls: [&[&str]; 34] = [
+    let calls: [&[&str]; 35] = [
         &["check", "-"],
         &["check", "--as", "automaton", "-"],
         &["summary", "-"],
@@ -72,6 +72,7 @@ fn every_subcommand_survives() {
         &["convert", "-"],
         &["convert", "-", "--as", "marks"],
         &["convert", "-", "--to", "hoa"],
+        &["convert", "-", "--to", "c"],
         &["show", "-"],
         &["picture", "-"],
         &["page", "-"],

@@ -40,6 +40,7 @@ mod states;
 mod stations;
 mod strict_claims;
 mod strict_hoa;
+mod tables;
 mod temporal;
 mod texts;
 mod transcripts;

@@ -8,7 +8,8 @@ use crate::form::{text_of, Beyond};
 use crate::formulated;
 use crate::input::{self, Given, Source};
 use crate::kinds::{self, AS};
-use duknavet::exchange::{print_hoa, print_rule_hoa};
+use crate::station::Fingerprint;
+use duknavet::exchange::{print_hoa, print_rule_hoa, print_rule_tables};
 use duknavet::files::Automaton;
 use duknavet::text::{print_lasso, Kind, Names};
 use duknavet::RuleAutomaton;
@@ -18,13 +19,13 @@ pub const COMMAND: Command = Command {
     arguments: "FILE",
     least: 1,
     most: 1,
-    purpose: "write a file in another form: bytes, text, or for an automaton or a rule the Hanoi format",
+    purpose: "write a file in another form: bytes, text, the Hanoi format for an automaton or a rule, C tables for a rule",
     options: &[
         AS,
         Choice {
             name: "to",
             value: Some("FORM"),
-            meaning: "bytes, text or hoa; else text for bytes and bytes for a text",
+            meaning: "bytes, text, hoa or c; else text for bytes and bytes for a text",
         },
         LEAST,
     ],
@@ -34,14 +35,16 @@ does not pass the checks is converted too, as long as its sections have the leng
 a text can be mended by hand. Names of letters, propositions and a description stand in texts, and of \
 the Hanoi format names and propositions do. Letter i of an automaton in the Hanoi format, or of a never \
 claim, is the valuation whose bit j is proposition j. A rule in that format is its own automaton, as \
-states lists it, for the lassos of the least grade or more.",
+states lists it, for the lassos of the least grade or more. A strong rule as C is three tables, step, product and \
+grade, with a monitor's few functions, which a program includes; its values are those that follow answers, \
+with NONE for none.",
     run,
 };
 
 const LEAST_FOR: &str = "`--least` is for a rule with `--to hoa`";
 
 fn run(arguments: &Arguments) -> Result<Answer, Failure> {
-    let to = arguments.one_of("to", &["bytes", "text", "hoa"])?;
+    let to = arguments.one_of("to", &["bytes", "text", "hoa", "c"])?;
     let least = least(arguments)?;
     let given = input::given(arguments.plain(0))?;
     match &given {
@@ -78,8 +81,26 @@ fn run(arguments: &Arguments) -> Result<Answer, Failure> {
             Some(automaton) => destination::text(arguments, &print_hoa(&automaton, &source.names)),
             None => Err(kinds::refusal(&source, kind)),
         },
+        ("c", Kind::Rule) => tables(arguments, &source),
+        ("c", _) => Err(arguments.usage("only rules have C tables")),
         ("hoa", _) => Err(arguments.usage("only automata and rules have the Hanoi format")),
         _ => text(arguments, &source, kind),
+    }
+}
+
+/// A strong rule as C, with its description and the fingerprint that `who` answers.
+fn tables(arguments: &Arguments, source: &Source) -> Result<Answer, Failure> {
+    let fingerprint = format!("Fingerprint: {}", Fingerprint::of(&source.bytes));
+    let about: Vec<String> = source
+        .description
+        .iter()
+        .cloned()
+        .chain([fingerprint])
+        .collect();
+    let text = print_rule_tables(&source.bytes, &source.names, &about);
+    match text.map_err(|explained| source.refused(&explained))? {
+        Some(text) => destination::text(arguments, &text),
+        None => Err(kinds::refusal(source, Kind::Rule)),
     }
 }
 
