@@ -129,14 +129,15 @@ impl Question<'_> {
 
     /// The first writing with the values of a mark of the grade, if all that is said of it is so.
     fn accepted(&self, found: &[Writing], grade: u8) -> Result<Option<Accepted>, Explained> {
-        let marked = found.iter().filter(|own| {
-            let (s, e) = own.pair;
-            self.parts.grade(s, e) == grade
+        let marks = self.parts.marks.iter().filter(|mark| mark.grade == grade);
+        let written = marks.filter_map(|mark| {
+            let own = found.iter().find(|own| own.pair == (mark.s, mark.e));
+            own.map(|own| (*mark, *own))
         });
-        let Some(Writing { pair, start, cycle }) = marked.min_by_key(|own| own.start).copied()
-        else {
+        let Some((mark, own)) = written.min_by_key(|(_, own)| own.start) else {
             return Ok(None);
         };
+        let Writing { start, cycle, .. } = own;
         let writing = Lasso {
             u: segment(self.lasso, 0, start),
             v: segment(self.lasso, start, cycle),
@@ -144,10 +145,8 @@ impl Question<'_> {
         // Endless words with these periods that are equal for so long are equal.
         let long = start.max(self.lasso.u.len()) + cycle + self.lasso.v.len();
         let same = (0..long).all(|place| letter(self.lasso, place) == letter(&writing, place));
-        let (s, e) = pair;
-        let mark = Mark { s, e, grade };
         let values = (self.value(&writing.u)?, self.value(&writing.v)?);
-        let mut holds = same && values == (Some(s), Some(e));
+        let mut holds = same && values == (Some(mark.s), Some(mark.e));
         holds &= self.grade_by(vec![mark])? == grade;
         if writing.u.len() <= WORD && writing.v.len() <= WORD {
             let other = Question {
@@ -172,5 +171,54 @@ impl Question<'_> {
         let linked = all.filter(|(s, e)| self.parts.linked(*s, *e));
         let others = linked.filter(|pair| !pairs.contains(pair)).map(of_pair);
         Ok(self.grade_by(others.collect())? == 0)
+    }
+}
+
+#[cfg(test)]
+mod tests {
+    use super::{writings, Lasso, Question, Rule};
+
+    /// What is not so is not confirmed: a cut at another place, a pair too many, a pair too few.
+    #[test]
+    fn wrong_findings_are_not_confirmed() {
+        // Sums modulo 2: letter 0 stands for 1, and (0, 0) has grade 3.
+        let rule = [2, 0, 1, 1, 0, 2, 1, 0, 1, 0, 0, 0, 3];
+        let parts = Rule::take_apart(&rule).expect("a rule");
+        let question = |lasso| Question {
+            rule: &rule,
+            parts: &parts,
+            lasso,
+        };
+        let alternating = Lasso {
+            u: vec![0],
+            v: vec![1, 0],
+        };
+        let found = writings(&parts, &alternating).expect("letters of the rule");
+        let asked = question(&alternating);
+        assert!(asked.accepted(&found, 3).expect("a rule").is_some());
+        for (start, cycle) in [(1, 0), (0, 1), (1, 1), (2, 1)] {
+            let mut wrong = found.clone();
+            for own in &mut wrong {
+                own.start += start;
+                own.cycle += cycle;
+            }
+            let accepted = asked.accepted(&wrong, 3).expect("a rule");
+            assert_eq!(accepted, None, "{start} {cycle}");
+        }
+        let quiet = Lasso {
+            u: vec![0],
+            v: vec![1],
+        };
+        for (lasso, pairs, right) in [
+            (&alternating, vec![(0, 0), (1, 0)], true),
+            (&alternating, vec![(0, 0)], false),
+            (&alternating, vec![], false),
+            (&quiet, vec![(1, 0)], true),
+            (&quiet, vec![(0, 0), (1, 0)], false),
+            (&quiet, vec![(0, 0)], false),
+        ] {
+            let all = question(lasso).are_all(&pairs).expect("a rule");
+            assert_eq!(all, right, "{lasso:?} {pairs:?}");
+        }
     }
 }

@@ -86,11 +86,12 @@ fn followed(rule: &Scrap, lines: &str) -> String {
     kept
 }
 
-/// Events, marks, verdicts, and now and then a letter that the rule does not have.
-fn random_lines(random: &mut Random, letters: usize, count: usize) -> String {
+/// Events, marks from a line on, verdicts, and now and then a letter that the rule does not have.
+fn random_lines(random: &mut Random, letters: usize, count: usize, unmarked: usize) -> String {
     let mut lines = String::new();
-    for _ in 0..count {
+    for number in 0..count {
         match random.below(10) {
+            0 if number < unmarked => lines.push_str("verdict\n"),
             0 => lines.push_str("mark\n"),
             1..=3 => lines.push_str("verdict\n"),
             4 if random.once_in(20) => lines.push_str(&format!("{letters}\n")),
@@ -106,18 +107,23 @@ fn beside_follow(random: &mut Random, bytes: &[u8], count: usize, grades: &mut [
     let tables = run_with(&["convert", "--to", "c", file.name()], b"");
     let program = compiled(tables.printed(0));
     let letters = duknavet::files::Rule::take_apart(bytes).expect("a rule");
-    let lines = random_lines(random, letters.images.len(), count);
-    let (own, expected) = (answers(&program, &lines), followed(&file, &lines));
-    assert_eq!(expected.lines().count(), count);
-    for (at, (own, expected)) in own.lines().zip(expected.lines()).enumerate() {
-        assert_eq!(own, expected, "line {at} of {bytes:?}");
-        if let Some(grade) = own.strip_prefix("grade ") {
-            grades[grade.parse::<usize>().expect("a grade")] += 1;
+    let letters = letters.images.len();
+    // Verdicts with nothing before come only in front of the first mark, so that there are short runs too.
+    let runs = [(count, 0)].into_iter().chain([(12, 9); 20]);
+    for (round, (count, unmarked)) in runs.enumerate() {
+        let lines = random_lines(random, letters, count, unmarked);
+        let (own, expected) = (answers(&program, &lines), followed(&file, &lines));
+        assert_eq!(expected.lines().count(), count);
+        for (at, (own, expected)) in own.lines().zip(expected.lines()).enumerate() {
+            assert_eq!(own, expected, "line {at} of {bytes:?}");
+            if let Some(grade) = own.strip_prefix("grade ") {
+                grades[grade.parse::<usize>().expect("a grade")] += 1;
+            }
         }
-    }
-    assert_eq!(own.len(), expected.len());
-    for some in ["refused\n", "before none since ", "since none\n"] {
-        assert!(own.contains(some), "{some}");
+        assert_eq!(own.len(), expected.len());
+        for some in ["refused\n", "before none since ", "since none\n"] {
+            assert!(round > 0 || own.contains(some), "{some}");
+        }
     }
 }
 
