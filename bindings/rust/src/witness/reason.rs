@@ -196,7 +196,7 @@ mod tests {
         let found = writings(&parts, &alternating).expect("letters of the rule");
         let asked = question(&alternating);
         assert!(asked.accepted(&found, 3).expect("a rule").is_some());
-        for (start, cycle) in [(1, 0), (0, 1), (1, 1), (2, 1)] {
+        for (start, cycle) in [(2, 0), (0, 1), (1, 1), (2, 1)] {
             let mut wrong = found.clone();
             for own in &mut wrong {
                 own.start += start;
