@@ -1,4 +1,4 @@
-//! Automata of other tools: the Hanoi format (HOA) both ways, Spin's never claims in. And strong rules as C tables, out.
+//! Automata of other tools: the Hanoi format (HOA) both ways, Spin's never claims in, and of rules out. And strong rules as C tables, out.
 //!
 //! Their letters are valuations of at most four propositions. The letter of a valuation is the sum of 2^i over the propositions i
 //! that hold, in the order in which the file declares them, or for a never claim first names them: letter 0 has none, letter 1 the
@@ -7,6 +7,7 @@
 //! No bytes of a file that passes the checks begin as these texts do, whatever stands before: of such a file only the low
 //! byte of a count of marks or transitions is above 64, and `HO` and `ne` are two such bytes.
 
+mod claim;
 mod condition;
 mod graph;
 mod hoa;
@@ -18,6 +19,7 @@ mod reserved;
 mod scanner;
 mod tables;
 
+pub use claim::print_rule_never;
 pub use graph::too_many_left;
 pub use print::{print_hoa, print_rule_hoa};
 pub use tables::print_rule_tables;

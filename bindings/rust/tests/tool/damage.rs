@@ -41,7 +41,7 @@ fn every_subcommand_survives() {
     ];
     let rule = Scrap::holding(W);
     let map = Scrap::holding(&[0, 1]);
-    let calls: [&[&str]; 35] = [
+    let calls: [&[&str]; 36] = [
         &["check", "-"],
         &["check", "--as", "automaton", "-"],
         &["summary", "-"],
@@ -73,6 +73,7 @@ fn every_subcommand_survives() {
         &["convert", "-", "--as", "marks"],
         &["convert", "-", "--to", "hoa"],
         &["convert", "-", "--to", "c"],
+        &["convert", "-", "--to", "never"],
         &["show", "-"],
         &["picture", "-"],
         &["page", "-"],

@@ -35,6 +35,7 @@ mod program;
 mod refusals;
 mod rounds;
 mod rule_automata;
+mod rule_claims;
 mod samples;
 mod states;
 mod stations;
