@@ -1,4 +1,4 @@
-//! Automata of other tools: the Hanoi format (HOA) both ways, Spin's never claims in, and of rules out. And strong rules as C tables, out.
+//! Automata of other tools: the Hanoi format (HOA) both ways, Spin's never claims in, and of rules out. And rules out only: their automata as DOT, strong ones as C tables.
 //!
 //! Their letters are valuations of at most four propositions. The letter of a valuation is the sum of 2^i over the propositions i
 //! that hold, in the order in which the file declares them, or for a never claim first names them: letter 0 has none, letter 1 the
@@ -9,6 +9,7 @@
 
 mod claim;
 mod condition;
+mod dot;
 mod graph;
 mod hoa;
 mod hoa_body;
@@ -20,6 +21,7 @@ mod scanner;
 mod tables;
 
 pub use claim::print_rule_never;
+pub use dot::print_rule_dot;
 pub use graph::too_many_left;
 pub use print::{print_hoa, print_rule_hoa};
 pub use tables::print_rule_tables;

@@ -41,7 +41,7 @@ fn every_subcommand_survives() {
     ];
     let rule = Scrap::holding(W);
     let map = Scrap::holding(&[0, 1]);
-    let calls: [&[&str]; 36] = [
+    let calls: [&[&str]; 37] = [
         &["check", "-"],
         &["check", "--as", "automaton", "-"],
         &["summary", "-"],
@@ -74,6 +74,7 @@ fn every_subcommand_survives() {
         &["convert", "-", "--to", "hoa"],
         &["convert", "-", "--to", "c"],
         &["convert", "-", "--to", "never"],
+        &["convert", "-", "--to", "dot", "--least", "2"],
         &["show", "-"],
         &["picture", "-"],
         &["page", "-"],

@@ -36,6 +36,7 @@ mod refusals;
 mod rounds;
 mod rule_automata;
 mod rule_claims;
+mod rule_graphs;
 mod samples;
 mod states;
 mod stations;

@@ -194,6 +194,6 @@ fn refused() {
     asked(&[], Z).said(2, weak);
     asked(&[], NOT_ASSOCIATIVE).said(2, "refusal 5");
     asked(&["--as", "automaton"], AUTOMATON).said(3, "only rules have C tables");
-    asked(&["--least", "2"], W).said(3, "`--least` is for a rule with `--to hoa` or `--to never`");
+    asked(&["--least", "2"], W).said(3, "`--least` is for a rule with `--to hoa`");
     asked(&[], b"v: 0\n").said(3, "a lasso is a text only");
 }

@@ -9,7 +9,9 @@ use crate::formulated;
 use crate::input::{self, Given, Source};
 use crate::kinds::{self, AS};
 use crate::station::Fingerprint;
-use duknavet::exchange::{print_hoa, print_rule_hoa, print_rule_never, print_rule_tables};
+use duknavet::exchange::{
+    print_hoa, print_rule_dot, print_rule_hoa, print_rule_never, print_rule_tables,
+};
 use duknavet::files::Automaton;
 use duknavet::text::{print_lasso, Kind, Names};
 use duknavet::RuleAutomaton;
@@ -19,13 +21,13 @@ pub const COMMAND: Command = Command {
     arguments: "FILE",
     least: 1,
     most: 1,
-    purpose: "write a file in another form: bytes, text, the Hanoi format for an automaton or a rule, a never claim or C tables for a rule",
+    purpose: "write a file in another form: bytes, text, the Hanoi format for an automaton or a rule, a never claim, DOT or C tables for a rule",
     options: &[
         AS,
         Choice {
             name: "to",
             value: Some("FORM"),
-            meaning: "bytes, text, hoa, never or c; else text for bytes and bytes for a text",
+            meaning: "bytes, text, hoa, never, dot or c; else text for bytes and bytes for a text",
         },
         LEAST,
     ],
@@ -36,16 +38,16 @@ a text can be mended by hand. Names of letters, propositions and a description s
 the Hanoi format names and propositions do. Letter i of an automaton in the Hanoi format, or of a never \
 claim, is the valuation whose bit j is proposition j. A rule in that format is its own automaton, as \
 states lists it, for the lassos of the least grade or more; a never claim is the same automaton, of a rule that names \
-propositions. A strong rule as C is three tables, step, product and \
+propositions, and DOT is its graph. A strong rule as C is three tables, step, product and \
 grade, with a monitor's few functions, which a program includes; its values are those that follow answers, \
 with NONE for none.",
     run,
 };
 
-const LEAST_FOR: &str = "`--least` is for a rule with `--to hoa` or `--to never`";
+const LEAST_FOR: &str = "`--least` is for a rule with `--to hoa`, `--to never` or `--to dot`";
 
 fn run(arguments: &Arguments) -> Result<Answer, Failure> {
-    let to = arguments.one_of("to", &["bytes", "text", "hoa", "never", "c"])?;
+    let to = arguments.one_of("to", &["bytes", "text", "hoa", "never", "dot", "c"])?;
     let least = least(arguments)?;
     let given = input::given(arguments.plain(0))?;
     match &given {
@@ -68,7 +70,7 @@ fn run(arguments: &Arguments) -> Result<Answer, Failure> {
         true => "bytes",
         false => "text",
     });
-    if arguments.has("least") && !matches!((to, kind), ("hoa" | "never", Kind::Rule)) {
+    if arguments.has("least") && !matches!((to, kind), ("hoa" | "never" | "dot", Kind::Rule)) {
         return Err(arguments.usage(LEAST_FOR));
     }
     match (to, kind) {
@@ -82,6 +84,13 @@ fn run(arguments: &Arguments) -> Result<Answer, Failure> {
             Some(automaton) => destination::text(arguments, &print_hoa(&automaton, &source.names)),
             None => Err(kinds::refusal(&source, kind)),
         },
+        ("dot", Kind::Rule) => {
+            let automaton = RuleAutomaton::reached(&source.bytes, least);
+            let automaton = automaton.map_err(|explained| source.refused(&explained))?;
+            destination::text(arguments, &print_rule_dot(&automaton, &source.names))
+        }
+        ("dot", _) => Err(arguments
+            .usage("only a rule's own automaton is written as DOT; picture --to dot draws others")),
         ("never", Kind::Rule) => {
             let automaton = RuleAutomaton::reached(&source.bytes, least);
             let automaton = automaton.map_err(|explained| source.refused(&explained))?;
