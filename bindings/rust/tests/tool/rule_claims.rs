@@ -118,7 +118,7 @@ fn found_by_spin(directory: &Path, model: &str) -> bool {
     };
     ended(inside("spin").args(["-a", "model.pml"]));
     ended(inside("cc").args(["-w", "-O0", "-DNOREDUCE", "-o", "pan", "pan.c"]));
-    let output = ended(&mut inside("./pan").arg("-a"));
+    let output = ended(inside("./pan").arg("-a"));
     let text = String::from_utf8_lossy(&output.stdout).into_owned();
     match (text.contains("errors: 0"), text.contains("errors: 1")) {
         (true, false) => false,
