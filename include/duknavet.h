@@ -86,7 +86,8 @@ extern "C" {
  * values, 11 for u, then v, or for a verdict, 10 in u, then v, or for an event, 12. For an automaton: 13, 1 to 4, 8, 14. For
  * keep and return: 13, the rule's, 15, 16, 3 for the values of the monitor and of every kept name. For reduce_rounds: 13, the
  * rule's, 20, 12. For state_kind: 13, the rule's, 3 for the least grade, 17. For successors: 13, the rule's, 17, 10. For advance_event,
- * advance_mark and advance_stay: 13, the rule's, 3, 12, 10; for advance_word: 13, the rule's, 3, 12, 11, 10. For first_letter: 13, 2, 3, 10;
+ * advance_mark and advance_stay: 13, the rule's, 3, 12, 10; for advance_word: 13, the rule's, 3, 12, 11, 10. For feed: 13, the rule's, 3, 11, 10. For
+ * formula_rule, whose places are bytes of the formula: as it says there. For first_letter: 13, 2, 3, 10;
  * for constant: 13, 2, 3. For next: 13, the rule's, 12, 23. For until: 13, the first file's, the second's, 18, 12 for the first, for the
  * second, 19, 23. */
 enum duknavet_refusal {
@@ -99,8 +100,8 @@ enum duknavet_refusal {
     DUKNAVET_UNREACHABLE = 6,          /* an element is no word's value: the least */
     DUKNAVET_NOT_LINKED = 7,           /* a marked pair is not linked: its first byte */
     DUKNAVET_DUPLICATE = 8,            /* a pair or transition stands twice: the first byte of the later */
-    DUKNAVET_UNKNOWN_LETTER = 10,      /* a word or event has a letter of k or more: its position; 0 for an event; of a set: the letter */
-    DUKNAVET_WORD_LENGTH = 11,         /* u, v or a word of events is too long, v is empty, or a verdict lacks since: 0 */
+    DUKNAVET_UNKNOWN_LETTER = 10,      /* a word or event has a letter of k or more: its position; 0 for an event; of a set: the letter; of a formula: the set's first byte */
+    DUKNAVET_WORD_LENGTH = 11,         /* u, v, a word of events or a formula is too long, v is empty, or a verdict lacks since: 0 */
     DUKNAVET_NOT_STRONG = 12,          /* the rule is not strong: 0 */
     DUKNAVET_BUFFER_TOO_SHORT = 13,    /* a lent buffer is too short: 0 */
     DUKNAVET_TOO_MANY_MATRICES = 14,   /* an automaton has more than 64 matrices: 0 */
@@ -108,11 +109,11 @@ enum duknavet_refusal {
     DUKNAVET_NAME_NEVER_KEPT = 16,     /* a return goes to a name that was never kept: 0 */
     DUKNAVET_NO_SUCH_STATE = 17,       /* s is neither an element nor 64, or e no idempotent element: 0 */
     DUKNAVET_LETTERS_DIFFER = 18,      /* two rules to be made one have different numbers of letters: 0 */
-    DUKNAVET_TOO_MANY_PAIRS = 19,      /* two rules to be made one have more than 64 pairs of values: 0 */
+    DUKNAVET_TOO_MANY_PAIRS = 19,      /* two rules to be made one have more than 64 pairs of values: 0; of a formula: the operation's byte */
     DUKNAVET_LIMIT_OUT_OF_RANGE = 20,  /* a limit of rounds is above 64: 0 */
     DUKNAVET_NAME_NOT_FREE = 21,       /* a rule would enter under a name above 7 or taken: 0 */
     DUKNAVET_NAME_NOT_PRESENT = 22,    /* no rule is present under the name that would leave: 0 */
-    DUKNAVET_TOO_MANY_CLASSES = 23,    /* the rule of next or until would have more than 64 elements: 0 */
+    DUKNAVET_TOO_MANY_CLASSES = 23,    /* the rule of next or until would have more than 64 elements: 0; of a formula: the operation's byte */
     DUKNAVET_UNBALANCED_FORMULA = 24   /* a formula in postfix form does not leave one rule: the byte of the operation, or the formula's length */
 };
 
