@@ -1,4 +1,4 @@
-//! Links the archive that `rt staticlib exports` writes.
+//! Links the archive that `bindings/archive` writes.
 
 use std::env;
 use std::path::PathBuf;
@@ -16,7 +16,7 @@ fn main() {
     println!("cargo:rerun-if-changed={}", archive.display());
     if !archive.is_file() {
         eprintln!("duknavet: there is no archive at {}", archive.display());
-        eprintln!("duknavet: run `rt staticlib exports` at the root of the repository, or name the archive's directory in DUKNAVET_ARCHIVE_DIR");
+        eprintln!("duknavet: run `bindings/archive` at the root of the repository, or name the archive's directory in DUKNAVET_ARCHIVE_DIR");
         std::process::exit(1);
     }
     // A relative directory is meant from where cargo runs this script, the package's root.

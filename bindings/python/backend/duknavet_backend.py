@@ -1,4 +1,4 @@
-"""Makes a wheel of the package with the shared object in it, from the archive that `rt staticlib exports` wrote. It needs cc and nothing else.
+"""Makes a wheel of the package with the shared object in it, from the archive that `bindings/archive` wrote. It needs cc and nothing else.
 
 The archive is the one that DUKNAVET_ARCHIVE names, else target/staticlib/libexports.a of the repository."""
 
@@ -29,7 +29,7 @@ def _shared_object(folder):
     default = os.path.join(HERE, "..", "..", "target", "staticlib", "libexports.a")
     archive = os.environ.get("DUKNAVET_ARCHIVE", default)
     if not os.path.isfile(archive):
-        raise SystemExit(f"duknavet: there is no archive at {archive}: run `rt staticlib exports`")
+        raise SystemExit(f"duknavet: there is no archive at {archive}: run `bindings/archive`")
     made = os.path.join(folder, "libduknavet.so")
     subprocess.run([os.path.join(HERE, "build"), archive, made], check=True)
     with open(made, "rb") as file:

@@ -1,4 +1,6 @@
 // A monitor moved by a step, or by a word of events, and graded at once (document 02, Job 14). Of a rule that stands nothing is left to check but the letters.
+#![tactic(auto)]
+
 ghost use Rattle.std.specs.Prelude.{◌≤◌, length};
 ghost use Rattle.theory.specs.Rules.{Lawful};
 ghost use Rattle.formats.proofs.Tables.{Table};

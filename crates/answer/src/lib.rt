@@ -1,9 +1,11 @@
 // Why a call refuses. A call's answer is an enum of its own, whose refused case holds one of these with the input that it
 // lies in and its place there; its number in the table of documents 01 and 02, which goes on from 23, is `number`.
+#![tactic(auto)]
+
 ghost use Rattle.std.specs.Prelude.{◌≡◌};
 ghost use Rattle.answer.specs.Refusals.{number_of};
 
-#[derive(Drop)]
+#[derive(Clone, Copy)]
 pub enum Refusal {
     // Document 01: cut short. The bytes end inside a count or a section.
     Truncated,

@@ -1,5 +1,7 @@
 // The automaton file: the checks 13, 1 to 4 and 8 of document 01, in its order. The bytes are read where they are lent; an automaton
 // that passes leaves its transitions in scratch, a byte for each triple of a state, a letter and a state.
+#![tactic(auto)]
+
 ghost use Rattle.std.specs.Prelude.{◌≡◌, ◌<◌};
 ghost use Rattle.rule_marks.specs.Faults.{FaultAnswer};
 ghost use Rattle.formats.specs.AutomatonFile.{transitions_of};

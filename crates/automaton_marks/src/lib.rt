@@ -1,6 +1,8 @@
 // The marks of the pairs of an automaton's matrices, as document 01 has them: a linked pair (R, E) for which some initial p and some
 // q have entry (p, q) of R not 0 and entry (q, q) of E equal to 2, with the grade 3. They are laid out behind the table, as
 // automaton_table/specs/Laying says.
+#![tactic(auto)]
+
 ghost use Rattle.std.specs.Prelude.{◌≡◌, ◌+◌, ◌*◌, ◌≤◌, ◌<◌, length};
 ghost use Rattle.buchi.proofs.MatrixTests.{returns_at, returns_from, recurs_test};
 ghost use Rattle.automaton_matrices.specs.Bytes.{initial_at};

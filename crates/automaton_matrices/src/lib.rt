@@ -1,5 +1,7 @@
 // The matrices of an automaton's words: the matrix of a letter, how a matrix stands in lent bytes, and whether the one that stands
 // there is the same.
+#![tactic(auto)]
+
 ghost use Rattle.std.specs.Prelude.{◌≡◌, ◌+◌, ◌≤◌, ◌<◌, length};
 ghost use Rattle.buchi.proofs.MatrixTests.{same_test};
 ghost use Rattle.automaton_products.specs.Arrays.{entry_in, RowOf};

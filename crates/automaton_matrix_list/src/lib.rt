@@ -4,6 +4,8 @@
 //
 // The bytes of the transitions stand in scratch up to byte 576. The list begins at byte 8192 and takes 64 bytes a matrix, so that
 // 64 matrices end at byte 12288. What is recorded stands behind it, as automaton_matrix_search has it, and ends before byte 16384.
+#![tactic(auto)]
+
 ghost use Rattle.std.specs.Prelude.{◌+◌, ◌≤◌, ◌<◌};
 ghost use Rattle.automaton_matrix_search.specs.Lists.{ListNeeds, MatricesAnswer};
 ghost use Rattle.automaton_matrix_search.specs.Steps.{Followed, LetterList, ProductsAdded, ListClosed};

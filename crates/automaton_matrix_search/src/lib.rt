@@ -3,6 +3,8 @@
 // The list begins at byte 8192 of scratch and takes 64 bytes a matrix. A search goes by entries: entry 0 is the empty word, entry
 // i + 1 is matrix i. From byte 12288 on stands the number of the matrix that each letter leads to from each entry, 16 bytes an entry;
 // from byte 14336 on the entry from which each matrix was found, and from byte 15360 on the letter by which.
+#![tactic(auto)]
+
 ghost use Rattle.std.specs.Prelude.{◌≡◌, ◌≤◌, ◌<◌};
 ghost use Rattle.buchi.proofs.MatrixLists.{number_of};
 ghost use Rattle.automaton_products.specs.Arrays.{entry_in, MatrixShape};

@@ -1,5 +1,7 @@
 // The product of two matrices of six rows of six entries, by value: an entry is the greatest of those of all pairs (p, r) and (r, q)
 // with neither 0.
+#![tactic(auto)]
+
 ghost use Rattle.std.specs.Prelude.{◌≡◌, max, ◌≤◌};
 ghost use Rattle.buchi.specs.Matrices.{entries_through};
 ghost use Rattle.automaton_products.specs.Arrays.{row_product, MatrixShape, RowOf, IsProduct};

@@ -1,5 +1,7 @@
 // The product of two matrices, ready for two states: a matrix has a number below 81, and a table of 81 by 81 bytes that is lent has the
 // number of each product. Where the table is empty, and for other numbers of states, the product is computed.
+#![tactic(auto)]
+
 ghost use Rattle.std.specs.Prelude.{◌≡◌, ◌≤◌};
 ghost use Rattle.automaton_products.specs.Arrays.{entry_in, MatrixShape, IsProduct};
 ghost use Rattle.automaton_ready_products.specs.Ready.{matrix_number, NumberedAs, ReadyTable, LentTable};

@@ -1,5 +1,7 @@
 // The products of all matrices over two states, a constant: by rows of 81, the number of the product of the matrices with the numbers a
 // and b at a * 81 + b. It is built anew wherever it is named, so that one function names it and lends it once a call.
+#![tactic(auto)]
+
 ghost use Rattle.automaton_translation.specs.Promise.{ReadHere, MadePromise};
 
 use automaton_translation::make_rule_by;

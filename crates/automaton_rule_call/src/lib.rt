@@ -1,4 +1,6 @@
 // The call for the rule of an automaton: the file is checked, then its rule made, by the table of products where there are two states.
+#![tactic(auto)]
+
 ghost use Rattle.automaton_translation.specs.Promise.{ReadHere, MadePromise};
 ghost use Rattle.promises.specs.Automaton.{RulePromise};
 

@@ -1,4 +1,6 @@
 // The sections of an automaton file, one after the other: each hands the rest of the file on as a part that begins in its middle.
+#![tactic(auto)]
+
 ghost use Rattle.std.specs.Prelude.{◌+◌, ◌<◌, ◌^◌, length};
 ghost use Rattle.sections.specs.Answers.{SectionAnswer};
 ghost use Rattle.formats.specs.AutomatonFile.{states_section, automaton_letters_section, transitions_section};
@@ -38,7 +40,7 @@ pub fn transitions_section(rest: &[u8], at: usize, m: usize, k: usize) -> Counte
 }
 
 // The counts of an automaton file.
-#[derive(Drop)]
+#[derive(Clone, Copy)]
 pub struct Counts {
     pub states: usize,
     pub letters: usize,

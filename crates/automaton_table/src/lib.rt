@@ -3,6 +3,8 @@
 // No matrix is multiplied. A matrix that a letter makes of an entry p is found along that step: x · (p · g) is (x · p) · g. From byte
 // 14336 on stands the entry from which each matrix was found, from byte 15360 on the letter by which, and from byte 12288 on where each
 // letter leads from each entry, as automaton_matrix_search recorded them.
+#![tactic(auto)]
+
 ghost use Rattle.std.specs.Prelude.{ℕ, ◌+◌, ◌*◌, ◌<◌, List};
 ghost use Rattle.automaton_table.specs.Laying.{StepNeeds, StepList, RowLaid, TableNumber, ProductNumber};
 ghost use Rattle.scratch.specs.Map.{laid_products_base};

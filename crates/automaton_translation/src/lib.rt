@@ -4,6 +4,8 @@
 // Scratch holds the bytes of the transitions up to byte 576, the matrices from byte 8192 on, and from byte 12288 on what is recorded
 // while they are found, first of all the element of each letter. Behind them the rule is laid out: from byte 16384 on the products, by
 // rows as the file has them, and from byte 24576 on the marks, a byte for each pair (s, e) at s * 64 + e.
+#![tactic(auto)]
+
 ghost use Rattle.automaton_ready_products.specs.Ready.{ReadyTable, LentTable};
 ghost use Rattle.automaton_table.specs.Laying.{StepList, MarkNeeds, RuleLaid};
 ghost use Rattle.automaton_translation.specs.Promise.{ReadHere, MadePromise};

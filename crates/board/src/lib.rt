@@ -1,6 +1,8 @@
 // The harbour board: up to eight strong rules that enter and leave while events go on, each with its monitor, and the lowest grade that their
 // monitors stand for. It stands above the library and sees only its public calls. The board goes in and comes back by value; the files are
 // lent, that of name i from byte 16,404·i on. Every call goes over all names once, with one library call for each that is present.
+#![tactic(auto)]
+
 ghost use Rattle.std.specs.Prelude.{◌≡◌, ◌≤◌, length};
 ghost use Rattle.board_promises.specs.Boards.{files_size};
 ghost use Rattle.board_promises.specs.Promises.{EnterPromise, LeavePromise, BoardEventPromise, BoardMarkPromise};

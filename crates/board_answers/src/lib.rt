@@ -1,5 +1,7 @@
 // A pass of the harbour board over its names, by value: what the library's answers make of it, and what comes of it in the end. It stands above
 // the library and sees only its public calls and the board's promises.
+#![tactic(auto)]
+
 ghost use Rattle.std.specs.Prelude.{◌≡◌, ◌<◌};
 ghost use Rattle.board_promises.specs.Boards.{board_names_count, with_lowest, with_left};
 ghost use Rattle.board_answers.specs.Answers.{RefusesAnswer, Lesser, LowestWith, with_refusal, RefusalTold, Told, EntryTold, PassAnswer, StepAnswer};

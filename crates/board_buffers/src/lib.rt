@@ -1,5 +1,7 @@
 // The buffers that are lent to the harbour board: whether they are long enough, zeros in scratch, and a file copied to its name's place. It stands
 // above the library and sees only its public calls and the board's promises.
+#![tactic(auto)]
+
 ghost use Rattle.std.specs.Prelude.{◌≡◌, ◌+◌, ◌*◌, ◌≤◌, length, replicate};
 ghost use Rattle.std.proofs.Math.Seq.{paste};
 ghost use Rattle.formats.specs.RuleChecks.{rule_size};

@@ -1,5 +1,7 @@
 // A pass of the harbour board over its names: one library call for each that is present. It stands above the library and sees only its public
 // calls and the board's promises.
+#![tactic(auto)]
+
 ghost use Rattle.std.specs.Prelude.{◌≡◌, ◌+◌, ◌≤◌, ◌<◌, length};
 ghost use Rattle.board_promises.specs.Boards.{board_names_count, files_size, file_at};
 ghost use Rattle.board_pass.specs.Passes.{Cleared, PassAt};

@@ -1,11 +1,13 @@
 // The harbour board, and what its calls answer; the promises are in specs/.
+#![tactic(auto)]
+
 use answer::Refusal;
 
 // The bytes that the files stand in, as specs/Boards has them.
 pub const FILES_SIZE: usize = 131232;
 
 // Who is present, the two values of each one's monitor, and the lowest grade among those whose since is not none, or 4.
-#[derive(Drop)]
+#[derive(Clone, Copy)]
 pub struct Board {
     pub present: [bool; 8],
     pub before: [usize; 8],
@@ -13,7 +15,7 @@ pub struct Board {
     pub lowest: usize,
 }
 
-#[derive(Drop)]
+#[derive(Clone, Copy)]
 pub enum Notice {
     Done,
     Refused {

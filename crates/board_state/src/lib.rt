@@ -1,4 +1,6 @@
 // A board in lent bytes, for callers that cannot hold the struct: read from them, and written back. The bytes are those of specs/State.
+#![tactic(auto)]
+
 ghost use Rattle.std.specs.Prelude.{◌≡◌, ◌≤◌, length};
 ghost use Rattle.board_state.specs.State.{state_size, board_of, flag_byte, state_with, state_after};
 

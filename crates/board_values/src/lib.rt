@@ -1,5 +1,7 @@
 // Boards by value: an empty one, who is present, the monitor of a name, and a board that a rule has entered. It stands above the library and
 // sees only its public calls and the board's promises.
+#![tactic(auto)]
+
 ghost use Rattle.std.specs.Prelude.{◌≡◌, ◌<◌};
 ghost use Rattle.board_promises.specs.Boards.{board_names_count, empty_board, monitor_at, with_lowest, with_entered};
 ghost use Rattle.board_values.specs.Presence.{PresentAnswer, FreeAnswer};

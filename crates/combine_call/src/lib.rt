@@ -1,6 +1,8 @@
 // Two strong rules over the same letters made one: the rule whose elements are the pairs of values that non-empty words reach, numbered in
 // the order of their first words, every linked pair marked with the grade combined from those of its halves. All stands in one lent slice,
 // as pair_table/specs/Layout says.
+#![tactic(auto)]
+
 ghost use Rattle.promises.specs.Combine.{CombinePromise};
 
 use answer::Refusal;

@@ -1,5 +1,7 @@
 // Two strong rules over the same letters made one: the rule of the pairs of values that non-empty words reach, written from the closures of
 // their marks, or too many pairs. All stands in one lent slice, as pair_table/specs/Layout says.
+#![tactic(auto)]
+
 ghost use Rattle.combine_pairs.specs.Steps.{StrongReady, PairsPromise};
 
 use answer::Refusal;

@@ -1,5 +1,7 @@
 // Two checked rules: letter counts compared and both strengths decided, then what combine_pairs makes of two strong rules. All stands in one
 // lent slice.
+#![tactic(auto)]
+
 ghost use Rattle.combine_pairs.specs.Steps.{PairsPromise};
 ghost use Rattle.combine_strengths.specs.Steps.{BothReady};
 

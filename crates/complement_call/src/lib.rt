@@ -1,5 +1,7 @@
 // The complement of a strong rule: same elements and numbering; each linked pair is marked with 3 less its grade in the closure of the
 // rule's marks.
+#![tactic(auto)]
+
 ghost use Rattle.formats.proofs.Tables.{Table};
 ghost use Rattle.formats.specs.Table.{morphism_at};
 ghost use Rattle.formats.specs.Front.{AtFront};

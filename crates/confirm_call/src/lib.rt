@@ -1,6 +1,8 @@
 // Whether a rule was reduced right elsewhere (document 02, Job 13): a rule, a reduced rule and a byte for each element of the first that names
 // where it went. Nothing is believed of them: both files are checked, both strengths decided, and every sentence of the definition is tested
 // on the bytes, as confirm_reduction does. All stands in one lent slice.
+#![tactic(auto)]
+
 ghost use Rattle.promises.specs.Confirm.{ConfirmPromise};
 
 use confirm_strengths::confirm_checked;

@@ -1,5 +1,7 @@
 // Whether each pair of values has the same outcome in one rule and, where a map takes it, in another. All stands in one lent slice, as
 // specs/Grades says.
+#![tactic(auto)]
+
 ghost use Rattle.std.specs.Prelude.{◌<◌};
 ghost use Rattle.finite.specs.Tells.{Tells};
 ghost use Rattle.formats.specs.Table.{morphism_at};

@@ -1,5 +1,7 @@
 // Whether the bytes of a map, one for each element of a table, take the elements onto those of another table and carry products and letters
 // over.
+#![tactic(auto)]
+
 ghost use Rattle.std.specs.Prelude.{◌≡◌, ◌<◌, length, get_or};
 ghost use Rattle.finite.specs.Tells.{Tells};
 ghost use Rattle.theory.specs.Maps.{MapsOnto};

@@ -1,6 +1,8 @@
 // Whether the bytes of a map reduce the first of two strong rules to the second: every sentence of the definition is tested on the bytes. All
 // stands in one lent slice: the closure of the first rule's marks from 61440 on, that of the second's from 4096 on, and the rounds of the
 // second's reduction as reduce_first_round/specs/Map says.
+#![tactic(auto)]
+
 ghost use Rattle.std.specs.Prelude.{◌≤◌, length};
 ghost use Rattle.finite.specs.Tells.{Tells};
 ghost use Rattle.formats.specs.RuleChecks.{scratch_size};

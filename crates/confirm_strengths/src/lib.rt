@@ -1,4 +1,6 @@
 // Two checked rules and a map: both strengths decided, then what confirm_reduction judges of two strong rules. All stands in one lent slice.
+#![tactic(auto)]
+
 ghost use Rattle.confirm_strengths.specs.Steps.{FilesReady, CheckedPromise};
 
 use answer::Refusal;

@@ -1,5 +1,7 @@
 // The monitor (document 01: follower) of a station: it keeps the value of the letters before the last mark and of those since.
 // It holds two values and no count, so its state has the same few forms after years. Every call checks the whole rule.
+#![tactic(auto)]
+
 ghost use Rattle.promises.specs.Moves.{EventPromise, MarkPromise};
 
 use answer::Refusal;

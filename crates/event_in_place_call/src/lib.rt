@@ -1,4 +1,6 @@
 // An event on a monitor that is lent: the new since is stored in it.
+#![tactic(auto)]
+
 ghost use Rattle.std.specs.Prelude.{◌≡◌};
 ghost use Rattle.event_in_place_call.specs.InPlace.{since_of, told_of};
 ghost use Rattle.promises.specs.InPlace.{EventInPlace};

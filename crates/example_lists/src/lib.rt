@@ -2,6 +2,8 @@
 //
 // A list has words with a space between them: a byte, as 64; a byte that is repeated, as 16*0; or the table or the marks of a rule of
 // 64 elements, by its name: `sums`, `unions`, `words`, `marks`.
+#![tactic(auto)]
+
 ghost use Rattle.std.specs.Prelude.{◌≡◌, ◌≤◌, ◌/◌, ◌%◌, max, length};
 ghost use Rattle.io.specs.Counts.{IsPrefixLen};
 ghost use Rattle.example_parts.specs.Parts.{part_of};

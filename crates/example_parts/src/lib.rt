@@ -1,6 +1,8 @@
 // The parts of a text, and what they say by a number or a letter: what the test programs read their examples by.
 //
 // A line of examples has parts with `:` between them: a label, a command, and lists of numbers. A line with no `:` is a comment.
+#![tactic(auto)]
+
 ghost use Rattle.std.specs.Prelude.{◌≡◌, ◌+◌, ◌≤◌, length, get_or, take, drop};
 ghost use Rattle.example_parts.specs.Parts.{up_to, part_of, NextPart};
 ghost use Rattle.example_parts.specs.Digits.{decimal_of, number_in_part, command_of, DigitAdded};

@@ -1,4 +1,6 @@
 // What C and Rust are told of a rule's lassos and marks: each call's answer, packed into one number.
+#![tactic(auto)]
+
 ghost use Rattle.std.specs.Prelude.{◌≡◌};
 ghost use Rattle.promises.specs.Classes.{ListPromise};
 ghost use Rattle.promises.specs.Complement.{ComplementPromise};

@@ -1,4 +1,6 @@
 // What C and Rust are told of rules that are made, reduced and taken apart: each call's answer, packed into one number.
+#![tactic(auto)]
+
 ghost use Rattle.promises.specs.Automaton.{RulePromise};
 ghost use Rattle.promises.specs.Combine.{CombinePromise};
 ghost use Rattle.promises.specs.Confirm.{ConfirmPromise};

@@ -1,4 +1,6 @@
 // What C and Rust are told of monitors: each call's answer, packed into one number.
+#![tactic(auto)]
+
 ghost use Rattle.std.specs.Prelude.{◌≡◌};
 ghost use Rattle.promises.specs.Advance.{AdvancePromise, AdvanceWordPromise};
 ghost use Rattle.promises.specs.Feed.{FeedPromise};

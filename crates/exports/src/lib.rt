@@ -1,6 +1,8 @@
 // The library's calls for C and Rust: one function a call, slices as pointer and length, and one number back, packed as
 // packing/specs/Packing says. A caller in another language owes what Rust's references owe: each pointer is good for its length, and a
 // buffer that is written overlaps no other.
+#![tactic(auto)]
+
 ghost use Rattle.std.specs.Prelude.{◌≡◌};
 ghost use Rattle.promises.specs.Advance.{AdvancePromise, AdvanceWordPromise};
 ghost use Rattle.promises.specs.Automaton.{RulePromise};
@@ -450,9 +452,9 @@ pub extern "C" fn duknavet_board_enter(
         return pack_refusal(Refusal::BufferTooShort, 1, 0);
     }
     let answer = board::enter(read_board(state), name, file, files, scratch);
-    write_posted(answer, state);
     let board = answer.board;
     let notice = answer.notice;
+    write_posted(answer, state);
     pack_notice(board, notice)
 }
 
@@ -470,9 +472,9 @@ pub extern "C" fn duknavet_board_leave(
         return pack_refusal(Refusal::BufferTooShort, 1, 0);
     }
     let answer = board::leave(read_board(state), name, files, scratch);
-    write_posted(answer, state);
     let board = answer.board;
     let notice = answer.notice;
+    write_posted(answer, state);
     pack_notice(board, notice)
 }
 
@@ -490,9 +492,9 @@ pub extern "C" fn duknavet_board_event(
         return pack_refusal(Refusal::BufferTooShort, 1, 0);
     }
     let answer = board::event(read_board(state), letter, files, scratch);
-    write_posted(answer, state);
     let board = answer.board;
     let notice = answer.notice;
+    write_posted(answer, state);
     pack_notice(board, notice)
 }
 
@@ -505,8 +507,8 @@ pub extern "C" fn duknavet_board_mark(state: &mut [u8], files: &[u8], scratch: &
         return pack_refusal(Refusal::BufferTooShort, 1, 0);
     }
     let answer = board::mark(read_board(state), files, scratch);
-    write_posted(answer, state);
     let board = answer.board;
     let notice = answer.notice;
+    write_posted(answer, state);
     pack_notice(board, notice)
 }

@@ -1,4 +1,6 @@
 // A monitor fed with a whole word of events: the rule is checked once, and then each letter costs one product.
+#![tactic(auto)]
+
 ghost use Rattle.promises.specs.Feed.{FeedPromise};
 
 use monitor_state::{Ready, prepare};

@@ -1,4 +1,6 @@
 // The file at the front of some bytes (document 02, Job 14): up to the end that its own counts give, whatever stands behind.
+#![tactic(auto)]
+
 ghost use Rattle.std.specs.Prelude.{◌≡◌, ◌<◌, get_or};
 ghost use Rattle.formats.specs.RuleFile.{rule_end};
 ghost use Rattle.promises.specs.FilePart.{file_part};

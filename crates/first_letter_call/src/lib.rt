@@ -1,5 +1,7 @@
 // The rules that all formulas begin with: `first_letter`, whose grade goes by the first letter, and `constant`. A word's value is the element of its first
 // letter, so each product is its left factor; element 0 is that of letter 0.
+#![tactic(auto)]
+
 ghost use Rattle.std.specs.Prelude.{◌≡◌, ◌≤◌, ◌<◌, length};
 ghost use Rattle.formats.specs.RuleChecks.{rule_size};
 ghost use Rattle.promises.specs.declared.Written.TheVariants.{Refused};

@@ -19,6 +19,7 @@ before_first : (w : List ℕ) → Before w (0 ∷ []) → w ≡ []
 before_first [] b = refl
 before_first (a ∷ w) (shorter h) = absurd (omega arith)
 before_first (a ∷ w) (smaller (here l e)) = absurd (omega arith)
+before_first (a ∷ w) (smaller (Rattle.finite.specs.Shortlex.there _ x)) = elim x [ ]
 
 pub turned_excluded : ByFirstWords turned → ⊥
 unfolding turned value join

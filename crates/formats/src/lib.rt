@@ -1,4 +1,6 @@
 // The sizes of lent buffers, as specs/RuleChecks has them.
+#![tactic(auto)]
+
 pub const SCRATCH_SIZE: usize = 65536;
 
 pub const RULE_SIZE: usize = 16404;

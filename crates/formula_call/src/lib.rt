@@ -1,5 +1,7 @@
 // The smallest rule of a whole formula in one call. It stands above the library, as the board does, and sees only its public calls and the formula's
 // promises.
+#![tactic(auto)]
+
 ghost use Rattle.std.specs.Prelude.{◌≤◌, length};
 ghost use Rattle.formats.specs.RuleChecks.{rule_size};
 ghost use Rattle.formats.specs.Front.{AtFront};

@@ -41,6 +41,7 @@ module _ (letters at : ℕ) where
   told_later : (xs ys : List Making) (answer : Written) → IsWritten answer → FirstFailure (making_checks letters at xs) (told_at at answer) → {v : Verdict}
       → FirstFailure (making_checks letters at ys) v → FirstFailure (making_checks letters at (xs ++ ys)) v
   told_later xs ys (Is-rule end) is f g = in_row xs ys (passed_before (making_checks letters at xs) (making_checks letters at ys) f g)
+  told_later xs ys (Refused _ _ _) is f {v = v} g = elim is [ ]
 
 -- an answer that is no refusal was written
 not_refused : (answer : Written) {r : Bool} → r ≡ is_refusal answer → r ≡ false → IsWritten answer

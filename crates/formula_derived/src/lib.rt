@@ -1,5 +1,7 @@
 // The derived operations of a formula, made of the others: eventually f = 3 until f; always f = not (3 until not f); f release g = not (not f until not g);
 // f weak until g = (f until g) or always f. Each inner result is reduced. It stands above the library and sees only its public calls.
+#![tactic(auto)]
+
 ghost use Rattle.std.specs.Prelude.{ℕ, ◌≤◌, ◌<◌, length};
 ghost use Rattle.formats.specs.RuleChecks.{rule_size, scratch_size};
 ghost use Rattle.temporal_promises.specs.Until.{until_classes_size};

@@ -50,6 +50,7 @@ module _ {at : ℕ} where
       (subst (λ r. FirstFailure (c' ∷ checks') (numbered (number_of r) c'.input at)) (sym s.same_refusal) (first_fails c' (s.fails_there place f)))
   stands_decided (and_stands s all) (later p d) =
       first_passes (record { nowhere = λ place a. (let b = s.fails_too place a in p.nowhere b.0 b.1) }) (stands_decided all d)
+  stands_decided {number = number} {input = input} {place = place} none_stand x4 = elim x4 [ ]
 
   pub stands_told : {checks checks' : List Check} → AllStandFor at checks checks' → (answer : Written) → FirstFailure checks (written_verdict answer) → FirstFailure checks' (told_at at answer)
   stands_told all (Is-rule end) f = stands_passed all f

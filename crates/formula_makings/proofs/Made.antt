@@ -69,6 +69,7 @@ module _ {before after entry exit : List ℕ} (long : rule_size ≤ length befor
       go letters f r (Is-rule end) w is =
           let n = w.makes.grades in
           written_formula w.rule (n.same_letters ∙ (file_reduction r).same_letters) w.makes.strong (next_means r n) w.written
+      go letters f r (Refused _ _ _) w is = elim is [ ]
 
   combine_made : (first second : List ℕ) (operation : Operation) (answer : Written) → CombinePromise first second operation before after entry exit answer
       → TwoMade (two_of operation) first second (file_at after 0) answer
@@ -84,6 +85,7 @@ module _ {before after entry exit : List ℕ} (long : rule_size ≤ length befor
           → WrittenAnswer (CombinedTo first second operation before after) before after answer → IsWritten answer → FormulaFile letters (made_of_two (two_of operation) f g) (file_at after 0)
       go letters f g r s (Is-rule end) k is =
           written_formula k.rule (k.pairs.first_letters ∙ (file_reduction r).same_letters) k.strong (combined_means r s operation k) k.written
+      go letters f g r s (Refused _ _ _) k is = elim is [ ]
 
   until_made : (first second : List ℕ) {classes classes_exit : List ℕ} → until_classes_size ≤ length classes → (answer : Written)
       → UntilPromise first second before after classes classes_exit entry exit answer → TwoMade op_until first second (file_at after 0) answer
@@ -100,6 +102,7 @@ module _ {before after entry exit : List ℕ} (long : rule_size ≤ length befor
       go letters f g r s (Is-rule end) w is =
           let n = w.makes.grades in
           written_formula w.rule (n.first_letters ∙ (file_reduction r).same_letters) w.makes.strong (until_means r s n) w.written
+      go letters f g r s (Refused _ _ _) w is = elim is [ ]
 
   -- of the files that were read from slots
   module _ {file bytes : List ℕ} (e : bytes ≡ file) (answer : Written) where

@@ -1,5 +1,7 @@
 // What is made of the rules on a formula's stack, each by one library call, and is not yet reduced. It stands above the library and sees only its
 // public calls.
+#![tactic(auto)]
+
 ghost use Rattle.std.specs.Prelude.{◌+◌, ◌*◌, ◌≤◌, length};
 ghost use Rattle.formats.specs.RuleChecks.{rule_size, scratch_size};
 ghost use Rattle.temporal_promises.specs.Until.{until_classes_size};

@@ -1,4 +1,6 @@
 // The operations of a formula, one after the other on its stack of rules. It stands above the library and sees only its public calls.
+#![tactic(auto)]
+
 ghost use Rattle.std.specs.Prelude.{◌≡◌, ℕ, ◌+◌, ◌≤◌, ◌<◌, length};
 ghost use Rattle.formats.specs.RuleChecks.{rule_size, scratch_size};
 ghost use Rattle.temporal_promises.specs.Until.{until_classes_size};

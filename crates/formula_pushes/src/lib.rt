@@ -1,5 +1,7 @@
 // What is put on a formula's stack: the rule of a set of first letters, of a constant, and a copy. It stands above the library and sees only its public
 // calls.
+#![tactic(auto)]
+
 ghost use Rattle.std.specs.Prelude.{◌+◌, ◌*◌, ◌≤◌, length};
 ghost use Rattle.formats.specs.RuleChecks.{rule_size};
 ghost use Rattle.board_promises.specs.Boards.{file_at};

@@ -1,5 +1,7 @@
 // The operation at a byte of a formula: its code and its operands, and what they say of it. It stands above the library and sees only the formula's
 // promises.
+#![tactic(auto)]
+
 ghost use Rattle.std.specs.Prelude.{◌≡◌, ◌-◌, ◌≤◌, ◌<◌, get_or};
 ghost use Rattle.formula_promises.specs.Operations.{operation_of, set_at};
 ghost use Rattle.formula_reading.specs.Readings.{OnOneAnswer, FactsOf, ReadingAt};

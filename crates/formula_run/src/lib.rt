@@ -1,5 +1,7 @@
 // The operations of a formula carried out one after the other, on its stack of rules. It stands above the library and sees only its public calls and the
 // formula's promises.
+#![tactic(auto)]
+
 ghost use Rattle.answer.specs.Checks.{passed, FirstFailure};
 ghost use Rattle.formula_promises.specs.Checks.{scan_checks};
 ghost use Rattle.formula_slots.specs.Slots.{LentRoom, LentLengths};

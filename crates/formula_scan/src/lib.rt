@@ -1,4 +1,6 @@
 // The pass over the bytes of a formula, operation by operation, before any rule is made. It stands above the library and sees only the formula's promises.
+#![tactic(auto)]
+
 ghost use Rattle.std.specs.Prelude.{suc, ◌≤◌, ◌<◌, length};
 ghost use Rattle.answer.specs.Checks.{FirstFailure};
 ghost use Rattle.formula_promises.specs.Checks.{longest_formula, program_checks, scan_checks};

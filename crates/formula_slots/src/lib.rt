@@ -1,4 +1,6 @@
 // The slots of a formula's stack, each with room for a rule file. It stands above the library and sees only its public calls.
+#![tactic(auto)]
+
 ghost use Rattle.std.specs.Prelude.{◌≡◌, ◌+◌, ◌*◌, ◌≤◌, length};
 ghost use Rattle.formats.specs.RuleChecks.{rule_size};
 ghost use Rattle.board_promises.specs.Boards.{file_at};

@@ -1,4 +1,6 @@
 // The steps on a formula's stack: what is made of the rules in slots is reduced into a slot. It stands above the library and sees only its public calls.
+#![tactic(auto)]
+
 ghost use Rattle.std.specs.Prelude.{◌≡◌, ℕ, ◌≤◌, length};
 ghost use Rattle.formats.specs.RuleChecks.{rule_size, scratch_size};
 ghost use Rattle.temporal_promises.specs.Until.{until_classes_size};

@@ -1,4 +1,6 @@
 // The monitor that a station begins with.
+#![tactic(auto)]
+
 ghost use Rattle.std.specs.Prelude.{◌≡◌};
 ghost use Rattle.promises.specs.Monitor.{fresh_monitor};
 

@@ -1,5 +1,7 @@
 // Whether no lasso is graded higher by a rule than by a second marking of its table; if one is, such a lasso is written. Weak markings are
 // compared like others.
+#![tactic(auto)]
+
 ghost use Rattle.std.specs.Prelude.{◌≡◌, ◌≤◌, length};
 ghost use Rattle.formats.proofs.Tables.{Table};
 ghost use Rattle.formats.specs.RuleFile.{elements_of, letters_of};

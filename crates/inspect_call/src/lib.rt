@@ -1,4 +1,6 @@
 // The check of a rule with nothing after it: the counts of a rule that passes, or the refusal.
+#![tactic(auto)]
+
 ghost use Rattle.promises.specs.Inspect.{InspectPromise};
 
 use promises::Inspected;

@@ -1,5 +1,7 @@
 // Named points of a monitor (document 02, Job 1): a keep stores the monitor's two values under a name from 0 to 7, a return reads them
 // back. The points are lent as 24 bytes, three for each name: whether it was kept, before, since. No other call is handed them.
+#![tactic(auto)]
+
 ghost use Rattle.promises.specs.Points.{KeepPromise, ReturnPromise};
 ghost use Rattle.keep_and_return_call.specs.Begun.{BegunPromise};
 

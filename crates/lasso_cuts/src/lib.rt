@@ -1,6 +1,8 @@
 // The grade of a lasso: the value of each beginning and each end of the cycle in one pass each, and then, for each place of one
 // turn, the powers of the turn's value. The marks stand in the first 4,096 bytes of scratch, a byte for each pair; the values go
 // behind them.
+#![tactic(auto)]
+
 ghost use Rattle.std.specs.Prelude.{◌≡◌, ◌+◌, ◌≤◌, length};
 ghost use Rattle.theory.specs.Rules.{Lawful, level, element, value};
 ghost use Rattle.theory.proofs.Membership.{accepts_test};

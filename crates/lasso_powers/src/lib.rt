@@ -1,4 +1,6 @@
 // The marks of the pairs (p·e·r^j, e) that the powers of a turn's value r give, e its idempotent power: the highest, and whether there is any.
+#![tactic(auto)]
+
 ghost use Rattle.std.specs.Prelude.{◌≡◌, false, ◌≤◌, ◌<◌, leb, length};
 ghost use Rattle.theory.specs.Rules.{Lawful, level};
 ghost use Rattle.theory.specs.Pairs.{LeastPower};

@@ -1,4 +1,6 @@
 // The cuts of one turn of a lasso's cycle: the highest mark of the pairs that, at some cut, a power of the turn's value gives.
+#![tactic(auto)]
+
 ghost use Rattle.std.specs.Prelude.{◌<◌};
 ghost use Rattle.theory.specs.Rules.{Lawful, level};
 ghost use Rattle.formats.proofs.Tables.{Table};

@@ -1,4 +1,6 @@
 // The words of a call: their lengths, then their letters.
+#![tactic(auto)]
+
 ghost use Rattle.lasso_words.specs.Answers.{LassoAnswer};
 
 use answer::Refusal;

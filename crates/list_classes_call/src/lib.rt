@@ -1,6 +1,8 @@
 // The classes of conjugate pairs of a rule: for each pair of elements the number of the least pair conjugate to it, and how
 // many linked pairs, classes and joins there are. One pass over the factors x, y finds every conjugate: x·y = e and y·x = f
 // make (s, e) conjugate to (s·x, f) for each s with s·e = s.
+#![tactic(auto)]
+
 ghost use Rattle.std.specs.Prelude.{◌*◌, ◌≤◌, length};
 ghost use Rattle.theory.specs.Rules.{Lawful};
 ghost use Rattle.formats.proofs.Tables.{Table};

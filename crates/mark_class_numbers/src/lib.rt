@@ -1,5 +1,7 @@
 // The numbers of the classes while they are worked out, two bytes for each pair in the lent result: they begin with the pairs' own
 // numbers and are lowered by each pair of factors x, y.
+#![tactic(auto)]
+
 ghost use Rattle.std.specs.Prelude.{◌+◌, ◌*◌, ◌≤◌, ◌<◌, length};
 ghost use Rattle.theory.specs.Rules.{Lawful};
 ghost use Rattle.formats.proofs.Tables.{Table};

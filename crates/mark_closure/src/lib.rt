@@ -1,5 +1,7 @@
 // The closure of a rule's marks under conjugacy, laid out in scratch as a second table of marks behind the first: the highest mark of each
 // pair's conjugates. One pass over the factors x, y finds it: x·y = e and y·x = f make (s, e) conjugate to (s·x, f) for each s with s·e = s.
+#![tactic(auto)]
+
 ghost use Rattle.std.specs.Prelude.{◌+◌, ◌*◌, ◌≤◌, ◌<◌, length, get_or};
 ghost use Rattle.theory.specs.Rules.{Lawful};
 ghost use Rattle.formats.proofs.Tables.{Table};

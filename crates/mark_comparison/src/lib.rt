@@ -1,5 +1,7 @@
 // Two markings of a table that stand in scratch compared: whether no lasso is graded higher by the first than by the second, and if one
 // is, such a lasso.
+#![tactic(auto)]
+
 ghost use Rattle.std.specs.Prelude.{◌≤◌, length};
 ghost use Rattle.formats.proofs.Tables.{Table};
 ghost use Rattle.formats.specs.Table.{morphism_at};

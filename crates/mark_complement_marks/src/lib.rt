@@ -1,4 +1,6 @@
 // The marks of a complement, as a second table of marks: every linked pair has 3 less its grade in the closure of the rule's marks.
+#![tactic(auto)]
+
 ghost use Rattle.std.specs.Prelude.{◌≤◌, ◌<◌, length};
 ghost use Rattle.formats.proofs.Tables.{Table};
 ghost use Rattle.formats.specs.Table.{morphism_at};

@@ -1,5 +1,7 @@
 // Writing the cycle that the search found: the letters of the entry that ended it and of the entries that it was found from, one
 // after the other.
+#![tactic(auto)]
+
 ghost use Rattle.std.specs.Prelude.{◌≡◌, ◌≤◌, ◌<◌, length};
 ghost use Rattle.mark_search_list.specs.Queue.{parent_at};
 ghost use Rattle.mark_cycles.specs.Cycles.{CycleNeeds, CycleWritten};

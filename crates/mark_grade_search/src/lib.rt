@@ -1,5 +1,7 @@
 // The search that compares two markings, at every grade: from the highest grade of the first marking down. A grade that no pair of the
 // first marking has is not searched, for a cycle that escapes there escapes at the next higher one.
+#![tactic(auto)]
+
 ghost use Rattle.std.specs.Prelude.{◌≡◌, ◌+◌, ◌<◌, ◌≤◌, length};
 ghost use Rattle.formats.proofs.Tables.{Table};
 ghost use Rattle.formats.specs.Table.{morphism_at};

@@ -2,6 +2,8 @@
 // its own, the empty word's by the size of the table. The list of a letter and an element goes from the last value back to the
 // first: byte 57344 + (a * 65 + x) has the last value, and byte 59392 + (a * 65 + c) the value before c. A byte is one more
 // than the number, or 0 where the list ends.
+#![tactic(auto)]
+
 ghost use Rattle.std.specs.Prelude.{◌≡◌, ◌+◌, ◌<◌};
 ghost use Rattle.formats.proofs.Tables.{Table};
 ghost use Rattle.formats.specs.Table.{morphism_at};

@@ -5,6 +5,8 @@
 //
 // The worklist stands in scratch, as scratch/specs/Map says: fronts from 8192, backs from 16384, letters from 24576, parents
 // from 32768 (low byte) and 40960 (high byte), and from 49152 a byte for each state.
+#![tactic(auto)]
+
 ghost use Rattle.formats.proofs.Tables.{Table};
 ghost use Rattle.formats.specs.Table.{morphism_at};
 ghost use Rattle.mark_search.specs.Search.{AllNeeds, EscapeNeeds, Escaped};

@@ -1,5 +1,7 @@
 // What the search that compares two markings begins with: each cycle value that the first marking pairs with the start value, added to
 // the worklist.
+#![tactic(auto)]
+
 ghost use Rattle.std.specs.Prelude.{◌<◌};
 ghost use Rattle.theory.specs.Rules.{level};
 ghost use Rattle.scratch.specs.Map.{marks_from};

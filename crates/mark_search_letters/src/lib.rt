@@ -1,5 +1,7 @@
 // The letters of an entry of the worklist handed over from the front to the back: a state is added for each value that a letter takes to the
 // front.
+#![tactic(auto)]
+
 ghost use Rattle.std.specs.Prelude.{◌≡◌, ◌≤◌, ◌<◌};
 ghost use Rattle.formats.proofs.Tables.{Table};
 ghost use Rattle.formats.specs.Table.{morphism_at};

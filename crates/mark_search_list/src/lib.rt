@@ -1,5 +1,7 @@
 // The worklist of the search that compares two markings: states are added with the entry and the letter that they were found by,
 // each once at a start value. Where all of it stands in scratch is said in scratch/specs/Map.
+#![tactic(auto)]
+
 ghost use Rattle.mark_search_list.specs.Steps.{StoreNeeds, Stored, AddNeeds, Added};
 
 use scratch::{

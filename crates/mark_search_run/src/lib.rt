@@ -1,5 +1,7 @@
 // The search at one start value: it begins with each cycle value that the first marking pairs with the start value, and tries one entry of the
 // worklist after the other until one has an empty front.
+#![tactic(auto)]
+
 ghost use Rattle.formats.proofs.Tables.{Table};
 ghost use Rattle.formats.specs.Table.{morphism_at};
 ghost use Rattle.theory.specs.Rules.{level};

@@ -1,5 +1,7 @@
 // An entry of the worklist tried: where the second marking has its split nothing is added, else every letter is handed over from the
 // front to the back.
+#![tactic(auto)]
+
 ghost use Rattle.std.specs.Prelude.{◌≡◌, ◌≤◌, ◌<◌, length};
 ghost use Rattle.formats.proofs.Tables.{Table};
 ghost use Rattle.formats.specs.Table.{morphism_at};

@@ -1,6 +1,8 @@
 // The first word of an element, written out of the worklist that the search of words left (crate rule_reach): entry i + 1 is the
 // entry at byte 64 + i and then the letter at byte 128 + i, so the letters are found from the last to the first. The entries
 // are walked twice, once to count the letters and once to write them.
+#![tactic(auto)]
+
 ghost use Rattle.std.specs.Prelude.{◌≡◌, ◌≤◌, length};
 ghost use Rattle.rule_reach.specs.Reach.{place_at};
 ghost use Rattle.rule_reach.proofs.Words.{word_at};

@@ -1,5 +1,7 @@
 // Whether a rule is strong: the closure of its marks is worked out, and where the marks have all of it they are strong without a
 // search; otherwise they are strong exactly if no lasso of the closure escapes them, at any grade.
+#![tactic(auto)]
+
 ghost use Rattle.formats.proofs.Tables.{Table};
 ghost use Rattle.formats.specs.Table.{morphism_at};
 ghost use Rattle.mark_strong.specs.Deciding.{DecideNeeds, Decided};

@@ -1,5 +1,7 @@
 // The grade of a lasso: u, then v for ever, or v for ever where u is empty; and after how many turns of v its value settles.
 // Any rule that passes its checks is asked, weak ones too.
+#![tactic(auto)]
+
 ghost use Rattle.std.specs.Prelude.{◌≡◌, ◌≤◌, length};
 ghost use Rattle.theory.specs.Rules.{Lawful, level, element, value};
 ghost use Rattle.theory.proofs.Starts.{start_or_turn};

@@ -1,4 +1,6 @@
 // The verdict on two values of a strong rule, below the checks: the grade of the lassos with these values.
+#![tactic(auto)]
+
 ghost use Rattle.std.specs.Prelude.{◌≡◌, ◌≤◌, ◌<◌, length};
 ghost use Rattle.theory.specs.Rules.{Lawful};
 ghost use Rattle.theory.specs.Pairs.{LeastExponent};

@@ -1,5 +1,7 @@
 // The checks of the calls that are handed a monitor's named points (document 02, Job 1): the name, and then the monitor's values with
 // those under every kept name.
+#![tactic(auto)]
+
 ghost use Rattle.std.specs.Prelude.{◌≤◌, ◌<◌, length};
 ghost use Rattle.promises.specs.Points.{names_count, points_size};
 ghost use Rattle.monitor_point_checks.specs.PointChecks.{keep_faults, return_faults, NameAnswer, PointsAnswer, ValuesAnswer, PointFault};

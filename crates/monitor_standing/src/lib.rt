@@ -1,5 +1,7 @@
 // A rule that is strong and a monitor of it, before a call moves the monitor and grades it: one check of the rule and one decision of its strength serve both, where
 // an event and a verdict would take two of each. The closure of the marks stays in scratch, and the grade of a monitor's values is one look there.
+#![tactic(auto)]
+
 ghost use Rattle.std.specs.Prelude.{◌≤◌, length};
 ghost use Rattle.theory.specs.Rules.{Lawful};
 ghost use Rattle.formats.proofs.Tables.{Table};

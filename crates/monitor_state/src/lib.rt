@@ -1,5 +1,7 @@
 // The state of a monitor (document 01: follower): two values, the product of two values, and the check of a rule with a
 // monitor's values before a call moves it.
+#![tactic(auto)]
+
 ghost use Rattle.std.specs.Prelude.{◌≡◌};
 ghost use Rattle.formats.proofs.Tables.{Table};
 ghost use Rattle.monitor_state.specs.Ready.{GoodNumber, join_at, OutOfRangeAnswer, StrayAnswer, ReadyPromise};

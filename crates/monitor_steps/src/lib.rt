@@ -1,4 +1,6 @@
 // What moves a monitor once its rule and its values are checked: an event or a mark, and a word of events with its own checks.
+#![tactic(auto)]
+
 ghost use Rattle.std.specs.Prelude.{◌≡◌, ◌≤◌, ◌<◌, length, drop};
 ghost use Rattle.theory.specs.Words.{Over};
 ghost use Rattle.formats.proofs.Tables.{Table};

@@ -1,5 +1,7 @@
 // `next` of a strong rule: the rule that gives each lasso the grade of its endless word without the first letter. All stands in one lent slice, as
 // next_rule says.
+#![tactic(auto)]
+
 ghost use Rattle.std.specs.Prelude.{◌≡◌};
 ghost use Rattle.next_call.specs.Answers.{formed_of};
 ghost use Rattle.temporal_promises.specs.Next.{NextPromise};

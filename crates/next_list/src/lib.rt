@@ -2,6 +2,8 @@
 // from the letters on, recorded as word_steps has it.
 //
 // Of class j the first value stands at byte 28672 + j, 64 for none, and the second at byte 28736 + j.
+#![tactic(auto)]
+
 ghost use Rattle.std.specs.Prelude.{◌≤◌, ◌<◌, length};
 ghost use Rattle.finite.specs.Tells.{Tells};
 ghost use Rattle.theory.specs.Rules.{Lawful};

@@ -1,5 +1,7 @@
 // The rule of `next` of a strong rule, written: the grades of all pairs of values, the list of the classes of words, the grades of the pairs of classes, and
 // their rule. All stands in one lent slice: the outcomes as reduce_first_round has them, the classes as next_list.
+#![tactic(auto)]
+
 ghost use Rattle.std.specs.Prelude.{◌≡◌, ◌+◌, ◌*◌, ◌<◌};
 ghost use Rattle.formats.proofs.Tables.{Table};
 ghost use Rattle.formats.specs.Table.{morphism_at};

@@ -1,4 +1,6 @@
 // Three fields of a result, or a refusal, packed into one number of 64 bits, as specs/Packing says.
+#![tactic(auto)]
+
 ghost use Rattle.std.specs.Prelude.{◌≡◌};
 ghost use Rattle.answer.specs.Refusals.{number_of};
 ghost use Rattle.packing.specs.Packing.{pack_refusal, pack_fields};

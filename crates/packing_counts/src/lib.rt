@@ -1,4 +1,6 @@
 // Answers that count, packed into one number: what a file has, the bytes of a rule, classes, rounds, successors.
+#![tactic(auto)]
+
 ghost use Rattle.std.specs.Prelude.{◌≡◌};
 ghost use Rattle.packing_counts.specs.Counts.{pack_inspected, pack_listed, pack_written, bit, pack_partition, pack_successors, pack_stretch};
 

@@ -1,4 +1,6 @@
 // Answers that decide, packed into one number: strong or weak, a grade, inclusion, yes or no, the kind of a state.
+#![tactic(auto)]
+
 ghost use Rattle.std.specs.Prelude.{◌≡◌};
 ghost use Rattle.packing_decisions.specs.Decisions.{pack_strength, pack_lasso_verdict, pack_inclusion, pack_confirmation, pack_kind};
 

@@ -1,4 +1,6 @@
 // Answers about monitors and the harbour board, packed into one number.
+#![tactic(auto)]
+
 ghost use Rattle.std.specs.Prelude.{◌≡◌, ◌+◌, ◌*◌, ◌%◌};
 ghost use Rattle.packing_monitors.specs.Monitors.{pack_moved, pack_advanced, pack_notice};
 

@@ -4,6 +4,8 @@
 // The worklist stands in scratch. Entry 0 is the empty word and has no bytes of its own; entry i + 1 is pair i of the list and has its
 // halves at bytes 12288 + i and 12352 + i, the number of the entry before it at 12416 + i, and the letter at 12480 + i. Byte
 // 8192 + (s·64 + t) is the number of the entry of the pair (s, t), or 0 while that is not found.
+#![tactic(auto)]
+
 ghost use Rattle.std.specs.Prelude.{◌≤◌, ◌<◌};
 ghost use Rattle.pair_list.specs.Pairs.{TwoTables, Empty, PairsAnswer};
 ghost use Rattle.pair_list.specs.Steps.{AddNeeds, Added};

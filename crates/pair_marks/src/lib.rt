@@ -1,5 +1,7 @@
 // The rule of the pairs of values of two rules, its marks: every linked pair of places has the grade combined from those of its halves in
 // the closures of both rules. All stands in one lent slice, as pair_table/specs/Layout says.
+#![tactic(auto)]
+
 ghost use Rattle.std.specs.Prelude.{◌≡◌, ◌+◌, ◌*◌, ◌<◌};
 ghost use Rattle.promises.specs.Combine.{combined_grade};
 ghost use Rattle.scratch.specs.Map.{laid_marks_base};

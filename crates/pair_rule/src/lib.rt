@@ -1,4 +1,6 @@
 // The rule of the pairs of values of two rules laid out in scratch and written, as pair_table/specs/Layout says.
+#![tactic(auto)]
+
 ghost use Rattle.pair_list.specs.Pairs.{TwoTables};
 ghost use Rattle.pair_rule.specs.Writing.{PairsLayNeeds, PairsLaid, PairsRuleNeeds, PairsWritten};
 

@@ -1,5 +1,7 @@
 // The rule of the pairs of values of two rules, its table and letters: a product goes half by half, and each pair is known by its place in
 // the list. All stands in one lent slice, as specs/Layout says.
+#![tactic(auto)]
+
 ghost use Rattle.std.specs.Prelude.{◌≡◌, ◌+◌, ◌*◌, ◌<◌};
 ghost use Rattle.pair_list.specs.Pairs.{number_at, TwoTables};
 ghost use Rattle.scratch.specs.Map.{laid_images_base, laid_products_base};

@@ -101,7 +101,8 @@ pub after_word_lem : (bytes : List ℕ) → GoodRule bytes → {f : Monitor} {hi
     → Follows bytes (after_word (morphism_of bytes) f w) (with_word w history)
 unfolding after_word with_word
 after_word_lem bytes good over_nil p = p
-after_word_lem bytes good (over_cons {a} known over) p = after_word_lem bytes good over (after_event_lem bytes good p a known)
+after_word_lem bytes good {f = f} {history = history} (over_cons {a = a} {w = w} known over) p =
+    after_word_lem bytes good {f = after_event (morphism_of bytes) f a} {history = event a ∷ history} {w = w} over (after_event_lem bytes good p a known)
 
 module _ (bytes : List ℕ) where
   -- what a call that moved the monitor knows of the rule

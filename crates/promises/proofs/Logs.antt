@@ -52,7 +52,8 @@ history_step m history Stay e = e
 history_word : (m : Morphism) {f : Monitor} (history : List Action) (w : List ℕ) → f ≡ after_history m history → after_word m f w ≡ after_history m (with_word w history)
 unfolding after_word with_word
 history_word m history [] e = e
-history_word m history (letter ∷ w) e = history_word m (event letter ∷ history) w (history_step m history (Event letter) e)
+history_word m {f = f} history (letter ∷ w) e =
+    history_word m {f = after_step m f (Event letter)} (event letter ∷ history) w (history_step m history (Event letter) e)
 
 -- a monitor that calls have led to is the one after its history
 pub run_monitor : (bytes : List ℕ) {f : Monitor} {history : List Action} → MonitorRun bytes f history → f ≡ after_history (morphism_of bytes) history

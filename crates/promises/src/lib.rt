@@ -1,4 +1,6 @@
 // What the calls answer, and the monitor; the promises are in specs/.
+#![tactic(auto)]
+
 use answer::Refusal;
 
 // A rule file's counts, or its refusal.
@@ -53,7 +55,7 @@ pub enum Strength {
 }
 
 // A rule that a call wrote, by the number of its bytes.
-#[derive(Drop)]
+#[derive(Clone, Copy)]
 pub enum Written {
     Rule(usize),
     Refused {
@@ -88,7 +90,7 @@ pub const BLOCKS_SIZE: usize = 64;
 pub const MOST_ROUNDS: usize = 64;
 
 // What is made of two rules: their grades' lower, their higher, or the lower of the first's and 3 less the second's.
-#[derive(Drop)]
+#[derive(Clone, Copy)]
 pub enum Operation {
     Both,
     Either,
@@ -167,14 +169,14 @@ pub enum LassoVerdict {
 }
 
 // Each an element, or 64 for none.
-#[derive(Drop)]
+#[derive(Clone, Copy)]
 pub struct Monitor {
     pub before: usize,
     pub since: usize,
 }
 
 // What a call makes of a monitor; a refused call hands it back as it was.
-#[derive(Drop)]
+#[derive(Clone, Copy)]
 pub enum Moved {
     To(Monitor),
     Refused {
@@ -186,7 +188,7 @@ pub enum Moved {
 }
 
 // What moves a monitor, or leaves it.
-#[derive(Drop)]
+#[derive(Clone, Copy)]
 pub enum Step {
     Event(u8),
     Mark,

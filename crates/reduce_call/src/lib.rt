@@ -2,6 +2,8 @@
 // order of their first words, and the rule whose elements are the blocks is written, every linked pair marked with the grade of its
 // lassos. The numbers of the elements' blocks are handed out as a map (document 02, Job 13). All stands in one lent slice, as
 // reduce_table/specs/Layout says.
+#![tactic(auto)]
+
 ghost use Rattle.promises.specs.Reduce.{ReducePromise};
 
 use answer::Refusal;

@@ -1,5 +1,7 @@
 // Outcomes and round 0: the outcome of each pair of values, and the blocks of the elements that no outcome tells apart. All stands
 // in one lent slice, as specs/Map says.
+#![tactic(auto)]
+
 ghost use Rattle.std.specs.Prelude.{◌≡◌, ◌+◌, ◌≤◌, ◌<◌, length};
 ghost use Rattle.finite.specs.Tells.{Tells};
 ghost use Rattle.theory.specs.Rules.{Lawful};

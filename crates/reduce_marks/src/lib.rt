@@ -1,5 +1,7 @@
 // The rule of the blocks, its marks: every linked pair of blocks has its leaders' outcome. All stands in one lent slice, as
 // reduce_table/specs/Layout says.
+#![tactic(auto)]
+
 ghost use Rattle.std.specs.Prelude.{◌≡◌, ◌+◌, ◌*◌, ◌<◌};
 ghost use Rattle.reduce_table.specs.Layout.{BlocksNeeds, laid_product, block_outcome, block_mark, Filled, Grid};
 ghost use Rattle.scratch.specs.Map.{laid_marks_base};

@@ -1,4 +1,6 @@
 // A further round on blocks of elements, looked at and taken: whether it would change a block, and its blocks in the place of those before it.
+#![tactic(auto)]
+
 ghost use Rattle.std.specs.Prelude.{◌≤◌, length};
 ghost use Rattle.finite.specs.Tells.{Tells};
 ghost use Rattle.formats.proofs.Tables.{Table};

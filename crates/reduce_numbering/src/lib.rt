@@ -1,5 +1,7 @@
 // Numbers the blocks of a rule's elements in the order of the first words of their elements: the elements are gone through in
 // the order in which the search of words finds them, and a block gets the next number when its first element is met.
+#![tactic(auto)]
+
 ghost use Rattle.std.specs.Prelude.{◌≤◌, ◌<◌, length};
 ghost use Rattle.theory.specs.Rules.{Lawful, AllReached};
 ghost use Rattle.formats.proofs.Tables.{Table};

@@ -1,5 +1,7 @@
 // What is written of a strong rule's reduction: its rounds, the numbers of its blocks and a copy of them as the map, and the rule whose elements
 // are the blocks. All stands in one lent slice, as reduce_table/specs/Layout says.
+#![tactic(auto)]
+
 ghost use Rattle.formats.proofs.Tables.{Table};
 ghost use Rattle.formats.specs.Table.{morphism_at};
 ghost use Rattle.reduce_output.specs.Steps.{ReduceNeeds, ReducedWritten};

@@ -1,5 +1,7 @@
 // The blocks of elements after one round more, worked out beside those before it: the least element that the round keeps together with each. Two
 // elements stay together if they were, and so were their products with each letter.
+#![tactic(auto)]
+
 ghost use Rattle.std.specs.Prelude.{◌≤◌, ◌<◌, length};
 ghost use Rattle.finite.specs.Tells.{Tells};
 ghost use Rattle.formats.proofs.Tables.{Table};

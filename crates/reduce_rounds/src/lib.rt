@@ -1,6 +1,8 @@
 // The first half of the reduction of a rule: the outcomes of all pairs of values, and rounds on blocks of elements until a round
 // would change nothing or a limit is reached (document 02, Job 9). All stands in one lent slice, as reduce_first_round/specs/Map says: the closure of the marks from 4096, the
 // outcomes from 8192, the least element of each element's block from 12288, and from 12352 the same after the round at hand.
+#![tactic(auto)]
+
 ghost use Rattle.std.specs.Prelude.{◌≤◌, length};
 ghost use Rattle.theory.specs.Rules.{Lawful};
 ghost use Rattle.formats.proofs.Tables.{Table};

@@ -1,5 +1,7 @@
 // Reduction by rounds (document 02, Job 9): the blocks of a strong rule's elements after as many rounds as a limit allows, a byte for each
 // element. The rounds are those of `reduce`.
+#![tactic(auto)]
+
 ghost use Rattle.std.specs.Prelude.{◌≤◌, length};
 ghost use Rattle.theory.specs.Rules.{Lawful};
 ghost use Rattle.formats.proofs.Tables.{Table};

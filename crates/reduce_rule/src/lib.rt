@@ -1,4 +1,6 @@
 // The rule of the blocks laid out in scratch and written, as reduce_table/specs/Layout says.
+#![tactic(auto)]
+
 ghost use Rattle.formats.proofs.Tables.{Table};
 ghost use Rattle.formats.specs.Table.{morphism_at};
 ghost use Rattle.reduce_rule.specs.Steps.{QuotientNeeds, QuotientWritten};

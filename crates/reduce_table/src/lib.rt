@@ -1,5 +1,7 @@
 // The rule of the blocks, its table and letters: the product of two blocks is the block of their leaders' product. All stands in
 // one lent slice, as specs/Layout says.
+#![tactic(auto)]
+
 ghost use Rattle.std.specs.Prelude.{◌≡◌, ◌+◌, ◌*◌, ◌≤◌, ◌<◌, length};
 ghost use Rattle.formats.proofs.Tables.{Table};
 ghost use Rattle.reduce_table.specs.Layout.{BlocksNeeds, block_product, block_image, Filled, Grid};

@@ -1,5 +1,7 @@
 // The test of associativity along words: whether a product with an element is one with the element that it was found from and then one
 // with its letter's.
+#![tactic(auto)]
+
 ghost use Rattle.std.specs.Prelude.{◌<◌};
 ghost use Rattle.formats.proofs.Tables.{Table};
 ghost use Rattle.formats.specs.Table.{morphism_at};

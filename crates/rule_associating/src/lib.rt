@@ -1,6 +1,8 @@
 // Whether a table associates, by two tests with letters in place of all triples, from the worklist of all its elements (crate rule_reach).
 // Where both hold every triple associates (theory/proofs/Associating); where one fails nothing is said of the triples. The test along words
 // is that of crate rule_along_words, the test between letters is here.
+#![tactic(auto)]
+
 ghost use Rattle.std.specs.Prelude.{◌<◌};
 ghost use Rattle.formats.proofs.Tables.{Table};
 ghost use Rattle.formats.specs.Table.{morphism_at};

@@ -1,5 +1,7 @@
 // The automaton of a rule (document 02, Job 5), for a rule that was checked: the kind of a state, and the states that a letter leads to.
 // A state is (s, e), s an element or 64 for none and e idempotent. Nothing is stored: both are read from the product table.
+#![tactic(auto)]
+
 ghost use Rattle.std.specs.Prelude.{◌≤◌, ◌≡◌, length};
 ghost use Rattle.buchi.specs.RuleAutomaton.{is_state};
 ghost use Rattle.formats.specs.Front.{AtFront};

@@ -1,5 +1,7 @@
 // Bytes of a rule file put into a lent buffer: a copy, a count with its entries, and one mark with its grade. Each function writes at a
 // place, leaves every other byte as it was, and answers the place after what it wrote.
+#![tactic(auto)]
+
 ghost use Rattle.std.specs.Prelude.{◌∷◌, take};
 ghost use Rattle.rule_bytes.specs.Writing.{Written, CopyNeeds, CountedNeeds, MarkNeeds, table_marks, mark_if_any};
 

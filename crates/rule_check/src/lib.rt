@@ -1,5 +1,7 @@
 // The rule file: every check of document 01, in its order. The bytes are read where they are lent; a checked rule leaves its
 // marks in scratch, a byte for each pair.
+#![tactic(auto)]
+
 ghost use Rattle.std.specs.Prelude.{◌≡◌, ◌≤◌, length, drop};
 ghost use Rattle.formats.specs.Table.{morphism_at};
 ghost use Rattle.formats.proofs.Tables.{AllAssociate, Table};

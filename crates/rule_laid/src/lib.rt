@@ -1,4 +1,6 @@
 // A rule that is laid out in scratch (scratch/specs/Map): which pairs its products link, and the rule written as a file.
+#![tactic(auto)]
+
 ghost use Rattle.std.specs.Prelude.{◌≤◌, ◌<◌, length};
 ghost use Rattle.formats.specs.RuleChecks.{scratch_size};
 ghost use Rattle.rule_marks.specs.Faults.{LinkedAnswer};

@@ -1,4 +1,6 @@
 // The three sections of a rule file in a row: each is read from the rest of the file that the one before leaves.
+#![tactic(auto)]
+
 ghost use Rattle.std.specs.Prelude.{◌+◌, ◌<◌, ◌^◌, length};
 ghost use Rattle.formats.specs.RuleFile.{elements_section, letters_section, marks_section};
 ghost use Rattle.sections.specs.Answers.{SectionAnswer};
@@ -41,7 +43,7 @@ pub fn marks_section(rest: &[u8], at: usize, n: usize) -> Counted
 }
 
 // The counts of a rule file.
-#[derive(Drop)]
+#[derive(Clone, Copy)]
 pub struct Shape {
     pub elements: usize,
     pub letters: usize,

@@ -1,5 +1,7 @@
 // The products with the elements of letters, from the worklist of all elements (crate rule_reach): which of its entries are letters'
 // elements, and a column of products for each.
+#![tactic(auto)]
+
 ghost use Rattle.formats.proofs.Tables.{Table};
 ghost use Rattle.rule_letter_columns.specs.Columns.{AllFound, LetterEntries, LetterColumns};
 

@@ -1,5 +1,7 @@
 // The checks 7 and 8 of a marks section, mark by mark: each is linked and none stands twice. The marks that pass are laid out in a
 // lent table, a byte for each pair: its grade.
+#![tactic(auto)]
+
 ghost use Rattle.std.specs.Prelude.{◌<◌};
 ghost use Rattle.formats.proofs.Tables.{Table};
 ghost use Rattle.formats.specs.Table.{morphism_at};

@@ -37,7 +37,7 @@ module _ {m : Morphism} (law : Lawful m) where
   unfolding after word_step value
   after_value {x} h over_nil = sym (join_none m x)
   after_value {x} h (over_cons {a} {w} l o) =
-      after_value (join_inside law h (inside_element (law.images a l))) o
+      after_value {x = join m x (element (m.image a))} (join_inside law h (inside_element (law.images a l))) o
       ∙ join_assoc law h (inside_element (law.images a l)) (value_inside law o)
 
   -- letter by letter from the empty word: the word's value

@@ -4,6 +4,8 @@
 // The worklist stands in 256 lent bytes. Entry 0 is the empty word and has no bytes of its own; entry i + 1 has its element
 // at byte i, the number of the entry before it at 64 + i, and the letter at 128 + i. Byte 192 + s is the number of the entry
 // of element s, or 0 while s is not found.
+#![tactic(auto)]
+
 ghost use Rattle.std.specs.Prelude.{◌≡◌, ◌≤◌, length};
 ghost use Rattle.formats.proofs.Tables.{Table};
 ghost use Rattle.rule_reach.specs.Reach.{Empty, WordOrder, WithoutAnswer};

@@ -1,5 +1,7 @@
 // A marks section that is an input of its own: a second marking, checked against the table of a rule. It is read by the code
 // that reads the marks of a rule file, with places that count from its own first byte.
+#![tactic(auto)]
+
 ghost use Rattle.std.specs.Prelude.{◌≡◌};
 ghost use Rattle.formats.proofs.Tables.{Table};
 ghost use Rattle.formats.specs.RuleFile.{elements_of, letters_of};

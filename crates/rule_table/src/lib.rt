@@ -1,5 +1,7 @@
 // The product table and the letters' elements, read where they stand in the lent bytes of a rule file: no copy is made.
 // These functions are shared by the calls of the library and ask for bytes whose first two sections were checked.
+#![tactic(auto)]
+
 ghost use Rattle.std.specs.Prelude.{◌≡◌, ◌<◌};
 ghost use Rattle.theory.specs.Rules.{Lawful};
 ghost use Rattle.theory.specs.Pairs.{LeastPower};

@@ -1,6 +1,8 @@
 // Writing a rule file into a lent buffer: the elements and the letters are copied from tables of bytes, and the marks are
 // written pair by pair, each with its grade. Each function writes at a place, leaves every other byte as it was, and answers the place after what it
 // wrote.
+#![tactic(auto)]
+
 ghost use Rattle.std.specs.Prelude.{◌*◌};
 ghost use Rattle.formats.specs.Front.{AtFront};
 ghost use Rattle.rule_bytes.specs.Writing.{Written, table_marks};

@@ -1,6 +1,8 @@
 // The library's public calls, in one place: each is passed on from the crate that has it, with the types of its answers, and the
 // sizes of the buffers that callers lend. No call asks anything of its caller: every input has its answer. A crate that calls these
 // names the crates of the types among its dependencies too, since a type is known there by the crate that declares it.
+#![tactic(auto)]
+
 pub use advance_call::{advance, advance_word};
 pub use answer::{Refusal, number};
 pub use automaton_rule_call::automaton_rule;

@@ -1,18 +1,21 @@
 // Runs `rules::advance` and `rules::advance_word` on one monitor, with the rule as the input of number 5, and writes a line for each.
-use rules::{Advanced, Monitor, SCRATCH_SIZE, Step};
+#![tactic(auto)]
 
-fn advanced_line(line: &[u8], answer: Advanced) -> Monitor {
-    example_text::label(line);
+use rules::{Advanced, Monitor, SCRATCH_SIZE, Step};
+use std::io;
+
+fn advanced_line(rt: &impl Print, line: &[u8], answer: Advanced) -> io::Result<Monitor> {
+    example_text::label(rt, line)?;
     match answer {
         Advanced::To {
             monitor,
             grade,
             turns,
         } => {
-            example_text::two(b"before ", monitor.before, b" since ", monitor.since);
-            example_text::word(b": ");
-            example_text::graded_line(grade, turns);
-            monitor
+            example_text::two(rt, b"before ", monitor.before, b" since ", monitor.since)?;
+            example_text::word(rt, b": ")?;
+            example_text::graded_line(rt, grade, turns)?;
+            Ok(monitor)
         }
         Advanced::Refused {
             monitor,
@@ -20,55 +23,71 @@ fn advanced_line(line: &[u8], answer: Advanced) -> Monitor {
             input,
             place,
         } => {
-            example_text::refused_line(rules::number(refusal), input, place);
-            monitor
+            example_text::refused_line(rt, rules::number(refusal), input, place)?;
+            Ok(monitor)
         }
     }
 }
 
 // A word of events.
-fn advanced_by_word(line: &[u8], rule: &[u8], m: Monitor, scratch: &mut [u8]) -> Monitor {
+fn advanced_by_word(
+    rt: &impl Print,
+    line: &[u8],
+    rule: &[u8],
+    m: Monitor,
+    scratch: &mut [u8],
+) -> io::Result<Monitor> {
     let mut letters = [0u8; 64];
     let count = example_text::numbers(line, 3, &mut letters);
     advanced_line(
+        rt,
         line,
         rules::advance_word(rule, 5, m, &letters[..count], scratch),
     )
 }
 
 // A step.
-fn advanced(line: &[u8], rule: &[u8], m: Monitor, step: Step, scratch: &mut [u8]) -> Monitor {
-    advanced_line(line, rules::advance(rule, 5, m, step, scratch))
+fn advanced(
+    rt: &impl Print,
+    line: &[u8],
+    rule: &[u8],
+    m: Monitor,
+    step: Step,
+    scratch: &mut [u8],
+) -> io::Result<Monitor> {
+    advanced_line(rt, line, rules::advance(rule, 5, m, step, scratch))
 }
 
 // `put` puts another monitor in place.
-fn run(line: &[u8], m: Monitor, scratch: &mut [u8]) -> Monitor {
+fn run(rt: &impl Print, line: &[u8], m: Monitor, scratch: &mut [u8]) -> io::Result<Monitor> {
     let mut rule = [0u8; 64];
     let length = example_text::numbers(line, 2, &mut rule);
     let letter = (example_text::number(line, 3) % 256) as u8;
     match example_text::command(line) {
-        b'p' => Monitor {
+        b'p' => Ok(Monitor {
             before: example_text::number(line, 2),
             since: example_text::number(line, 3),
-        },
-        b'e' => advanced(line, &rule[..length], m, Step::Event(letter), scratch),
-        b'm' => advanced(line, &rule[..length], m, Step::Mark, scratch),
-        b's' => advanced(line, &rule[..length], m, Step::Stay, scratch),
-        b'w' => advanced_by_word(line, &rule[..length], m, scratch),
-        _ => m,
+        }),
+        b'e' => advanced(rt, line, &rule[..length], m, Step::Event(letter), scratch),
+        b'm' => advanced(rt, line, &rule[..length], m, Step::Mark, scratch),
+        b's' => advanced(rt, line, &rule[..length], m, Step::Stay, scratch),
+        b'w' => advanced_by_word(rt, line, &rule[..length], m, scratch),
+        _ => Ok(m),
     }
 }
 
-fn run_all(text: &[u8], scratch: &mut [u8]) {
+fn run_all(rt: &impl Print, text: &[u8], scratch: &mut [u8]) -> io::Result<()> {
     let mut m = rules::fresh();
     for i in 0..text.len() {
-        m = run(example_text::part(text, b'\n', i), m, scratch);
+        m = run(rt, example_text::part(text, b'\n', i), m, scratch)?;
     }
+    Ok(())
 }
 
-fn main() {
+fn main(rt: HostRuntime) -> io::Result<()> {
     let mut scratch = [7u8; SCRATCH_SIZE];
     run_all(
+        &rt,
         b"# A monitor of W: as it is, by a letter, by words, by a mark. Grade 4 and no turns where nothing came since.\n\
         stay: stay: 2 0 0 0 1 2 0 1 1 0 0 0 3\n\
         letter 1: event: 2 0 0 0 1 2 0 1 1 0 0 0 3: 1\n\
@@ -94,5 +113,5 @@ fn main() {
         word 0 0 0: word: 2 0 1 1 0 1 1 0 0: 0 0 0\n\
         letter 0: event: 2 0 1 1 0 1 1 0 0: 0\n",
         &mut scratch,
-    );
+    )
 }

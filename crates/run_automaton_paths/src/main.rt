@@ -4,9 +4,12 @@
 //
 // Word 0 has no letters, and word 16 · w + a + 1 is word w with the letter a after it: those of up to three letters are below 4,369.
 // The entry of word w for the states p and q is at 36 · w + 6 · p + q.
+#![tactic(auto)]
+
 ghost use Rattle.std.specs.Prelude.{◌<◌};
 
 use rules::{RULE_SIZE, SCRATCH_SIZE, Written};
+use std::io;
 
 // The entry of a path that goes on to a state, by the one that it had before.
 fn entry_to(file: &[u8], state: usize, before: u8) -> u8 {
@@ -128,56 +131,62 @@ fn count_alike(known: &[u8], from: usize, to: usize) -> usize {
 }
 
 // An element that some word has is alike itself, so that the first range counts those.
-fn counts_line(entries: &[u8], values: &[u8]) {
+fn counts_line(rt: &impl Print, entries: &[u8], values: &[u8]) -> io::Result<()> {
     let mut known = [0u8; 2304];
     let count = count_differing(entries, values, &mut known);
     example_text::three_line(
+        rt,
         b"entries that differ ",
         count,
         b", elements met ",
         count_alike(&known, 0, 64),
         b", alike ",
         count_alike(&known, 64, 4096),
-    );
+    )
 }
 
-fn compare(file: &[u8], rule: &[u8]) {
+fn compare(rt: &impl Print, file: &[u8], rule: &[u8]) -> io::Result<()> {
     let mut entries = [0u8; 157284];
     let mut values = [0u8; 4369];
     steps(file, &mut entries);
     evaluate(rule, &mut values);
-    counts_line(&entries, &values);
+    counts_line(rt, &entries, &values)
 }
 
-fn rule_line(answer: Written, rule: &[u8]) {
+fn rule_line(rt: &impl Print, answer: Written, rule: &[u8]) -> io::Result<()> {
     match answer {
         Written::Rule(length) => {
-            example_text::word_and(b"bytes ", length);
-            example_text::row(b", elements", rule, 1);
-            example_text::word(b"\n");
+            example_text::word_and(rt, b"bytes ", length)?;
+            example_text::row(rt, b", elements", rule, 1)?;
+            example_text::word(rt, b"\n")
         }
         Written::Refused {
             refusal,
             input,
             place,
-        } => example_text::refused_line(rules::number(refusal), input, place),
+        } => example_text::refused_line(rt, rules::number(refusal), input, place),
     }
 }
 
-fn run(line: &[u8]) {
+fn run(rt: &impl Print, line: &[u8]) -> io::Result<()> {
     let mut file = [0u8; 82];
     let mut rule = [9u8; RULE_SIZE];
     let mut scratch = [7u8; SCRATCH_SIZE];
     example_text::numbers(line, 2, &mut file);
-    example_text::label(line);
-    rule_line(rules::automaton_rule(&file, &mut rule, &mut scratch), &rule);
-    compare(&file, &rule);
+    example_text::label(rt, line)?;
+    rule_line(
+        rt,
+        rules::automaton_rule(&file, &mut rule, &mut scratch),
+        &rule,
+    )?;
+    compare(rt, &file, &rule)
 }
 
 // An automaton with 64 matrices and two final states, where a word can have several paths from p to q. The counts change if an end of
 // a path does not count, or if the first or the last path that is found decides.
-fn main() {
+fn main(rt: HostRuntime) -> io::Result<()> {
     run(
+        &rt,
         b"six states, 16 letters: paths: 6 3 0 0 0 0 2 16 24 0 1 0 0 1 0 2 1 1 2 1 1 5 0 2 4 2 2 4 5 2 4 1 3 0 5 4 4 0 5 4 0 6 2 0 6 4 2 7 1 0 8 2 2 9 0 0 10 0 0 10 1 5 10 2 5 10 3 4 11 4 0 12 1 0 12 3 5 13 0 3 14 1",
-    );
+    )
 }

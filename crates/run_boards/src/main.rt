@@ -1,24 +1,27 @@
 // Runs `board::enter`, `leave`, `event` and `mark` on one board and its files, and writes a line for each: a history of a board, and then for
 // each name the refusals that can be told of it.
+#![tactic(auto)]
+
 use board::{Board, FILES_SIZE, Notice, Posted};
 use rules::{RULE_SIZE, SCRATCH_SIZE};
+use std::io;
 
-fn posted_line(line: &[u8], answer: Posted) -> Board {
-    example_text::label(line);
+fn posted_line(rt: &impl Print, line: &[u8], answer: Posted) -> io::Result<Board> {
+    example_text::label(rt, line)?;
     let board = answer.board;
     let notice = answer.notice;
     match notice {
         Notice::Done => {
-            example_text::word_and(b"lowest ", board.lowest);
-            example_text::word(b"\n");
+            example_text::word_and(rt, b"lowest ", board.lowest)?;
+            example_text::word(rt, b"\n")?;
         }
         Notice::Refused {
             refusal,
             input,
             place,
-        } => example_text::refused_line(rules::number(refusal), input, place),
+        } => example_text::refused_line(rt, rules::number(refusal), input, place)?,
     }
-    board
+    Ok(board)
 }
 
 // A name of the text. Those up to 7 are counted from a first one on, and 0 follows 7.
@@ -30,28 +33,48 @@ fn name(line: &[u8], first: usize) -> usize {
     n
 }
 
-fn enter(line: &[u8], first: usize, board: Board, files: &mut [u8], scratch: &mut [u8]) -> Board {
+fn enter(
+    rt: &impl Print,
+    line: &[u8],
+    first: usize,
+    board: Board,
+    files: &mut [u8],
+    scratch: &mut [u8],
+) -> io::Result<Board> {
     let mut rule = [0u8; RULE_SIZE];
     let length = example_text::numbers(line, 3, &mut rule);
     posted_line(
+        rt,
         line,
         board::enter(board, name(line, first), &rule[..length], files, scratch),
     )
 }
 
 // Calls that write no file. `short` is a mark with so many bytes of the files lent.
-fn moved(line: &[u8], first: usize, board: Board, files: &[u8], scratch: &mut [u8]) -> Board {
+fn moved(
+    rt: &impl Print,
+    line: &[u8],
+    first: usize,
+    board: Board,
+    files: &[u8],
+    scratch: &mut [u8],
+) -> io::Result<Board> {
     let n = example_text::number(line, 2);
     let letter = (n % 256) as u8;
     match example_text::command(line) {
-        b'l' => posted_line(line, board::leave(board, name(line, first), files, scratch)),
-        b'e' => posted_line(line, board::event(board, letter, files, scratch)),
-        b'm' => posted_line(line, board::mark(board, files, scratch)),
+        b'l' => posted_line(
+            rt,
+            line,
+            board::leave(board, name(line, first), files, scratch),
+        ),
+        b'e' => posted_line(rt, line, board::event(board, letter, files, scratch)),
+        b'm' => posted_line(rt, line, board::mark(board, files, scratch)),
         b's' => posted_line(
+            rt,
             line,
             board::mark(board, example_text::front(files, n), scratch),
         ),
-        _ => board,
+        _ => Ok(board),
     }
 }
 
@@ -72,44 +95,66 @@ fn with_monitor(line: &[u8], first: usize, board: Board) -> Board {
 }
 
 // `in` is an entry, `byte` another byte of the files, `put` another monitor.
-fn run(line: &[u8], first: usize, board: Board, files: &mut [u8], scratch: &mut [u8]) -> Board {
+fn run(
+    rt: &impl Print,
+    line: &[u8],
+    first: usize,
+    board: Board,
+    files: &mut [u8],
+    scratch: &mut [u8],
+) -> io::Result<Board> {
     match example_text::command(line) {
-        b'i' => enter(line, first, board, files, scratch),
+        b'i' => enter(rt, line, first, board, files, scratch),
         b'b' => {
             set_byte(line, first, files);
-            board
+            Ok(board)
         }
-        b'p' => with_monitor(line, first, board),
-        _ => moved(line, first, board, files, scratch),
+        b'p' => Ok(with_monitor(line, first, board)),
+        _ => moved(rt, line, first, board, files, scratch),
     }
 }
 
-fn run_all(text: &[u8], first: usize, files: &mut [u8], scratch: &mut [u8]) {
+fn run_all(
+    rt: &impl Print,
+    text: &[u8],
+    first: usize,
+    files: &mut [u8],
+    scratch: &mut [u8],
+) -> io::Result<()> {
     let mut board = board::empty();
     for i in 0..text.len() {
         board = run(
+            rt,
             example_text::part(text, b'\n', i),
             first,
             board,
             files,
             scratch,
-        );
+        )?;
     }
+    Ok(())
 }
 
 // The same text with each name as its first.
-fn run_at_each_name(text: &[u8], files: &mut [u8], scratch: &mut [u8]) {
+fn run_at_each_name(
+    rt: &impl Print,
+    text: &[u8],
+    files: &mut [u8],
+    scratch: &mut [u8],
+) -> io::Result<()> {
     for first in 0..8 {
-        example_text::word_and(b"name ", first);
-        example_text::word(b"\n");
-        run_all(text, first, files, scratch);
+        example_text::word_and(rt, b"name ", first)?;
+        example_text::word(rt, b"\n")?;
+        run_all(rt, text, first, files, scratch)?;
     }
+    Ok(())
 }
 
-fn main() {
+fn main(rt: HostRuntime) -> io::Result<()> {
     let mut files = [5u8; FILES_SIZE];
     let mut scratch = [7u8; SCRATCH_SIZE];
     run_all(
+        &rt,
         b"# Nobody is there, and any event passes.\n\
         letter 200, nobody there: event: 200\n\
         leave 3: leave: 3\n\
@@ -165,8 +210,9 @@ fn main() {
         0,
         &mut files,
         &mut scratch,
-    );
+    )?;
     run_at_each_name(
+        &rt,
         b"# Name 0 of this text is each name in turn, and 1 is the next. Nobody is there.\n\
         leave: leave: 0\n\
         # What enters is refused in its own name, behind a rule that is present.\n\
@@ -236,5 +282,5 @@ fn main() {
         leave: leave: 0\n",
         &mut files,
         &mut scratch,
-    );
+    )
 }

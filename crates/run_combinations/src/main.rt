@@ -1,25 +1,28 @@
 // Runs `rules::combine` over pairs of small rules in all three ways, and writes a line for each.
+#![tactic(auto)]
+
 use rules::{Operation, RULE_SIZE, SCRATCH_SIZE, Written};
+use std::io;
 
 // What was written: its bytes where they are few, and else how many there are and the number of its elements.
-fn written_line(out: &[u8], length: usize) {
-    example_text::word_and(b"bytes ", length);
+fn written_line(rt: &impl Print, out: &[u8], length: usize) -> io::Result<()> {
+    example_text::word_and(rt, b"bytes ", length)?;
     if length < 48 {
-        example_text::row(b":", out, length);
+        example_text::row(rt, b":", out, length)?;
     } else {
-        example_text::row(b", elements", out, 1);
+        example_text::row(rt, b", elements", out, 1)?;
     }
-    example_text::word(b"\n");
+    example_text::word(rt, b"\n")
 }
 
-fn combined_line(answer: Written, out: &[u8]) {
+fn combined_line(rt: &impl Print, answer: Written, out: &[u8]) -> io::Result<()> {
     match answer {
-        Written::Rule(length) => written_line(out, length),
+        Written::Rule(length) => written_line(rt, out, length),
         Written::Refused {
             refusal,
             input,
             place,
-        } => example_text::refused_line(rules::number(refusal), input, place),
+        } => example_text::refused_line(rt, rules::number(refusal), input, place),
     }
 }
 
@@ -31,34 +34,44 @@ fn operation_of(line: &[u8]) -> Operation {
     }
 }
 
-fn answer(line: &[u8], first: &[u8], second: &[u8], scratch: &mut [u8]) {
+fn answer(
+    rt: &impl Print,
+    line: &[u8],
+    first: &[u8],
+    second: &[u8],
+    scratch: &mut [u8],
+) -> io::Result<()> {
     let mut out = [9u8; RULE_SIZE];
-    example_text::label(line);
+    example_text::label(rt, line)?;
     combined_line(
+        rt,
         rules::combine(first, second, operation_of(line), &mut out, scratch),
         &out,
-    );
+    )
 }
 
-fn run(line: &[u8], scratch: &mut [u8]) {
+fn run(rt: &impl Print, line: &[u8], scratch: &mut [u8]) -> io::Result<()> {
     let mut first = [0u8; RULE_SIZE];
     let mut second = [0u8; RULE_SIZE];
     let one = example_text::numbers(line, 2, &mut first);
     let two = example_text::numbers(line, 3, &mut second);
     if example_text::command(line) != 0 {
-        answer(line, &first[..one], &second[..two], scratch);
+        answer(rt, line, &first[..one], &second[..two], scratch)?;
     }
+    Ok(())
 }
 
-fn run_all(text: &[u8], scratch: &mut [u8]) {
+fn run_all(rt: &impl Print, text: &[u8], scratch: &mut [u8]) -> io::Result<()> {
     for i in 0..text.len() {
-        run(example_text::part(text, b'\n', i), scratch);
+        run(rt, example_text::part(text, b'\n', i), scratch)?;
     }
+    Ok(())
 }
 
-fn main() {
+fn main(rt: HostRuntime) -> io::Result<()> {
     let mut scratch = [7u8; SCRATCH_SIZE];
     run_all(
+        &rt,
         b"# W gives 3 where letter 0 comes without end; its complement gives 3 to the other lassos.\n\
         W and its complement: both: 2 0 0 0 1 2 0 1 1 0 0 0 3: 2 0 0 0 1 2 0 1 2 0 0 1 3 1 1 3\n\
         W or its complement: either: 2 0 0 0 1 2 0 1 1 0 0 0 3: 2 0 0 0 1 2 0 1 2 0 0 1 3 1 1 3\n\
@@ -76,5 +89,5 @@ fn main() {
         both weak: either: 2 0 1 1 0 2 1 0 1 0 0 0 3: 2 0 1 1 0 2 1 0 1 0 0 0 3\n\
         a second that is not associative: both: 2 0 1 1 0 2 1 0 1 0 0 0 3: 2 1 0 0 0 1 0 0 0\n",
         &mut scratch,
-    );
+    )
 }

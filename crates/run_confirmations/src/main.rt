@@ -1,15 +1,18 @@
 // Runs `rules::confirm` over rules, reductions and maps, right and wrong ones, and writes a line for each.
-use rules::{Confirmation, MAP_SIZE, RULE_SIZE, SCRATCH_SIZE, Written};
+#![tactic(auto)]
 
-fn confirmed_line(answer: Confirmation) {
+use rules::{Confirmation, MAP_SIZE, RULE_SIZE, SCRATCH_SIZE, Written};
+use std::io;
+
+fn confirmed_line(rt: &impl Print, answer: Confirmation) -> io::Result<()> {
     match answer {
-        Confirmation::Yes => example_text::word(b"yes\n"),
-        Confirmation::No => example_text::word(b"no\n"),
+        Confirmation::Yes => example_text::word(rt, b"yes\n"),
+        Confirmation::No => example_text::word(rt, b"no\n"),
         Confirmation::Refused {
             refusal,
             input,
             place,
-        } => example_text::refused_line(rules::number(refusal), input, place),
+        } => example_text::refused_line(rt, rules::number(refusal), input, place),
     }
 }
 
@@ -22,28 +25,38 @@ fn length_of(answer: Written) -> usize {
 }
 
 // Asks for what `rules::reduce` writes.
-fn own(first: &[u8], scratch: &mut [u8]) {
+fn own(rt: &impl Print, first: &[u8], scratch: &mut [u8]) -> io::Result<()> {
     let mut out = [9u8; RULE_SIZE];
     let mut map = [9u8; MAP_SIZE];
     let length = length_of(rules::reduce(first, &mut out, &mut map, scratch));
     let elements = example_text::byte_at(first, 0) as usize;
-    confirmed_line(rules::confirm(
-        first,
-        example_text::front(&out, length),
-        example_text::front(&map, elements),
-        scratch,
-    ));
+    confirmed_line(
+        rt,
+        rules::confirm(
+            first,
+            example_text::front(&out, length),
+            example_text::front(&map, elements),
+            scratch,
+        ),
+    )
 }
 
-fn answer(line: &[u8], first: &[u8], second: &[u8], map: &[u8], scratch: &mut [u8]) {
-    example_text::label(line);
+fn answer(
+    rt: &impl Print,
+    line: &[u8],
+    first: &[u8],
+    second: &[u8],
+    map: &[u8],
+    scratch: &mut [u8],
+) -> io::Result<()> {
+    example_text::label(rt, line)?;
     match example_text::command(line) {
-        b'o' => own(first, scratch),
-        _ => confirmed_line(rules::confirm(first, second, map, scratch)),
+        b'o' => own(rt, first, scratch),
+        _ => confirmed_line(rt, rules::confirm(first, second, map, scratch)),
     }
 }
 
-fn run(line: &[u8], scratch: &mut [u8]) {
+fn run(rt: &impl Print, line: &[u8], scratch: &mut [u8]) -> io::Result<()> {
     let mut first = [0u8; RULE_SIZE];
     let mut second = [0u8; RULE_SIZE];
     let mut map = [0u8; 128];
@@ -51,19 +64,29 @@ fn run(line: &[u8], scratch: &mut [u8]) {
     let two = example_text::numbers(line, 3, &mut second);
     let three = example_text::numbers(line, 4, &mut map);
     if example_text::command(line) != 0 {
-        answer(line, &first[..one], &second[..two], &map[..three], scratch);
+        answer(
+            rt,
+            line,
+            &first[..one],
+            &second[..two],
+            &map[..three],
+            scratch,
+        )?;
     }
+    Ok(())
 }
 
-fn run_all(text: &[u8], scratch: &mut [u8]) {
+fn run_all(rt: &impl Print, text: &[u8], scratch: &mut [u8]) -> io::Result<()> {
     for i in 0..text.len() {
-        run(example_text::part(text, b'\n', i), scratch);
+        run(rt, example_text::part(text, b'\n', i), scratch)?;
     }
+    Ok(())
 }
 
-fn main() {
+fn main(rt: HostRuntime) -> io::Result<()> {
     let mut scratch = [7u8; SCRATCH_SIZE];
     run_all(
+        &rt,
         b"# What the library writes itself.\n\
         W: own: 2 0 0 0 1 2 0 1 1 0 0 0 3\n\
         Z with letter 0 only: own: 2 0 1 1 0 1 1 1 0 0 0 3\n\
@@ -100,5 +123,5 @@ fn main() {
         a second with an element that no word has: confirm: 2 0 0 0 1 2 0 1 1 0 0 0 3: 2 0 0 0 1 1 0 0 0: 0 1\n\
         a first that is cut: confirm: 2 0 0 0: 2 1 0 0 0 1 0 0 0: 0 1\n",
         &mut scratch,
-    );
+    )
 }

@@ -1,46 +1,52 @@
 // Runs `rules::member`, `rules::stretch` and the calls on a monitor over document 01's small rules, and writes a line for
 // each. A word is written as its letters in a row.
-use rules::{LassoVerdict, Monitor, Moved, SCRATCH_SIZE};
+#![tactic(auto)]
 
-fn answer_line(answer: LassoVerdict) {
+use rules::{LassoVerdict, Monitor, Moved, SCRATCH_SIZE};
+use std::io;
+
+fn answer_line(rt: &impl Print, answer: LassoVerdict) -> io::Result<()> {
     match answer {
-        LassoVerdict::Decided { grade, turns } => example_text::graded_line(grade, turns),
+        LassoVerdict::Decided { grade, turns } => example_text::graded_line(rt, grade, turns),
         LassoVerdict::Refused {
             refusal,
             input,
             place,
-        } => example_text::refused_line(rules::number(refusal), input, place),
+        } => example_text::refused_line(rt, rules::number(refusal), input, place),
     }
 }
 
 // A word has room for one letter more than it may have.
-fn member(line: &[u8], rule: &[u8], scratch: &mut [u8]) {
+fn member(rt: &impl Print, line: &[u8], rule: &[u8], scratch: &mut [u8]) -> io::Result<()> {
     let mut u = [0u8; 4225];
     let mut v = [0u8; 4225];
     let m = example_text::numbers(line, 3, &mut u);
     let n = example_text::numbers(line, 4, &mut v);
-    example_text::label(line);
-    answer_line(rules::member(rule, &u[..m], &v[..n], scratch));
+    example_text::label(rt, line)?;
+    answer_line(rt, rules::member(rule, &u[..m], &v[..n], scratch))
 }
 
-fn word_line(word: &[u8]) {
-    example_text::each(b"", word, word.len());
-    example_text::word(b"\n");
+fn word_line(rt: &impl Print, word: &[u8]) -> io::Result<()> {
+    example_text::each(rt, b"", word, word.len())?;
+    example_text::word(rt, b"\n")
 }
 
-fn stretch(line: &[u8], u: &[u8]) {
+fn stretch(rt: &impl Print, line: &[u8], u: &[u8]) -> io::Result<()> {
     let mut v = [0u8; 4225];
     let n = example_text::numbers(line, 3, &mut v);
-    example_text::label(line);
-    word_line(rules::stretch(u, &v[..n], example_text::number(line, 4)));
+    example_text::label(rt, line)?;
+    word_line(
+        rt,
+        rules::stretch(u, &v[..n], example_text::number(line, 4)),
+    )
 }
 
-fn monitor_line(moved: Moved) -> Monitor {
+fn monitor_line(rt: &impl Print, moved: Moved) -> io::Result<Monitor> {
     match moved {
         Moved::To(m) => {
-            example_text::two(b"before ", m.before, b" since ", m.since);
-            example_text::word(b"\n");
-            m
+            example_text::two(rt, b"before ", m.before, b" since ", m.since)?;
+            example_text::word(rt, b"\n")?;
+            Ok(m)
         }
         Moved::Refused {
             monitor,
@@ -48,56 +54,67 @@ fn monitor_line(moved: Moved) -> Monitor {
             input,
             place,
         } => {
-            example_text::refused_line(rules::number(refusal), input, place);
-            monitor
+            example_text::refused_line(rt, rules::number(refusal), input, place)?;
+            Ok(monitor)
         }
     }
 }
 
 // Events and marks move the monitor on, and `put` puts another in its place.
-fn moved(line: &[u8], rule: &[u8], m: Monitor, scratch: &mut [u8]) -> Monitor {
+fn moved(
+    rt: &impl Print,
+    line: &[u8],
+    rule: &[u8],
+    m: Monitor,
+    scratch: &mut [u8],
+) -> io::Result<Monitor> {
     match example_text::command(line) {
-        b'e' => monitor_line(rules::event(
-            rule,
-            m,
-            (example_text::number(line, 3) % 256) as u8,
-            scratch,
-        )),
-        b'm' => monitor_line(rules::mark(rule, m, scratch)),
-        b'p' => Monitor {
+        b'e' => monitor_line(
+            rt,
+            rules::event(
+                rule,
+                m,
+                (example_text::number(line, 3) % 256) as u8,
+                scratch,
+            ),
+        ),
+        b'm' => monitor_line(rt, rules::mark(rule, m, scratch)),
+        b'p' => Ok(Monitor {
             before: example_text::number(line, 3),
             since: example_text::number(line, 4),
-        },
-        _ => m,
+        }),
+        _ => Ok(m),
     }
 }
 
-fn run(line: &[u8], m: Monitor, scratch: &mut [u8]) -> Monitor {
+fn run(rt: &impl Print, line: &[u8], m: Monitor, scratch: &mut [u8]) -> io::Result<Monitor> {
     let mut first = [0u8; 4225];
     let length = example_text::numbers(line, 2, &mut first);
     match example_text::command(line) {
         b'l' => {
-            member(line, &first[..length], scratch);
-            m
+            member(rt, line, &first[..length], scratch)?;
+            Ok(m)
         }
         b's' => {
-            stretch(line, &first[..length]);
-            m
+            stretch(rt, line, &first[..length])?;
+            Ok(m)
         }
-        _ => moved(line, &first[..length], m, scratch),
+        _ => moved(rt, line, &first[..length], m, scratch),
     }
 }
 
-fn run_all(text: &[u8], scratch: &mut [u8]) {
+fn run_all(rt: &impl Print, text: &[u8], scratch: &mut [u8]) -> io::Result<()> {
     let mut m = rules::fresh();
     for i in 0..text.len() {
-        m = run(example_text::part(text, b'\n', i), m, scratch);
+        m = run(rt, example_text::part(text, b'\n', i), m, scratch)?;
     }
+    Ok(())
 }
 
-fn main() {
+fn main(rt: HostRuntime) -> io::Result<()> {
     let mut scratch = [7u8; SCRATCH_SIZE];
     run_all(
+        &rt,
         b"M2 W, u 1, v 0: lasso: 2 0 0 0 1 2 0 1 1 0 0 0 3: 1: 0\n\
         M3 W, u 0, v 1: lasso: 2 0 0 0 1 2 0 1 1 0 0 0 3: 0: 1\n\
         W, u 0, v 0 1: lasso: 2 0 0 0 1 2 0 1 1 0 0 0 3: 0: 0 1\n\
@@ -163,5 +180,5 @@ fn main() {
         : put: : 64: 65\n\
         : mark: 2 0 1 1 0 2 1 0 1 0 0 0 3\n",
         &mut scratch,
-    );
+    )
 }

@@ -1,6 +1,9 @@
 // Runs `rules::event_in_place` on a lent monitor beside `rules::event` on the same monitor by value, and writes a line of what both
 // leave. The monitor that was lent is the next event's; `put` puts another in its place.
+#![tactic(auto)]
+
 use rules::{InPlaceAnswer, Monitor, Moved, SCRATCH_SIZE};
+use std::io;
 
 // The answer of a call that was lent a monitor, with the monitor that it left.
 fn with_monitor(told: InPlaceAnswer, monitor: Monitor) -> Moved {
@@ -19,16 +22,16 @@ fn with_monitor(told: InPlaceAnswer, monitor: Monitor) -> Moved {
     }
 }
 
-// Lends a monitor of its own, and hands it back as it was left. No walk is generated for it: the proof is by hand.
+// Lends a monitor of its own, and hands it back as it was left.
 fn lent(rule: &[u8], mut m: Monitor, letter: u8, scratch: &mut [u8]) -> Moved {
     let told = rules::event_in_place(rule, &mut m, letter, scratch);
     with_monitor(told, m)
 }
 
 // The monitor that a call left, after a refusal is written.
-fn left(moved: Moved) -> Monitor {
+fn left(rt: &impl Print, moved: Moved) -> io::Result<Monitor> {
     match moved {
-        Moved::To(m) => m,
+        Moved::To(m) => Ok(m),
         Moved::Refused {
             monitor,
             refusal,
@@ -36,55 +39,63 @@ fn left(moved: Moved) -> Monitor {
             place,
         } => {
             let number = rules::number(refusal) as usize;
-            example_text::two(b"refused ", number, b" in ", input);
-            example_text::word_and(b" at ", place);
-            example_text::word(b", ");
-            monitor
+            example_text::two(rt, b"refused ", number, b" in ", input)?;
+            example_text::word_and(rt, b" at ", place)?;
+            example_text::word(rt, b", ")?;
+            Ok(monitor)
         }
     }
 }
 
-fn written(start: &[u8], moved: Moved) -> Monitor {
-    example_text::word(start);
-    let m = left(moved);
-    example_text::two(b"before ", m.before, b" since ", m.since);
-    m
+fn written(rt: &impl Print, start: &[u8], moved: Moved) -> io::Result<Monitor> {
+    example_text::word(rt, start)?;
+    let m = left(rt, moved)?;
+    example_text::two(rt, b"before ", m.before, b" since ", m.since)?;
+    Ok(m)
 }
 
-fn event(rule: &[u8], m: Monitor, letter: u8, scratch: &mut [u8]) -> Monitor {
-    written(b"by value ", rules::event(rule, m, letter, scratch));
-    let next = written(b"; lent ", lent(rule, m, letter, scratch));
-    example_text::word(b"\n");
-    next
+fn event(
+    rt: &impl Print,
+    rule: &[u8],
+    m: Monitor,
+    letter: u8,
+    scratch: &mut [u8],
+) -> io::Result<Monitor> {
+    written(rt, b"by value ", rules::event(rule, m, letter, scratch))?;
+    let next = written(rt, b"; lent ", lent(rule, m, letter, scratch))?;
+    example_text::word(rt, b"\n")?;
+    Ok(next)
 }
 
-fn run(line: &[u8], m: Monitor, scratch: &mut [u8]) -> Monitor {
+fn run(rt: &impl Print, line: &[u8], m: Monitor, scratch: &mut [u8]) -> io::Result<Monitor> {
     let mut rule = [0u8; 64];
     let length = example_text::numbers(line, 2, &mut rule);
     let letter = (example_text::number(line, 3) % 256) as u8;
     match example_text::command(line) {
         b'e' => {
-            example_text::label(line);
-            event(&rule[..length], m, letter, scratch)
+            example_text::label(rt, line)?;
+            event(rt, &rule[..length], m, letter, scratch)
         }
-        b'p' => Monitor {
+        b'p' => Ok(Monitor {
             before: example_text::number(line, 2),
             since: example_text::number(line, 3),
-        },
-        _ => m,
+        }),
+        _ => Ok(m),
     }
 }
 
-fn run_all(text: &[u8], scratch: &mut [u8]) {
+fn run_all(rt: &impl Print, text: &[u8], scratch: &mut [u8]) -> io::Result<()> {
     let mut m = rules::fresh();
     for i in 0..text.len() {
-        m = run(example_text::part(text, b'\n', i), m, scratch);
+        m = run(rt, example_text::part(text, b'\n', i), m, scratch)?;
     }
+    Ok(())
 }
 
-fn main() {
+fn main(rt: HostRuntime) -> io::Result<()> {
     let mut scratch = [7u8; SCRATCH_SIZE];
     run_all(
+        &rt,
         b"# Events of W from a fresh monitor on, a letter that is none of W's, and a rule that does not associate.\n\
         W, 1: event: 2 0 0 0 1 2 0 1 1 0 0 0 3: 1\n\
         W, 1: event: 2 0 0 0 1 2 0 1 1 0 0 0 3: 1\n\
@@ -107,5 +118,5 @@ fn main() {
         : put: 0: 65\n\
         Z, 0: event: 2 0 1 1 0 2 1 0 1 0 0 0 3: 0\n",
         &mut scratch,
-    );
+    )
 }

@@ -1,137 +1,162 @@
 // Runs the calls on a rule's marks, `rules::list_classes`, `rules::strong`, `rules::complement`, `rules::included` and
 // `rules::verdict`, over document 01's small rules and over the largest, and writes a line for each.
+#![tactic(auto)]
+
 use rules::{
     CYCLE_SIZE, Inclusion, LassoVerdict, Listed, Monitor, RULE_SIZE, Refusal, SCRATCH_SIZE,
     START_SIZE, Strength, Written,
 };
+use std::io;
 
-fn refused(refusal: Refusal, input: usize, place: usize) {
-    example_text::refused_line(rules::number(refusal), input, place);
+fn refused(rt: &impl Print, refusal: Refusal, input: usize, place: usize) -> io::Result<()> {
+    example_text::refused_line(rt, rules::number(refusal), input, place)
 }
 
-fn classes_line(answer: Listed) {
+fn classes_line(rt: &impl Print, answer: Listed) -> io::Result<()> {
     match answer {
         Listed::Counts {
             linked,
             classes,
             joins,
-        } => example_text::three_line(b"linked ", linked, b" classes ", classes, b" joins ", joins),
+        } => example_text::three_line(
+            rt,
+            b"linked ",
+            linked,
+            b" classes ",
+            classes,
+            b" joins ",
+            joins,
+        ),
         Listed::Refused {
             refusal,
             input,
             place,
-        } => refused(refusal, input, place),
+        } => refused(rt, refusal, input, place),
     }
 }
 
-fn strength_line(answer: Strength) {
+fn strength_line(rt: &impl Print, answer: Strength) -> io::Result<()> {
     match answer {
-        Strength::Strong => example_text::word(b"strong\n"),
-        Strength::Weak => example_text::word(b"weak\n"),
+        Strength::Strong => example_text::word(rt, b"strong\n"),
+        Strength::Weak => example_text::word(rt, b"weak\n"),
         Strength::Refused {
             refusal,
             input,
             place,
-        } => refused(refusal, input, place),
+        } => refused(rt, refusal, input, place),
     }
 }
 
 // A complement is written out where it is short, and else told by its length.
-fn complement_line(answer: Written, out: &[u8]) {
+fn complement_line(rt: &impl Print, answer: Written, out: &[u8]) -> io::Result<()> {
     match answer {
         Written::Rule(length) => {
-            example_text::word_and(b"complement of bytes ", length);
+            example_text::word_and(rt, b"complement of bytes ", length)?;
             if length < 64 {
-                example_text::row(b":", out, length);
+                example_text::row(rt, b":", out, length)?;
             }
-            example_text::word(b"\n");
+            example_text::word(rt, b"\n")
         }
         Written::Refused {
             refusal,
             input,
             place,
-        } => refused(refusal, input, place),
+        } => refused(rt, refusal, input, place),
     }
 }
 
 // The lengths of a witness, and its letters where they are few.
-fn witness_line(u: &[u8], u_letters: usize, v: &[u8], v_letters: usize) {
-    example_text::two(b"not included: u of ", u_letters, b", v of ", v_letters);
+fn witness_line(
+    rt: &impl Print,
+    u: &[u8],
+    u_letters: usize,
+    v: &[u8],
+    v_letters: usize,
+) -> io::Result<()> {
+    example_text::two(rt, b"not included: u of ", u_letters, b", v of ", v_letters)?;
     if v_letters < 10 {
-        example_text::row(b": u", u, u_letters);
-        example_text::row(b" v", v, v_letters);
+        example_text::row(rt, b": u", u, u_letters)?;
+        example_text::row(rt, b" v", v, v_letters)?;
     }
-    example_text::word(b"\n");
+    example_text::word(rt, b"\n")
 }
 
-fn inclusion_line(answer: Inclusion, u: &[u8], v: &[u8]) {
+fn inclusion_line(rt: &impl Print, answer: Inclusion, u: &[u8], v: &[u8]) -> io::Result<()> {
     match answer {
-        Inclusion::Included => example_text::word(b"included\n"),
+        Inclusion::Included => example_text::word(rt, b"included\n"),
         Inclusion::NotIncluded {
             u: u_letters,
             v: v_letters,
-        } => witness_line(u, u_letters, v, v_letters),
+        } => witness_line(rt, u, u_letters, v, v_letters),
         Inclusion::Refused {
             refusal,
             input,
             place,
-        } => refused(refusal, input, place),
+        } => refused(rt, refusal, input, place),
     }
 }
 
-fn verdict_line(answer: LassoVerdict) {
+fn verdict_line(rt: &impl Print, answer: LassoVerdict) -> io::Result<()> {
     match answer {
-        LassoVerdict::Decided { grade, turns } => example_text::graded_line(grade, turns),
+        LassoVerdict::Decided { grade, turns } => example_text::graded_line(rt, grade, turns),
         LassoVerdict::Refused {
             refusal,
             input,
             place,
-        } => refused(refusal, input, place),
+        } => refused(rt, refusal, input, place),
     }
 }
 
-fn classes(rule: &[u8], scratch: &mut [u8]) {
+fn classes(rt: &impl Print, rule: &[u8], scratch: &mut [u8]) -> io::Result<()> {
     let mut out = [9u8; RULE_SIZE];
-    classes_line(rules::list_classes(rule, &mut out, scratch));
+    classes_line(rt, rules::list_classes(rule, &mut out, scratch))
 }
 
-fn complement(rule: &[u8], scratch: &mut [u8]) {
+fn complement(rt: &impl Print, rule: &[u8], scratch: &mut [u8]) -> io::Result<()> {
     let mut out = [9u8; RULE_SIZE];
-    complement_line(rules::complement(rule, &mut out, scratch), &out);
+    complement_line(rt, rules::complement(rule, &mut out, scratch), &out)
 }
 
-fn inclusion(rule: &[u8], second: &[u8], scratch: &mut [u8]) {
+fn inclusion(rt: &impl Print, rule: &[u8], second: &[u8], scratch: &mut [u8]) -> io::Result<()> {
     let mut u = [9u8; START_SIZE];
     let mut v = [9u8; CYCLE_SIZE];
     inclusion_line(
+        rt,
         rules::included(rule, second, &mut u, &mut v, scratch),
         &u,
         &v,
-    );
+    )
 }
 
 // The verdict on the lassos with two values.
-fn verdict(rule: &[u8], before: usize, since: usize, scratch: &mut [u8]) {
-    example_text::two(b"before ", before, b" since ", since);
-    example_text::word(b" ");
-    verdict_line(rules::verdict(rule, Monitor { before, since }, scratch));
+fn verdict(
+    rt: &impl Print,
+    rule: &[u8],
+    before: usize,
+    since: usize,
+    scratch: &mut [u8],
+) -> io::Result<()> {
+    example_text::two(rt, b"before ", before, b" since ", since)?;
+    example_text::word(rt, b" ")?;
+    verdict_line(rt, rules::verdict(rule, Monitor { before, since }, scratch))
 }
 
 // The marks of the second marking of an inclusion are a list of their own.
-fn inclusion_of(line: &[u8], rule: &[u8], scratch: &mut [u8]) {
+fn inclusion_of(rt: &impl Print, line: &[u8], rule: &[u8], scratch: &mut [u8]) -> io::Result<()> {
     let mut second = [0u8; 64];
     let length = example_text::numbers(line, 3, &mut second);
-    inclusion(rule, &second[..length], scratch);
+    inclusion(rt, rule, &second[..length], scratch)
 }
 
-fn answer(line: &[u8], rule: &[u8], scratch: &mut [u8]) {
-    example_text::label(line);
+fn answer(rt: &impl Print, line: &[u8], rule: &[u8], scratch: &mut [u8]) -> io::Result<()> {
+    example_text::label(rt, line)?;
     match example_text::command(line) {
-        b'c' => complement(rule, scratch),
-        b'i' => inclusion_of(line, rule, scratch),
-        b'l' => classes(rule, scratch),
-        b's' => strength_line(rules::strong(rule, scratch)),
+        b'c' => complement(rt, rule, scratch),
+        b'i' => inclusion_of(rt, line, rule, scratch),
+        b'l' => classes(rt, rule, scratch),
+        b's' => strength_line(rt, rules::strong(rule, scratch)),
         _ => verdict(
+            rt,
             rule,
             example_text::number(line, 3),
             example_text::number(line, 4),
@@ -140,23 +165,26 @@ fn answer(line: &[u8], rule: &[u8], scratch: &mut [u8]) {
     }
 }
 
-fn run(line: &[u8], scratch: &mut [u8]) {
+fn run(rt: &impl Print, line: &[u8], scratch: &mut [u8]) -> io::Result<()> {
     let mut rule = [0u8; 4224];
     let length = example_text::numbers(line, 2, &mut rule);
     if example_text::command(line) != 0 {
-        answer(line, &rule[..length], scratch);
+        answer(rt, line, &rule[..length], scratch)?;
     }
+    Ok(())
 }
 
-fn run_all(text: &[u8], scratch: &mut [u8]) {
+fn run_all(rt: &impl Print, text: &[u8], scratch: &mut [u8]) -> io::Result<()> {
     for i in 0..text.len() {
-        run(example_text::part(text, b'\n', i), scratch);
+        run(rt, example_text::part(text, b'\n', i), scratch)?;
     }
+    Ok(())
 }
 
-fn main() {
+fn main(rt: HostRuntime) -> io::Result<()> {
     let mut scratch = [7u8; SCRATCH_SIZE];
     run_all(
+        &rt,
         b"M1 W: list: 2 0 0 0 1 2 0 1 1 0 0 0 3\n\
         M1 W: strength: 2 0 0 0 1 2 0 1 1 0 0 0 3\n\
         M1 W: complement: 2 0 0 0 1 2 0 1 1 0 0 0 3\n\
@@ -226,5 +254,5 @@ fn main() {
         words and remainders by 2: complement: 64 words 16 0 1 2 3 4 5 6 7 8 9 10 11 0 1 2 3 1 0 62 62 3\n\
         words and remainders by 2 in no marks: inclusion: 64 words 16 0 1 2 3 4 5 6 7 8 9 10 11 0 1 2 3 1 0 62 62 3: 0 0\n",
         &mut scratch,
-    );
+    )
 }

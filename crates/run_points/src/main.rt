@@ -1,13 +1,16 @@
 // Runs `rules::keep` and `rules::return_to` among events, marks and verdicts, on one monitor and its points, and writes a line for each.
-use rules::{LassoVerdict, Monitor, Moved, POINTS_SIZE, SCRATCH_SIZE};
+#![tactic(auto)]
 
-fn monitor_line(line: &[u8], moved: Moved) -> Monitor {
-    example_text::label(line);
+use rules::{LassoVerdict, Monitor, Moved, POINTS_SIZE, SCRATCH_SIZE};
+use std::io;
+
+fn monitor_line(rt: &impl Print, line: &[u8], moved: Moved) -> io::Result<Monitor> {
+    example_text::label(rt, line)?;
     match moved {
         Moved::To(m) => {
-            example_text::two(b"before ", m.before, b" since ", m.since);
-            example_text::word(b"\n");
-            m
+            example_text::two(rt, b"before ", m.before, b" since ", m.since)?;
+            example_text::word(rt, b"\n")?;
+            Ok(m)
         }
         Moved::Refused {
             monitor,
@@ -15,28 +18,35 @@ fn monitor_line(line: &[u8], moved: Moved) -> Monitor {
             input,
             place,
         } => {
-            example_text::refused_line(rules::number(refusal), input, place);
-            monitor
+            example_text::refused_line(rt, rules::number(refusal), input, place)?;
+            Ok(monitor)
         }
     }
 }
 
-fn verdict_line(line: &[u8], answer: LassoVerdict) {
-    example_text::label(line);
+fn verdict_line(rt: &impl Print, line: &[u8], answer: LassoVerdict) -> io::Result<()> {
+    example_text::label(rt, line)?;
     match answer {
-        LassoVerdict::Decided { grade, turns } => example_text::graded_line(grade, turns),
+        LassoVerdict::Decided { grade, turns } => example_text::graded_line(rt, grade, turns),
         LassoVerdict::Refused {
             refusal,
             input,
             place,
-        } => example_text::refused_line(rules::number(refusal), input, place),
+        } => example_text::refused_line(rt, rules::number(refusal), input, place),
     }
 }
 
 // Calls that are not handed the points.
-fn moved(line: &[u8], rule: &[u8], m: Monitor, scratch: &mut [u8]) -> Monitor {
+fn moved(
+    rt: &impl Print,
+    line: &[u8],
+    rule: &[u8],
+    m: Monitor,
+    scratch: &mut [u8],
+) -> io::Result<Monitor> {
     match example_text::command(line) {
         b'e' => monitor_line(
+            rt,
             line,
             rules::event(
                 rule,
@@ -45,22 +55,29 @@ fn moved(line: &[u8], rule: &[u8], m: Monitor, scratch: &mut [u8]) -> Monitor {
                 scratch,
             ),
         ),
-        b'm' => monitor_line(line, rules::mark(rule, m, scratch)),
+        b'm' => monitor_line(rt, line, rules::mark(rule, m, scratch)),
         b'v' => {
-            verdict_line(line, rules::verdict(rule, m, scratch));
-            m
+            verdict_line(rt, line, rules::verdict(rule, m, scratch))?;
+            Ok(m)
         }
-        _ => m,
+        _ => Ok(m),
     }
 }
 
 // The two calls that are.
-fn pointed(line: &[u8], rule: &[u8], m: Monitor, points: &mut [u8], scratch: &mut [u8]) -> Monitor {
+fn pointed(
+    rt: &impl Print,
+    line: &[u8],
+    rule: &[u8],
+    m: Monitor,
+    points: &mut [u8],
+    scratch: &mut [u8],
+) -> io::Result<Monitor> {
     let name = example_text::number(line, 3);
     match example_text::command(line) {
-        b'k' => monitor_line(line, rules::keep(rule, m, name, points, scratch)),
-        b'r' => monitor_line(line, rules::return_to(rule, m, name, points, scratch)),
-        _ => moved(line, rule, m, scratch),
+        b'k' => monitor_line(rt, line, rules::keep(rule, m, name, points, scratch)),
+        b'r' => monitor_line(rt, line, rules::return_to(rule, m, name, points, scratch)),
+        _ => moved(rt, line, rule, m, scratch),
     }
 }
 
@@ -73,38 +90,46 @@ fn set_byte(line: &[u8], points: &mut [u8]) {
 }
 
 // `put` puts another monitor in place, `byte` another byte of the points, and `show` writes them.
-fn run(line: &[u8], m: Monitor, points: &mut [u8], scratch: &mut [u8]) -> Monitor {
+fn run(
+    rt: &impl Print,
+    line: &[u8],
+    m: Monitor,
+    points: &mut [u8],
+    scratch: &mut [u8],
+) -> io::Result<Monitor> {
     let mut rule = [0u8; 64];
     let length = example_text::numbers(line, 2, &mut rule);
     match example_text::command(line) {
-        b'p' => Monitor {
+        b'p' => Ok(Monitor {
             before: example_text::number(line, 2),
             since: example_text::number(line, 3),
-        },
+        }),
         b'b' => {
             set_byte(line, points);
-            m
+            Ok(m)
         }
         b's' => {
-            example_text::row(b"points", points, points.len());
-            example_text::word(b"\n");
-            m
+            example_text::row(rt, b"points", points, points.len())?;
+            example_text::word(rt, b"\n")?;
+            Ok(m)
         }
-        _ => pointed(line, &rule[..length], m, points, scratch),
+        _ => pointed(rt, line, &rule[..length], m, points, scratch),
     }
 }
 
-fn run_all(text: &[u8], points: &mut [u8], scratch: &mut [u8]) {
+fn run_all(rt: &impl Print, text: &[u8], points: &mut [u8], scratch: &mut [u8]) -> io::Result<()> {
     let mut m = rules::fresh();
     for i in 0..text.len() {
-        m = run(example_text::part(text, b'\n', i), m, points, scratch);
+        m = run(rt, example_text::part(text, b'\n', i), m, points, scratch)?;
     }
+    Ok(())
 }
 
-fn main() {
+fn main(rt: HostRuntime) -> io::Result<()> {
     let mut points = [0u8; POINTS_SIZE];
     let mut scratch = [7u8; SCRATCH_SIZE];
     run_all(
+        &rt,
         b"# A log of W, kept as 7 after letter 1, a mark and letter 0; then a mark and letter 1; then back, twice.\n\
         letter 1: event: 2 0 0 0 1 2 0 1 1 0 0 0 3: 1\n\
         mark: mark: 2 0 0 0 1 2 0 1 1 0 0 0 3\n\
@@ -144,5 +169,5 @@ fn main() {
         : show\n",
         &mut points,
         &mut scratch,
-    );
+    )
 }

@@ -1,39 +1,60 @@
 // Runs `rules::reduce` over document 01's small rules and over rules of 64 elements, and writes a line for each.
+#![tactic(auto)]
+
 use rules::{MAP_SIZE, RULE_SIZE, SCRATCH_SIZE, Written};
+use std::io;
 
 // What a reduction wrote: its bytes where they are few, and else how many there are and the number of its elements; and where the elements
 // of the rule went, the first eight of them.
-fn written_line(out: &[u8], length: usize, map: &[u8], elements: usize) {
-    example_text::word_and(b"bytes ", length);
+fn written_line(
+    rt: &impl Print,
+    out: &[u8],
+    length: usize,
+    map: &[u8],
+    elements: usize,
+) -> io::Result<()> {
+    example_text::word_and(rt, b"bytes ", length)?;
     if length < 32 {
-        example_text::row(b":", out, length);
+        example_text::row(rt, b":", out, length)?;
     } else {
-        example_text::row(b", elements", out, 1);
+        example_text::row(rt, b", elements", out, 1)?;
     }
     if elements < 8 {
-        example_text::row(b"; to", map, elements);
+        example_text::row(rt, b"; to", map, elements)?;
     } else {
-        example_text::row(b"; first to", map, 8);
+        example_text::row(rt, b"; first to", map, 8)?;
     }
-    example_text::word(b"\n");
+    example_text::word(rt, b"\n")
 }
 
-fn reduced_line(answer: Written, out: &[u8], map: &[u8], elements: usize) {
+fn reduced_line(
+    rt: &impl Print,
+    answer: Written,
+    out: &[u8],
+    map: &[u8],
+    elements: usize,
+) -> io::Result<()> {
     match answer {
-        Written::Rule(length) => written_line(out, length, map, elements),
+        Written::Rule(length) => written_line(rt, out, length, map, elements),
         Written::Refused {
             refusal,
             input,
             place,
-        } => example_text::refused_line(rules::number(refusal), input, place),
+        } => example_text::refused_line(rt, rules::number(refusal), input, place),
     }
 }
 
-fn tell(rule: &[u8], scratch: &mut [u8]) {
+fn tell(rt: &impl Print, rule: &[u8], scratch: &mut [u8]) -> io::Result<()> {
     let mut out = [9u8; RULE_SIZE];
     let mut map = [9u8; MAP_SIZE];
     let answer = rules::reduce(rule, &mut out, &mut map, scratch);
-    reduced_line(answer, &out, &map, example_text::byte_at(rule, 0) as usize);
+    reduced_line(
+        rt,
+        answer,
+        &out,
+        &map,
+        example_text::byte_at(rule, 0) as usize,
+    )
 }
 
 // How many bytes a reduction wrote, 0 for a refusal.
@@ -45,38 +66,41 @@ fn length_of(answer: Written) -> usize {
 }
 
 // Reduces what a reduction wrote.
-fn tell_again(rule: &[u8], scratch: &mut [u8]) {
+fn tell_again(rt: &impl Print, rule: &[u8], scratch: &mut [u8]) -> io::Result<()> {
     let mut out = [9u8; RULE_SIZE];
     let mut map = [9u8; MAP_SIZE];
     let length = length_of(rules::reduce(rule, &mut out, &mut map, scratch));
-    tell(example_text::front(&out, length), scratch);
+    tell(rt, example_text::front(&out, length), scratch)
 }
 
-fn answer(line: &[u8], rule: &[u8], scratch: &mut [u8]) {
-    example_text::label(line);
+fn answer(rt: &impl Print, line: &[u8], rule: &[u8], scratch: &mut [u8]) -> io::Result<()> {
+    example_text::label(rt, line)?;
     match example_text::command(line) {
-        b'a' => tell_again(rule, scratch),
-        _ => tell(rule, scratch),
+        b'a' => tell_again(rt, rule, scratch),
+        _ => tell(rt, rule, scratch),
     }
 }
 
-fn run(line: &[u8], scratch: &mut [u8]) {
+fn run(rt: &impl Print, line: &[u8], scratch: &mut [u8]) -> io::Result<()> {
     let mut rule = [0u8; RULE_SIZE];
     let length = example_text::numbers(line, 2, &mut rule);
     if example_text::command(line) != 0 {
-        answer(line, &rule[..length], scratch);
+        answer(rt, line, &rule[..length], scratch)?;
     }
+    Ok(())
 }
 
-fn run_all(text: &[u8], scratch: &mut [u8]) {
+fn run_all(rt: &impl Print, text: &[u8], scratch: &mut [u8]) -> io::Result<()> {
     for i in 0..text.len() {
-        run(example_text::part(text, b'\n', i), scratch);
+        run(rt, example_text::part(text, b'\n', i), scratch)?;
     }
+    Ok(())
 }
 
-fn main() {
+fn main(rt: HostRuntime) -> io::Result<()> {
     let mut scratch = [7u8; SCRATCH_SIZE];
     run_all(
+        &rt,
         b"M1 W: reduce: 2 0 0 0 1 2 0 1 1 0 0 0 3\n\
         M4 W with all pairs: reduce: 2 0 0 0 1 2 0 1 3 0 0 0 3 0 1 3 1 1 3\n\
         M6 Z: reduce: 2 0 1 1 0 2 1 0 1 0 0 0 3\n\
@@ -105,5 +129,5 @@ fn main() {
         # How often letter 0 occurs, up to five times, with grade 3 from five on. Blocks split one at a time, so three rounds are needed.\n\
         five times: reduce: 6 0 1 2 3 4 5 1 2 3 4 5 5 2 3 4 5 5 5 3 4 5 5 5 5 4 5 5 5 5 5 5 5 5 5 5 5 2 1 0 2 0 5 0 3 5 5 3\n",
         &mut scratch,
-    );
+    )
 }

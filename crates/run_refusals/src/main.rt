@@ -1,15 +1,19 @@
 // Runs `rules::inspect` over document 01's small rules and over files with one fault or two, and writes a line for each: its
 // counts, or the number and the place of its refusal. W is the file 2 0 0 0 1 2 0 1 1 0 0 0 3: a byte for the number of its
 // elements, 4 for their products, 3 for the letters, 2 for the number of marks and 3 for its mark, the last its grade.
-use rules::{Inspected, RULE_SIZE, SCRATCH_SIZE};
+#![tactic(auto)]
 
-fn answer_line(answer: Inspected) {
+use rules::{Inspected, RULE_SIZE, SCRATCH_SIZE};
+use std::io;
+
+fn answer_line(rt: &impl Print, answer: Inspected) -> io::Result<()> {
     match answer {
         Inspected::Rule {
             elements,
             letters,
             marks,
         } => example_text::three_line(
+            rt,
             b"elements ",
             elements,
             b" letters ",
@@ -22,39 +26,47 @@ fn answer_line(answer: Inspected) {
             input: _,
             place,
         } => {
-            example_text::two(b"refused ", rules::number(refusal) as usize, b" at ", place);
-            example_text::word(b"\n");
+            example_text::two(
+                rt,
+                b"refused ",
+                rules::number(refusal) as usize,
+                b" at ",
+                place,
+            )?;
+            example_text::word(rt, b"\n")
         }
     }
 }
 
 // Writes the line of an example: its label and the answer. A file has room for one byte more than it may have.
-fn tell(line: &[u8], scratch: &mut [u8]) {
+fn tell(rt: &impl Print, line: &[u8], scratch: &mut [u8]) -> io::Result<()> {
     let mut rule = [0u8; RULE_SIZE + 1];
     let length = example_text::numbers(line, 2, &mut rule);
-    example_text::label(line);
-    answer_line(rules::inspect(&rule[..length], scratch));
+    example_text::label(rt, line)?;
+    answer_line(rt, rules::inspect(&rule[..length], scratch))
 }
 
 // An example asks for scratch of its full size, or for scratch that is a byte too short.
-fn run(line: &[u8], scratch: &mut [u8], short: &mut [u8]) {
+fn run(rt: &impl Print, line: &[u8], scratch: &mut [u8], short: &mut [u8]) -> io::Result<()> {
     match example_text::command(line) {
-        b'i' => tell(line, scratch),
-        b's' => tell(line, short),
-        _ => (),
+        b'i' => tell(rt, line, scratch),
+        b's' => tell(rt, line, short),
+        _ => Ok(()),
     }
 }
 
-fn run_all(text: &[u8], scratch: &mut [u8], short: &mut [u8]) {
+fn run_all(rt: &impl Print, text: &[u8], scratch: &mut [u8], short: &mut [u8]) -> io::Result<()> {
     for i in 0..text.len() {
-        run(example_text::part(text, b'\n', i), scratch, short);
+        run(rt, example_text::part(text, b'\n', i), scratch, short)?;
     }
+    Ok(())
 }
 
-fn main() {
+fn main(rt: HostRuntime) -> io::Result<()> {
     let mut scratch = [0u8; SCRATCH_SIZE];
     let mut short = [0u8; SCRATCH_SIZE - 1];
     run_all(
+        &rt,
         b"# The rules of document 01, a mark of W that is not linked, and a byte after W.\n\
         W: inspect: 2 0 0 0 1 2 0 1 1 0 0 0 3\n\
         M8: inspect: 2 1 0 0 0 1 0 0 0\n\
@@ -116,5 +128,5 @@ fn main() {
         an empty file, scratch of 65,535 bytes: short\n",
         &mut scratch,
         &mut short,
-    );
+    )
 }

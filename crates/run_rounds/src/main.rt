@@ -1,70 +1,88 @@
 // Runs `rules::reduce_rounds` over small rules with limits below, at and above the rounds that they need, and writes a line for each.
+#![tactic(auto)]
+
 use rules::{BLOCKS_SIZE, Partition, SCRATCH_SIZE};
+use std::io;
 
 // What is said, and the blocks of a rule's elements.
-fn partition_line(answer: Partition, rule: &[u8], blocks: &[u8]) {
+fn partition_line(
+    rt: &impl Print,
+    answer: Partition,
+    rule: &[u8],
+    blocks: &[u8],
+) -> io::Result<()> {
     match answer {
         Partition::Blocks { rounds, finished } => {
-            example_text::word_and(b"rounds ", rounds);
+            example_text::word_and(rt, b"rounds ", rounds)?;
             if finished {
-                example_text::word(b", finished");
+                example_text::word(rt, b", finished")?;
             }
-            example_text::row(b", blocks", blocks, example_text::byte_at(rule, 0) as usize);
-            example_text::word(b"\n");
+            example_text::row(
+                rt,
+                b", blocks",
+                blocks,
+                example_text::byte_at(rule, 0) as usize,
+            )?;
+            example_text::word(rt, b"\n")
         }
         Partition::Refused {
             refusal,
             input,
             place,
-        } => example_text::refused_line(rules::number(refusal), input, place),
+        } => example_text::refused_line(rt, rules::number(refusal), input, place),
     }
 }
 
-fn tell(rule: &[u8], limit: usize, scratch: &mut [u8]) {
+fn tell(rt: &impl Print, rule: &[u8], limit: usize, scratch: &mut [u8]) -> io::Result<()> {
     let mut blocks = [9u8; BLOCKS_SIZE];
     partition_line(
+        rt,
         rules::reduce_rounds(rule, limit, &mut blocks, scratch),
         rule,
         &blocks,
-    );
+    )
 }
 
 // The same with a byte too few for the blocks.
-fn tell_short(rule: &[u8], limit: usize, scratch: &mut [u8]) {
+fn tell_short(rt: &impl Print, rule: &[u8], limit: usize, scratch: &mut [u8]) -> io::Result<()> {
     let mut blocks = [9u8; 63];
     partition_line(
+        rt,
         rules::reduce_rounds(rule, limit, &mut blocks, scratch),
         rule,
         &blocks,
-    );
+    )
 }
 
-fn answer(line: &[u8], rule: &[u8], scratch: &mut [u8]) {
+fn answer(rt: &impl Print, line: &[u8], rule: &[u8], scratch: &mut [u8]) -> io::Result<()> {
     let limit = example_text::number(line, 3);
-    example_text::label(line);
+    example_text::label(rt, line)?;
     match example_text::command(line) {
-        b's' => tell_short(rule, limit, scratch),
-        _ => tell(rule, limit, scratch),
+        b's' => tell_short(rt, rule, limit, scratch),
+        _ => tell(rt, rule, limit, scratch),
     }
 }
 
-fn run(line: &[u8], scratch: &mut [u8]) {
+fn run(rt: &impl Print, line: &[u8], scratch: &mut [u8]) -> io::Result<()> {
     let mut rule = [0u8; 64];
     let length = example_text::numbers(line, 2, &mut rule);
     if example_text::command(line) != 0 {
-        answer(line, &rule[..length], scratch);
+        answer(rt, line, &rule[..length], scratch)?;
     }
+    Ok(())
 }
 
-fn run_all(text: &[u8], scratch: &mut [u8]) {
+fn run_all(rt: &impl Print, text: &[u8], scratch: &mut [u8]) -> io::Result<()> {
     for i in 0..text.len() {
-        run(example_text::part(text, b'\n', i), scratch);
+        run(rt, example_text::part(text, b'\n', i), scratch)?;
     }
+    Ok(())
 }
 
-fn main() {
+fn main(rt: HostRuntime) -> io::Result<()> {
     let mut scratch = [7u8; SCRATCH_SIZE];
     run_all(
+        &rt,
         b"W: rounds: 2 0 0 0 1 2 0 1 1 0 0 0 3: 0\n\
         W with all pairs: rounds: 2 0 0 0 1 2 0 1 3 0 0 0 3 0 1 3 1 1 3: 0\n\
         Z with letter 0 only: rounds: 2 0 1 1 0 1 1 1 0 0 0 3: 64\n\
@@ -84,5 +102,5 @@ fn main() {
         M8, limit 65: rounds: 2 1 0 0 0 1 0 0 0: 65\n\
         M8, limit 65, 63 bytes: short: 2 1 0 0 0 1 0 0 0: 65\n",
         &mut scratch,
-    );
+    )
 }

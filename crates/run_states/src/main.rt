@@ -1,70 +1,84 @@
 // Runs `rules::state_kind` and `rules::successors` over the automata of small rules, weak ones too, and writes a line for each.
-use rules::{SCRATCH_SIZE, SUCCESSORS_SIZE, StateKind, SuccessorList};
+#![tactic(auto)]
 
-fn kind_line(answer: StateKind) {
+use rules::{SCRATCH_SIZE, SUCCESSORS_SIZE, StateKind, SuccessorList};
+use std::io;
+
+fn kind_line(rt: &impl Print, answer: StateKind) -> io::Result<()> {
     match answer {
-        StateKind::Plain => example_text::word(b"plain\n"),
-        StateKind::Initial => example_text::word(b"initial\n"),
-        StateKind::Final => example_text::word(b"final\n"),
+        StateKind::Plain => example_text::word(rt, b"plain\n"),
+        StateKind::Initial => example_text::word(rt, b"initial\n"),
+        StateKind::Final => example_text::word(rt, b"final\n"),
         StateKind::Refused {
             refusal,
             input,
             place,
-        } => example_text::refused_line(rules::number(refusal), input, place),
+        } => example_text::refused_line(rt, rules::number(refusal), input, place),
     }
 }
 
-fn list_line(answer: SuccessorList, out: &[u8]) {
+fn list_line(rt: &impl Print, answer: SuccessorList, out: &[u8]) -> io::Result<()> {
     match answer {
         SuccessorList::Listed(count) => {
-            example_text::row(b"leads to", out, count);
-            example_text::word(b"\n");
+            example_text::row(rt, b"leads to", out, count)?;
+            example_text::word(rt, b"\n")
         }
         SuccessorList::Refused {
             refusal,
             input,
             place,
-        } => example_text::refused_line(rules::number(refusal), input, place),
+        } => example_text::refused_line(rt, rules::number(refusal), input, place),
     }
 }
 
-fn tell_list(rule: &[u8], s: usize, e: usize, letter: u8, scratch: &mut [u8]) {
+fn tell_list(
+    rt: &impl Print,
+    rule: &[u8],
+    s: usize,
+    e: usize,
+    letter: u8,
+    scratch: &mut [u8],
+) -> io::Result<()> {
     let mut out = [9u8; SUCCESSORS_SIZE];
     list_line(
+        rt,
         rules::successors(rule, s, e, letter, &mut out, scratch),
         &out,
-    );
+    )
 }
 
 // The last number of a line is the least grade for a kind, and the letter for the states that it leads to.
-fn answer(line: &[u8], rule: &[u8], scratch: &mut [u8]) {
+fn answer(rt: &impl Print, line: &[u8], rule: &[u8], scratch: &mut [u8]) -> io::Result<()> {
     let s = example_text::number(line, 3);
     let e = example_text::number(line, 4);
     let last = (example_text::number(line, 5) % 256) as u8;
-    example_text::label(line);
+    example_text::label(rt, line)?;
     match example_text::command(line) {
-        b'k' => kind_line(rules::state_kind(rule, s, e, last, scratch)),
-        _ => tell_list(rule, s, e, last, scratch),
+        b'k' => kind_line(rt, rules::state_kind(rule, s, e, last, scratch)),
+        _ => tell_list(rt, rule, s, e, last, scratch),
     }
 }
 
-fn run(line: &[u8], scratch: &mut [u8]) {
+fn run(rt: &impl Print, line: &[u8], scratch: &mut [u8]) -> io::Result<()> {
     let mut rule = [0u8; 64];
     let length = example_text::numbers(line, 2, &mut rule);
     if example_text::command(line) != 0 {
-        answer(line, &rule[..length], scratch);
+        answer(rt, line, &rule[..length], scratch)?;
     }
+    Ok(())
 }
 
-fn run_all(text: &[u8], scratch: &mut [u8]) {
+fn run_all(rt: &impl Print, text: &[u8], scratch: &mut [u8]) -> io::Result<()> {
     for i in 0..text.len() {
-        run(example_text::part(text, b'\n', i), scratch);
+        run(rt, example_text::part(text, b'\n', i), scratch)?;
     }
+    Ok(())
 }
 
-fn main() {
+fn main(rt: HostRuntime) -> io::Result<()> {
     let mut scratch = [7u8; SCRATCH_SIZE];
     run_all(
+        &rt,
         b"W (0, 0): kind: 2 0 0 0 1 2 0 1 1 0 0 0 3: 0: 0: 3\n\
         W (0, 1): kind: 2 0 0 0 1 2 0 1 1 0 0 0 3: 0: 1: 1\n\
         W (none, 1): kind: 2 0 0 0 1 2 0 1 1 0 0 0 3: 64: 1: 1\n\
@@ -90,5 +104,5 @@ fn main() {
         Z (0, 0) by 2: list: 2 0 1 1 0 2 1 0 1 0 0 0 3: 0: 0: 2\n\
         M8 (9, 9) by 9: list: 2 1 0 0 0 1 0 0 0: 9: 9: 9\n",
         &mut scratch,
-    );
+    )
 }

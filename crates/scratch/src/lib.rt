@@ -1,4 +1,5 @@
 // The map of scratch: where things begin in it, as specs/Map says.
+#![tactic(auto)]
 
 // A table of marks, a byte for each pair of up to 64 elements; an automaton's transitions, a byte for each triple.
 pub const MARK_TABLE_SIZE: usize = 4096;

@@ -1,4 +1,6 @@
 // Bytes held against a bound: the greatest of some, and the first that is not below it.
+#![tactic(auto)]
+
 ghost use Rattle.std.specs.Prelude.{◌+◌, ◌≤◌, length};
 ghost use Rattle.formats.proofs.Sections.{AllInRange};
 ghost use Rattle.section_bounds.specs.Answers.{FoundOut};

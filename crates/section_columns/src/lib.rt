@@ -1,5 +1,7 @@
 // Triples of bytes by their columns: mostly every byte of many triples is in its range, and the greatest and the least byte of each column
 // tell so faster than a search.
+#![tactic(auto)]
+
 ghost use Rattle.std.specs.Prelude.{◌≡◌, true, ◌+◌, ◌*◌, ◌≤◌, length};
 ghost use Rattle.section_columns.specs.Triples.{PlacesIn, SomeTriplesIn};
 

@@ -1,4 +1,6 @@
 // Entries that are triples of bytes, after a count of two bytes: the marks of a rule file, and the transitions of an automaton file.
+#![tactic(auto)]
+
 ghost use Rattle.std.specs.Prelude.{◌+◌, ◌*◌, ◌≤◌, ◌<◌, ◌^◌, length};
 ghost use Rattle.section_triples.specs.Ranges.{TriplesFound, TriplesAnswer};
 

@@ -1,5 +1,7 @@
 // Sections of the file formats: a count, then as many bytes as it asks for, each naming something that exists. What is left
 // of a file is handed on as a part of the lent bytes, with the place where that part begins.
+#![tactic(auto)]
+
 ghost use Rattle.std.specs.Prelude.{◌≡◌, ◌+◌, ◌≤◌, ◌<◌, ◌^◌, length, replicate};
 ghost use Rattle.formats.specs.Sections.{one_byte, two-byte};
 ghost use Rattle.sections.specs.Answers.{PartZeroed, CountAnswer, EntriesAnswer};

@@ -1,4 +1,6 @@
 // The part of a lasso's word that is left to read at a position (document 01: stretch).
+#![tactic(auto)]
+
 ghost use Rattle.std.specs.Prelude.{◌≡◌};
 ghost use Rattle.promises.specs.Stretch.{stretch_of, stretch_place, lasso_fits, stretch_numbers};
 

@@ -1,4 +1,6 @@
 // Whether a rule is strong: the call for the verdict alone.
+#![tactic(auto)]
+
 ghost use Rattle.promises.specs.Strong.{StrongPromise};
 
 use mark_strong::decide;

@@ -1,5 +1,7 @@
 // The calls on the automaton of a rule (document 02, Job 5): a caller walks it state by state. A state is (s, e), s an element or 64 for none
 // and e idempotent; every call checks the whole rule.
+#![tactic(auto)]
+
 ghost use Rattle.promises.specs.RuleAutomaton.{KindPromise, SuccessorsPromise};
 
 use answer::Refusal;

@@ -1,5 +1,7 @@
 // A rule summed up in numbers: how large it is, its linked pairs and classes, whether it is strong, and how large its reduction
 // is. Three calls in a row, on a rule that the first of them has checked; the lent work buffer holds what the others write.
+#![tactic(auto)]
+
 ghost use Rattle.promises.specs.Inspect.{RuleCounts};
 ghost use Rattle.promises.specs.Summary.{SummaryPromise};
 ghost use Rattle.summarize_call.specs.Steps.{CheckedNeeds, SizeFound, Measured};

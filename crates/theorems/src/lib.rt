@@ -1,5 +1,7 @@
 // The theorems: for each that the documents ask for, a function that does nothing and whose contract is the theorem's record. While these are
 // proved no theorem can be lost or weakened unseen; a lemma that nothing rests on could be. docs/THEOREMS.md has them in order.
+#![tactic(auto)]
+
 ghost use Rattle.promises.specs.OneAnswers.{OneAnswers};
 ghost use Rattle.board_promises.specs.OneAnswers.{BoardOneAnswers};
 ghost use Rattle.promises.specs.SmallestTheorem.{SmallestTheorem};

@@ -25,6 +25,7 @@ included_grades_elim {m} {marks} {marks'} law good good' t = record {
 }
   where
     at : (g : ℕ) → 1 ≤ g → g ≤ 3 → Included m (level g marks) (level g marks')
+    at Prim.Native.Nat.zero some h = elim some [ ]
     at (suc i) some h =
         included_elim law (level_linked law good some) (level_linked law good' some)
         (all_elim 3 (λ i. included_test m (level (suc i) marks) (level (suc i) marks')) t i (omega arith))

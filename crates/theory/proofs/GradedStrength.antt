@@ -34,6 +34,7 @@ module _ {m : Morphism} {marks : Marking} (law : Lawful m) (good : GradedMarks m
   strong_grades_elim t = levels_strong at
     where
       at : (g : ℕ) → 1 ≤ g → g ≤ 3 → Strong m (level g marks)
+      at Prim.Native.Nat.zero some h = elim some [ ]
       at (suc i) some h =
           strong_test_elim law (level_linked law good some)
           (all_elim 3 (λ i. strong_test m (level (suc i) marks)) t i (omega arith))

@@ -1,5 +1,7 @@
 // The call that makes the rule of `until` of two strong rules: the rule whose grade of a lasso is the highest, over the places of its endless word, of the
 // lowest of the second's grade from there on and the first's from each place before.
+#![tactic(auto)]
+
 ghost use Rattle.temporal_promises.specs.Until.{UntilPromise};
 ghost use Rattle.until_call.specs.Buffers.{LongBuffers, UntilLong};
 

@@ -1,4 +1,6 @@
 // A clamp in a byte: its lower end and four times its higher, grades 0 to 3 each; one clamp over another.
+#![tactic(auto)]
+
 ghost use Rattle.std.specs.Prelude.{◌≡◌, ◌<◌};
 ghost use Rattle.temporal.specs.Clamps.{clamp};
 ghost use Rattle.until_clamps.specs.Clamps.{over};

@@ -1,5 +1,7 @@
 // The grades of two strong rules at each context of the table of their pairs, as a clamp in a byte: the second's, and four times the higher of both. The
 // halves of the pairs stand as pair_list has them, and the closures of both rules' marks as two_rules leaves them.
+#![tactic(auto)]
+
 ghost use Rattle.std.specs.Prelude.{◌≡◌, ◌+◌, ◌*◌, max, ◌≤◌, ◌<◌, length};
 ghost use Rattle.theory.specs.Rules.{Lawful};
 ghost use Rattle.formats.proofs.Tables.{Table};

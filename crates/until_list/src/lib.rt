@@ -1,5 +1,7 @@
 // The classes of words for `until`: a search from the letters on, recorded as word_steps has it. The table of the pairs of two rules and the grades of both
 // at each context stand in scratch, as until_step has them.
+#![tactic(auto)]
+
 ghost use Rattle.until_list.specs.Adding.{AddNeeds, Added};
 ghost use Rattle.until_list.specs.Following.{LetterReady, EntryReady, EntryListed, ListReady, Followed, EntryFollowed, EntryGrown, UntilListed};
 

@@ -1,4 +1,6 @@
 // The grades of the pairs of classes for `until`: what the start's clamp makes of the lower end of the cycle's, both at the context of the cycle for ever.
+#![tactic(auto)]
+
 ghost use Rattle.std.specs.Prelude.{◌≡◌, ◌+◌, ◌*◌, ◌<◌};
 ghost use Rattle.scratch.specs.Map.{laid_marks_base};
 ghost use Rattle.scratch.specs.Rows.{RowFilled, RowsFilled};

@@ -1,4 +1,6 @@
 // The table of the pairs of two strong rules, and the grades of both at each context, laid out for `until`.
+#![tactic(auto)]
+
 ghost use Rattle.until_pairs.specs.Tables.{TableNeeds, TableLaid};
 
 use pair_table::{lay_images, lay_products};

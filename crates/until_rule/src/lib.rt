@@ -1,5 +1,7 @@
 // The rule of `until`, written, where the table of the pairs and the grades at each context stand in scratch: the list of the classes of words, the grades of
 // the pairs of classes, and their rule.
+#![tactic(auto)]
+
 ghost use Rattle.until_rule.specs.Writing.{UntilNeeds, UntilWritten};
 
 use until_list::{ClassCount, list_until};

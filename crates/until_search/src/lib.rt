@@ -1,5 +1,7 @@
 // One class for `until` looked up among those that are there, and stored behind them unless it is. The class that is worked out stands in scratch, as
 // until_step has it; its pair is handed in.
+#![tactic(auto)]
+
 ghost use Rattle.std.specs.Prelude.{◌≡◌, ◌+◌, ◌*◌, ◌<◌};
 ghost use Rattle.finite.specs.Tells.{Tells};
 ghost use Rattle.finite.specs.Each.{EachBelow};

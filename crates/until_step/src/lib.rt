@@ -3,6 +3,8 @@
 //
 // From byte 32768 on stand the grades of both rules at each context (t, z), as a clamp in a byte, at t * 64 + z; from byte 40960 on what the entry makes of
 // them, and from byte 36864 on the class. The classes themselves stand in a buffer of their own, 4096 bytes each, laid out alike.
+#![tactic(auto)]
+
 ghost use Rattle.std.specs.Prelude.{◌≡◌, ◌+◌, ◌*◌, ◌<◌};
 ghost use Rattle.scratch.specs.Map.{until_class_base, until_step_base};
 ghost use Rattle.scratch.specs.Rows.{RowFilled, RowsFilled};

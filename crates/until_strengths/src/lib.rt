@@ -1,4 +1,6 @@
 // Two checked rules: letter counts compared and both strengths decided, then what until_strong makes of two strong rules.
+#![tactic(auto)]
+
 ghost use Rattle.until_strong.specs.Steps.{UntilOwn};
 ghost use Rattle.until_strengths.specs.Steps.{BothReady};
 

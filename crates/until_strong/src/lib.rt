@@ -1,5 +1,7 @@
 // `until` of two strong rules over the same letters: the table of their pairs and their grades, and the rule of the classes of words, written from the closures
 // of their marks; or too many pairs, or too many classes.
+#![tactic(auto)]
+
 ghost use Rattle.std.specs.Prelude.{◌≡◌};
 ghost use Rattle.until_strong.specs.Steps.{formed_of, UntilReady, UntilOwn};
 

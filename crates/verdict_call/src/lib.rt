@@ -1,6 +1,8 @@
 // The verdict of a monitor (document 01: follower's verdict): the grade of the lassos whose start has the value before and whose cycle
 // has the value since; where before is none, of those that are their cycle alone. It is for strong rules only, where those lassos all
 // have one grade.
+#![tactic(auto)]
+
 ghost use Rattle.std.specs.Prelude.{◌≡◌};
 ghost use Rattle.verdict_call.specs.Judging.{ValuesAnswer, start_element};
 ghost use Rattle.promises.specs.Verdict.{VerdictPromise};

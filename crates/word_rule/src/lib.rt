@@ -1,5 +1,7 @@
 // The rule of recorded classes of words, written: its table is laid out along the words, and of the grades that stand for its pairs from byte 24576 on
 // those of linked pairs stay for marks.
+#![tactic(auto)]
+
 ghost use Rattle.std.specs.Prelude.{◌+◌, ◌*◌, ◌<◌};
 ghost use Rattle.scratch.specs.Map.{laid_marks_base};
 ghost use Rattle.scratch.specs.Rows.{RowFilled, RowsFilled};

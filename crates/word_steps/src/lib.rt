@@ -3,6 +3,8 @@
 // The search goes by entries: entry 0 is the empty word, entry j + 1 is class j. From byte 12288 on stands the number of the class that each letter
 // leads to from each entry, 16 bytes an entry; from byte 14336 on the entry from which each class was found, and from byte 15360 on the letter by
 // which. What a class is stands elsewhere, and nothing here knows it.
+#![tactic(auto)]
+
 ghost use Rattle.word_steps.specs.Records.{RecordNeeds, StepRecorded};
 
 use scratch::{STEP_LETTERS_BASE, STEP_PARENTS_BASE, STEPS_BASE};

@@ -1,6 +1,8 @@
 // The table of the classes of words that word_steps recorded: the number of each product, laid out in scratch as specs/Laying says.
 //
 // No class is looked at. A class that a letter makes of an entry p is found along that step: x · (p · g) is (x · p) · g.
+#![tactic(auto)]
+
 ghost use Rattle.std.specs.Prelude.{◌+◌, ◌*◌, ◌<◌};
 ghost use Rattle.word_table.specs.Laying.{TableNeeds, RowLaid, AlongWord};
 ghost use Rattle.scratch.specs.Map.{laid_products_base};

@@ -14,14 +14,14 @@ pub fn archive() -> PathBuf {
     .join("libexports.a")
 }
 
-/// The program `duknavet`, which `rt check duknavet` writes beside the archive's directory.
+/// The program `duknavet`, as `rt ci` or `rt run` leaves it in the folder of its crate.
 #[allow(dead_code)]
 pub fn program() -> PathBuf {
-    let archive = archive();
-    let program = archive.with_file_name("../bin/duknavet");
+    let package = Path::new(env!("CARGO_MANIFEST_DIR"));
+    let program = package.join("../../crates/duknavet/out/duknavet");
     assert!(
         program.is_file(),
-        "there is no {}: run `rt check duknavet` at the root of the repository",
+        "there is no {}: run `rt run` in crates/duknavet",
         program.display()
     );
     program

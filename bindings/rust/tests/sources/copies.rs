@@ -45,10 +45,11 @@ fn made_up(code: &str) -> Repository {
     Repository::made_up(&[
         (
             "crates.txt",
-            "# made up\nengine: sizes\nsizes:\nrules: engine\nexports: rules\nrun: rules\n",
+            "# made up\nengine: sizes\nsizes:\nrules: engine\nexports: rules\nexports_c staticlib: exports\nrun: rules\n",
         ),
         ("rules/src/lib.rt", "pub use engine::call;\n"),
         ("exports/src/lib.rt", ""),
+        ("exports_c/src/lib.rt", ""),
         (
             "sizes/src/lib.rt",
             "pub const ROW: usize = 64;\npub const TABLE: usize = ROW * ROW;\npub struct Row {\n    pub bytes: [u8; ROW],\n}\n",
@@ -84,7 +85,7 @@ const READY: [u8; 6561] = [0; 6561];
 // [0u8; 4096]
 pub struct Pair(Row, [u8; 4000]);
 fn below(table: &[u8], rows: [[u8; ROW]; 63], last: &[u8; 4095]) -> [u64; 511]
-    ensures { λ r. ⌜ r ≡ [u8; 4096] ⌝ }
+    ensures { result ≡ [u8; 4096] }
 {
     let small = [Row { bytes: [0; 64] }; 63];
     other(&READY, table[4096]);
@@ -97,7 +98,7 @@ fn below(table: &[u8], rows: [[u8; ROW]; 63], last: &[u8; 4095]) -> [u64; 511]
     let sizes = Sizes::of(&repository, &library);
     let found = (sizes.crates.len(), sizes.arrays, sizes.structs, sizes.enums);
     // ROW's, 4000; [u8; ROW], 63, 4095, 511; of Row, 64, 511
-    assert_eq!(found, (4, 9, 2, 0));
+    assert_eq!(found, (5, 9, 2, 0));
 }
 
 #[test]
@@ -251,10 +252,14 @@ fn a_large_constant_that_a_second_function_names_is_found() {
 #[test]
 fn a_file_that_is_not_read_is_found() {
     let files = [
-        ("crates.txt", "rules:\nexports: rules engine\nengine:\n"),
+        (
+            "crates.txt",
+            "rules:\nexports: rules engine\nexports_c staticlib: exports\nengine:\n",
+        ),
         ("rules/src/lib.rt", ""),
         ("rules/src/other.rt", ""),
         ("exports/src/lib.rt", ""),
+        ("exports_c/src/lib.rt", ""),
     ];
     let repository = Repository::made_up(&files);
     let library = Library::of(&repository);
@@ -272,7 +277,7 @@ fn a_product_that_is_not_read_from_the_lent_table_is_found() {
     let product = |kind: &str, body: &str| {
         let text = format!(
             "pub fn product(rule: {kind}, n: usize, a: usize, b: usize) -> usize
-    ensures {{ λ r. ⌜ r ≡ productAt (now (rule .entry)) n a b ⌝ }}
+    ensures {{ result ≡ product_at rule.now n a b }}
 {{
     {body}
 }}
@@ -299,7 +304,7 @@ fn a_product_that_is_not_read_from_the_lent_table_is_found() {
         found(false)
     );
     let second = "rule[0] as usize\n}\nfn again(rule: &[u8]) -> usize
-    ensures { λ r. ⌜ r ≡ productAt (now (rule .entry)) 1 0 0 ⌝ }
+    ensures { result ≡ product_at rule.now 1 0 0 }
 {\n    product(rule, 1, 0, 0)";
     assert_eq!(product("&[u8]", second).len(), 2);
 }

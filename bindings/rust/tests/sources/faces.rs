@@ -29,10 +29,11 @@ fn names(source: &str, name: &str) -> bool {
 #[test]
 fn programs_name_only_the_public_library() {
     let repository = Repository::here();
-    // The board is a product above the library, and has a program of its own.
+    // The board and the rules of formulas are products above the library, and have programs of their own.
     let allowed = |program: &str, name: &str| match name {
         "rules" | "example_text" => true,
         "board" => program.starts_with("run_boards/"),
+        "formula_call" => program.starts_with("run_formulas/"),
         _ => false,
     };
     let mut programs = 0;
@@ -76,12 +77,16 @@ const PROMISED: [&str; 6] = [
     "board_promises",
 ];
 
-/// The crates that the `use` lines of a file of antt name.
+/// The crate of the toolchain whose words every file may use.
+const STD: &str = "std";
+
+/// The crates of this repository that the `use` lines of a file of antt name.
 fn homes(text: &str) -> impl Iterator<Item = &str> {
     let uses = text
         .lines()
-        .filter_map(|line| line.strip_prefix("use Rattle·"));
-    uses.map(|rest| rest.split(['.', '·']).next().unwrap_or(""))
+        .filter_map(|line| line.strip_prefix("use Rattle."));
+    let homes = uses.map(|rest| rest.split('.').next().unwrap_or(""));
+    homes.filter(|home| *home != STD)
 }
 
 #[test]
@@ -271,9 +276,12 @@ fn one_version() {
 #[test]
 fn arguments_are_declared_as_they_are_exported() {
     let repository = Repository::here();
-    let exports = repository.text(&format!("exports{LIBRARY}"));
-    let exports = declared(exports.expect("the exports"), "extern \"C\" fn", typed);
+    let code = |home: &str| repository.text(&format!("{home}{LIBRARY}"));
+    let linked = code("exports_c").expect("what the archive has");
+    let exports = declared(linked, "extern \"C\" fn", typed);
     assert!(exports.len() > 19, "only {} exports", exports.len());
+    let proved = code("exports").expect("the exports");
+    assert_eq!(declared(proved, "fn", typed), exports);
     let header = include_str!("../../../../include/duknavet.h");
     assert_eq!(declared(header, "\nuint64_t", of_header), exports);
     let raw = include_str!("../../src/raw.rs");

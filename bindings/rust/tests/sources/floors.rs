@@ -83,7 +83,9 @@ fn promises_rest_on_their_floors() {
     let board = Walk::over(&sources, &FLOORS_OF_BOARD)
         .follow_face("board")
         .follow_crate("board");
-    let exports = Walk::over(&sources, &FLOORS_OF_EXPORTS).follow_crate("exports");
+    let exports = Walk::over(&sources, &FLOORS_OF_EXPORTS)
+        .follow_crate("exports")
+        .follow_crate("exports_c");
     let theorems =
         Walk::over(&sources, &FLOORS_OF_THEOREMS).follow_all_but("theorems", &OF_THE_ENGINE);
     let faults: std::collections::BTreeSet<&String> = [&calls, &board, &exports, &theorems]
@@ -114,11 +116,11 @@ const SOUND: [(&str, &str); 6] = [
     (
         "engine/src/lib.rt",
         "use promises::Answer;
-ghost use Rattle·promises.specs.Call.{Promise};
+ghost use Rattle.promises.specs.Call.{Promise};
 
 // Says yes.
 pub fn call(rule: &[u8], room: [u8; 2]) -> Answer
-    ensures { λ r. ⌜ Promise (now (rule .entry)) r ⌝ }
+    ensures { Promise rule.now result }
 {
     Answer::Yes
 }
@@ -132,11 +134,10 @@ pub fn call(rule: &[u8], room: [u8; 2]) -> Answer
     (
         "promises/specs/Call.antt",
         "-- What `call` promises, not Stray.
-use Prim.Native.Nat.{ℕ, _+_}
-use mathlib.Core.List.{List, [], _∷_}
-use Rattle·theory.specs.Words.{Word as Text, _before_}
-use Rattle·promises·specs.specs.declared.Answer.{Answer}
-use Rattle·promises·specs.specs.declared.Answer.the-variants.{Yes, Refused}
+use Rattle.std.specs.Prelude.{ℕ, ◌+◌, List, [], ◌∷◌}
+use Rattle.theory.specs.Words.{Word as Text, ◌before◌}
+use Rattle.promises.specs.declared.Answer.{Answer}
+use Rattle.promises.specs.declared.Answer.TheVariants.{Yes, Refused}
 
 pub record Promise (bytes : List ℕ) (answer : Answer) : Type 0 where
   pub said : Said bytes answer
@@ -149,13 +150,13 @@ Said (x ∷ rest) (Refused refusal) = (λ y. y before x) x
     ),
     (
         "theory/specs/Words.antt",
-        "use Prim.Native.Nat.{ℕ}
+        "use Rattle.std.specs.Prelude.{ℕ}
 
 pub data Word : ℕ → Type 0 where
   one two : {n : ℕ} → Word n
-  deriving Discrete as Word-discrete
+  deriving Discrete as Word_discrete
 
-pub _before_ : ℕ → ℕ → Type 0
+pub ◌before◌ : ℕ → ℕ → Type 0
 a before b = Word a
 ",
     ),
@@ -186,11 +187,11 @@ fn turned(path: &str, old: &str, new: &str) -> String {
     text.replacen(old, new, 1)
 }
 
-const STRAY: &str = "use Prim.Native.Nat.{ℕ}\n\npub Stray : ℕ → Type 0\nStray n = ⊥\n";
+const STRAY: &str = "use Rattle.std.specs.Prelude.{ℕ}\n\npub Stray : ℕ → Type 0\nStray n = ⊥\n";
 
 #[test]
 fn a_sound_promise_has_no_fault() {
-    // Promise, Said, Word, _before_; Answer and Refusal
+    // Promise, Said, Word, ◌before◌; Answer and Refusal
     assert_eq!(walked(&[]), (Vec::new(), 6));
 }
 
@@ -201,28 +202,28 @@ fn a_definition_of_another_crate_is_found() {
         "theory.specs.Words.{Word as Text",
         "engine.specs.Words.{Stray as Text",
     );
-    let call = call.replace(", _before_}", "}\nuse Rattle·theory.specs.Words.{_before_}");
+    let call = call.replace(", ◌before◌}", "}\nuse Rattle.theory.specs.Words.{◌before◌}");
     one_fault(
         &[
             ("promises/specs/Call.antt", &call),
             ("engine/specs/Words.antt", STRAY),
         ],
         "Stray (crates/engine/specs/Words.antt:3): stands on no floor",
-        "Said (crates/promises/specs/Call.antt:12) names it",
+        "Said (crates/promises/specs/Call.antt:11) names it",
     );
 }
 
 #[test]
 fn a_definition_of_proofs_is_found() {
     let words = turned("theory/specs/Words.antt", "= Word a", "= Stray a");
-    let words = format!("use Rattle·theory.proofs.Words.{{Stray}}\n{words}");
+    let words = format!("use Rattle.theory.proofs.Words.{{Stray}}\n{words}");
     one_fault(
         &[
             ("theory/specs/Words.antt", &words),
             ("theory/proofs/Words.antt", STRAY),
         ],
         "Stray (crates/theory/proofs/Words.antt:3): stands on no floor",
-        "_before_ (crates/theory/specs/Words.antt:8) names it",
+        "◌before◌ (crates/theory/specs/Words.antt:8) names it",
     );
 }
 
@@ -231,16 +232,16 @@ fn a_definition_of_a_promise_itself_is_found() {
     let engine = turned(
         "engine/src/lib.rt",
         "promises.specs.Call",
-        "engine·specs.specs.Call",
+        "engine.specs.Call",
     );
-    let call = "use Prim.Native.Nat.{ℕ}\nuse mathlib.Core.List.{List}\nuse Rattle·promises.specs.declared.Answer.{Answer}\n
+    let call = "use Rattle.std.specs.Prelude.{ℕ, List}\nuse Rattle.promises.specs.declared.Answer.{Answer}\n
 pub record Promise (bytes : List ℕ) (answer : Answer) : Type 0 where\n  pub said : ⊥\n";
     one_fault(
         &[
             ("engine/src/lib.rt", &engine),
             ("engine/specs/Call.antt", call),
         ],
-        "Promise (crates/engine/specs/Call.antt:5): stands on no floor",
+        "Promise (crates/engine/specs/Call.antt:4): stands on no floor",
         "call (crates/engine/src/lib.rt:5) names it",
     );
 }
@@ -249,16 +250,17 @@ pub record Promise (bytes : List ℕ) (answer : Answer) : Type 0 where\n  pub sa
 fn an_operator_of_another_crate_is_found() {
     let call = turned(
         "promises/specs/Call.antt",
-        ", _before_}",
-        "}\nuse Rattle·engine.specs.Order.{_before_}",
+        ", ◌before◌}",
+        "}\nuse Rattle.engine.specs.Order.{◌before◌}",
     );
-    let order = "use Prim.Native.Nat.{ℕ}\n\npub _before_ : ℕ → ℕ → Type 0\n_before_ a b = ⊥\n";
+    let order =
+        "use Rattle.std.specs.Prelude.{ℕ}\n\npub ◌before◌ : ℕ → ℕ → Type 0\n◌before◌ a b = ⊥\n";
     one_fault(
         &[
             ("promises/specs/Call.antt", &call),
             ("engine/specs/Order.antt", order),
         ],
-        "_before_ (crates/engine/specs/Order.antt:3): stands on no floor",
+        "◌before◌ (crates/engine/specs/Order.antt:3): stands on no floor",
         "names it",
     );
 }
@@ -269,14 +271,14 @@ fn a_name_passed_on_is_found_where_it_stands() {
     let words = words
         .replace("Word n", "Term n")
         .replace("= Word a", "= Term a");
-    let words = format!("pub use Rattle·engine.specs.Words.{{Stray as Word}}\n{words}");
+    let words = format!("pub use Rattle.engine.specs.Words.{{Stray as Word}}\n{words}");
     one_fault(
         &[
             ("theory/specs/Words.antt", &words),
             ("engine/specs/Words.antt", STRAY),
         ],
         "Stray (crates/engine/specs/Words.antt:3): stands on no floor",
-        "Said (crates/promises/specs/Call.antt:11) names it",
+        "Said (crates/promises/specs/Call.antt:10) names it",
     );
 }
 
@@ -285,7 +287,7 @@ fn a_definition_by_its_whole_way_is_found() {
     let words = turned(
         "theory/specs/Words.antt",
         "= Word a",
-        "= Rattle·engine.specs.Words.Stray a",
+        "= Rattle.engine.specs.Words.Stray a",
     );
     one_fault(
         &[
@@ -324,13 +326,13 @@ fn a_name_that_nothing_has_is_found() {
     let words = turned("theory/specs/Words.antt", "= Word a", "= Wort a");
     one_fault(
         &[("theory/specs/Words.antt", &words)],
-        "_before_ (crates/theory/specs/Words.antt:7): nothing has the name Wort",
+        "◌before◌ (crates/theory/specs/Words.antt:7): nothing has the name Wort",
         "",
     );
     let call = turned("promises/specs/Call.antt", "{Word as Text", "{Wort as Text");
     one_fault(
         &[("promises/specs/Call.antt", &call)],
-        "Said (crates/promises/specs/Call.antt:11): Rattle·theory.specs.Words.Wort is not there",
+        "Said (crates/promises/specs/Call.antt:10): Rattle.theory.specs.Words.Wort is not there",
         "",
     );
     let call = turned(
@@ -341,7 +343,7 @@ fn a_name_that_nothing_has_is_found() {
     let call = call.replace("Said bytes Yes", "Said bytes No");
     one_fault(
         &[("promises/specs/Call.antt", &call)],
-        "Said (crates/promises/specs/Call.antt:11): Rattle·promises·specs.specs.declared.Answer.the-variants.No is not there",
+        "Said (crates/promises/specs/Call.antt:10): Rattle.promises.specs.declared.Answer.TheVariants.No is not there",
         "",
     );
     let face = "pub use engine::call;\npub use engine::other;\n";
@@ -357,14 +359,14 @@ fn a_form_that_is_not_read_is_found() {
     let words = turned(
         "theory/specs/Words.antt",
         "pub data",
-        "ruleset Words·simp = (one)\n\npub data",
+        "ruleset Words_simp = (one)\n\npub data",
     );
     one_fault(
         &[("theory/specs/Words.antt", &words)],
         "crates/theory/specs/Words.antt:3: ruleset is not read here",
         "",
     );
-    let face = "pub use engine::call;\npub use promises::{Answer};\n";
+    let face = "pub use engine::call;\npub use promises::*;\n";
     one_fault(
         &[("rules/src/lib.rt", face)],
         "crates/rules/src/lib.rt:2: use is not read here",

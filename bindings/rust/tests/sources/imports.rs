@@ -2,7 +2,7 @@
 
 use std::collections::{BTreeMap, HashSet};
 
-use super::reading::code::Code;
+use super::reading::code::{Code, CodeImport};
 use super::reading::module::{Import, Module};
 use super::reading::names::pattern_words;
 use super::reading::repository::Repository;
@@ -39,12 +39,32 @@ impl Written {
             return true;
         }
         // Not written, but meant: `do` stands for the two operators that join its lines.
-        if ["_>>=_", "_>>_"].contains(&name) {
+        if ["◌>>=◌", "◌>>◌"].contains(&name) {
             return self.words.contains("do");
         }
         let parts = parts(name);
         !parts.is_empty() && parts.iter().all(|part| self.words.contains(*part))
     }
+}
+
+/// Traits of the toolchain are not written where they are meant: one of these methods of each is.
+const METHODS: [(&str, &[&str]); 3] = [
+    (
+        "BufRead",
+        &["read_line", "read_until", "lines", "split", "fill_buf"],
+    ),
+    ("Read", &["read", "read_to_end", "read_exact", "bytes"]),
+    ("Write", &["write", "write_all", "flush"]),
+];
+
+/// Whether code writes what a `use` item brings in, or means it.
+fn is_written(code: &Code, import: &CodeImport) -> bool {
+    let written = |name: &str| code.identifiers.iter().any(|own| own == name);
+    let mut methods = METHODS
+        .iter()
+        .filter(|(name, _)| import.home == "std" && import.item == *name)
+        .flat_map(|(_, methods)| *methods);
+    written(&import.item) || methods.any(|method| written(method))
 }
 
 /// The faults of all files: names brought in and not written, and `use` lines that cannot be read.
@@ -80,7 +100,7 @@ fn faults(repository: &Repository) -> Vec<String> {
             .filter(|import| !written.has(import));
         found.extend(idle.map(|import| idle_fault(path, import.line, &import.name)));
         let own = code.imports.iter().filter(|import| !import.passed_on);
-        let idle = own.filter(|import| !code.identifiers.contains(&import.item));
+        let idle = own.filter(|import| !is_written(&code, import));
         found.extend(idle.map(|import| idle_fault(path, import.line, &import.item)));
     }
     found
@@ -109,21 +129,8 @@ fn every_name_brought_in_is_written() {
 }
 
 /// Constructors of the toolchain: a pattern has them, and does not bind them.
-const CONSTRUCTORS: [&str; 14] = [
-    "zero",
-    "suc",
-    "true",
-    "false",
-    "inl",
-    "inr",
-    "refl",
-    "yes",
-    "no",
-    "tt",
-    "[]",
-    "∷",
-    "List·Memᴰ·head",
-    "List·Memᴰ·tail",
+const CONSTRUCTORS: [&str; 12] = [
+    "zero", "suc", "true", "false", "inl", "inr", "refl", "yes", "no", "tt", "[]", "∷",
 ];
 
 /// Names that are brought in and that a pattern binds all the same: there they mean something else.
@@ -142,7 +149,7 @@ fn rebound(repository: &Repository) -> Vec<String> {
     let mut found = Vec::new();
     for (path, module) in &modules {
         let functions = module.imports.iter().filter(|import| {
-            let variant = import.path.iter().any(|word| word == "the-variants");
+            let variant = import.path.iter().any(|word| word == "TheVariants");
             let item = import.item.as_deref().unwrap_or("");
             !variant && parts(item).is_empty() && !constructors.contains(item)
         });
@@ -177,11 +184,12 @@ fn no_name_brought_in_is_bound() {
 
 #[test]
 fn a_library_name_bound_in_a_pattern_is_found() {
-    let text = "use lib.ListN.{length}
-use made.Answers.{Rule, none}
+    let text = "use Rattle.std.specs.Prelude.{length}
+use made.Answers.{Answer, Rule, none}
 
 told : Answer → ℕ
 told (Rule length) = length
+told Answer.none = 0
 told none = 0
 ";
     let answers = "data Answer : Type 0 where
@@ -212,8 +220,8 @@ fn idle_in_module(text: &str) -> Vec<String> {
 #[test]
 fn an_idle_name_is_found() {
     let text = "-- With sym in a comment.
-use mathlib.Core.Path.{_≡_, refl, sym}
-use Rattle·sym.specs.Other.{first as second, third as fourth}
+use mathlib.Core.Path.{◌≡◌, refl, sym}
+use Rattle.sym.specs.Other.{first as second, third as fourth}
 
 same : (n : ℕ) → n ≡ first n -- refl, {- sym -}
 same n = fourth {- sym -} n
@@ -228,13 +236,13 @@ same n = fourth {- sym -} n
 
 #[test]
 fn an_idle_operator_is_found() {
-    let text = "use Prim.Native.Nat.{ℕ, _+_, _*_, _-_, _<_, _≤_}
-use made.Logic.{if_then_else_, when_do_}
+    let text = "use Rattle.std.specs.Prelude.{ℕ, ◌+◌, ◌*◌, ◌-◌, ◌<◌, ◌≤◌}
+use made.Logic.{if◌then◌else◌, when◌do◌}
 
-small : (n : ℕ) → n < ap (_+ 1) (if n then n-1 else n)
-small n = when _≤_ n n
+small : (n : ℕ) → n < ap (◌+ 1) (if n then n-1 else n)
+small n = when ◌≤◌ n n
 ";
-    assert_eq!(idle_in_module(text), ["_*_", "_-_", "when_do_"]);
+    assert_eq!(idle_in_module(text), ["◌*◌", "◌-◌", "when◌do◌"]);
 }
 
 #[test]
@@ -263,29 +271,34 @@ both second = one
 #[test]
 fn what_is_passed_on_or_meant_is_not_idle() {
     let text = "pub use made.First.{one}
-use made.Second.{_>>=_, _>>_}
+use made.Second.{◌>>=◌, ◌>>◌}
 
 two : State
 two = do one
 ";
     assert_eq!(idle_in_module(text), [] as [&str; 0]);
     let without = text.replace("do one", "one");
-    assert_eq!(idle_in_module(&without), ["_>>=_", "_>>_"]);
+    assert_eq!(idle_in_module(&without), ["◌>>=◌", "◌>>◌"]);
 }
 
 #[test]
 fn idle_imports_of_code_are_found() {
     let text = "// Refusal
 use answer::Refusal;
-use answer::number;
+use answer::{number, none};
+use std::fs::{self, File};
+use std::io::{BufRead, Read, Write};
+use answer::Read;
 pub use answer::Passed;
-ghost use Prim.Native.Nat.{_<_, _≤_};
-ghost use lib.ListN.{length};
+ghost use Rattle.std.specs.Prelude.{◌<◌, ◌≤◌};
+ghost use Rattle.std.specs.Prelude.{length};
 
 pub fn short(bytes: &[u8]) -> [u8; 2]
-    requires { ⌜ 1 ≤ 2 ⌝ } // length
+    requires { 1 ≤ 2 } // length
 {
     let length = \"number\";
+    none(fs::open(file.read_to_end()));
+    out.write_all(bytes);
     if 1 < 2 {
         return 3;
     }
@@ -293,14 +306,14 @@ pub fn short(bytes: &[u8]) -> [u8; 2]
 ";
     assert_eq!(
         idle("made/src/lib.rt", text),
-        ["_<_", "length", "Refusal", "number"]
+        ["◌<◌", "length", "Refusal", "number", "File", "BufRead", "Read"]
     );
 }
 
 #[test]
 fn a_use_that_cannot_be_read_is_found() {
     assert_eq!(
-        idle("made/src/lib.rt", "use answer::{Refusal, number};\n"),
+        idle("made/src/lib.rt", "use answer::{Refusal, *};\n"),
         ["use"]
     );
     assert_eq!(idle_in_module("use made.First.{one\n"), ["use"]);

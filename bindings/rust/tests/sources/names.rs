@@ -2,6 +2,7 @@
 
 use std::collections::BTreeMap;
 
+use super::reading::code::Code;
 use super::reading::repository::Repository;
 
 /// The crates whose definitions say what is promised.
@@ -21,12 +22,11 @@ const SHARED: [&str; 1] = ["Stored"];
 fn each_call_stands_in_a_crate_that_ends_so() {
     let repository = Repository::here();
     let face = repository.text("rules/src/lib.rt").expect("the face");
-    let calls = face.lines().filter_map(|line| {
-        let path = line.strip_prefix("pub use ")?.strip_suffix(';')?;
-        let (home, name) = path.split_once("::")?;
-        let call = name.starts_with(|first: char| first.is_ascii_lowercase());
-        call.then_some((home, name))
-    });
+    let code = Code::read(face);
+    let passed = code.imports.iter().filter(|import| import.passed_on);
+    let calls = passed.map(|import| (import.home.as_str(), import.item.as_str()));
+    let calls =
+        calls.filter(|(_, name)| name.starts_with(|first: char| first.is_ascii_lowercase()));
     let (found, others): (Vec<_>, Vec<_>) = calls.partition(|(home, _)| home.ends_with("_call"));
     assert!(found.len() > 25, "{found:?}");
     // The number of a refusal stands beside the refusals.
@@ -78,17 +78,17 @@ fn a_name_of_the_promises_stands_once() {
 #[test]
 fn a_name_that_stands_twice_is_told() {
     let repository = Repository::made_up(&[
-        ("promises/specs/Moves.antt", "abbrev pub eventChecks : ℕ\n"),
+        ("promises/specs/Moves.antt", "abbrev pub event_checks : ℕ\n"),
         (
             "board/specs/Checks.antt",
-            "pub record eventChecks : Type 0 where\n  pub at : ℕ\n",
+            "pub record event_checks : Type 0 where\n  pub at : ℕ\n",
         ),
         ("board/specs/Other.antt", "pub record Own : Type 0 where\n"),
         ("rules/specs/Other.antt", "pub record Own : Type 0 where\n"),
     ]);
     let told = doubled(&repository);
     assert!(
-        told.len() == 1 && told[0].starts_with("eventChecks: "),
+        told.len() == 1 && told[0].starts_with("event_checks: "),
         "{told:?}"
     );
 }

@@ -52,7 +52,7 @@ impl Layout {
     }
 }
 
-/// What was found in the library: `rules`, `exports` and every crate below them.
+/// What was found in the library: `rules`, `exports_c` and every crate below them.
 pub struct Sizes<'a> {
     library: &'a Library,
     pub crates: BTreeSet<&'a str>,
@@ -66,7 +66,7 @@ impl<'a> Sizes<'a> {
     pub fn of(repository: &'a Repository, library: &'a Library) -> Sizes<'a> {
         let mut sizes = Sizes {
             library,
-            crates: repository.with_all_below(&["rules", "exports"]),
+            crates: repository.with_all_below(&["rules", "exports_c"]),
             arrays: 0,
             structs: 0,
             enums: 0,
@@ -329,7 +329,7 @@ impl<'a> Sizes<'a> {
         }
     }
 
-    /// The functions that promise a product of the lent table, by crate: their answer is `productAt` of a table. Of each, whether its
+    /// The functions that promise a product of the lent table, by crate: their answer is `product_at` of a table. Of each, whether its
     /// body is that one byte, read from the lent slice of which the promise speaks.
     pub fn products(&self) -> Vec<(String, bool)> {
         let mut found = Vec::new();
@@ -368,16 +368,16 @@ fn arrays(written: &[Token]) -> Vec<&[Token]> {
     found
 }
 
-/// The parameter that `table` is in `ensures { λ r. ⌜ r ≡ productAt (now (table .entry)) .. ⌝ }`; empty where it is written otherwise.
+/// The parameter that `table` is in `ensures { result ≡ product_at table.now .. }`; empty where it is written otherwise.
 fn promised_table(function: &Function) -> Option<String> {
     for clause in &function.ensures {
         let words: Vec<&str> = clause.iter().map(|word| word.text.as_str()).collect();
         let at = words
             .windows(3)
-            .position(|three| three == ["r", "≡", "productAt"]);
+            .position(|three| three == ["result", "≡", "product_at"]);
         if let Some(at) = at {
             return Some(match words[at + 3..] {
-                ["(", "now", "(", table, ".", "entry", ")", ")", ..] => table.to_string(),
+                [table, ".", "now", ..] => table.to_string(),
                 _ => String::new(),
             });
         }

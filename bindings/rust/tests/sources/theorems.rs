@@ -75,10 +75,10 @@ fn faults(page: &str, repository: &Repository) -> Vec<String> {
     found
 }
 
-/// Whether a clause is a record by itself, `λ r. ⌜ Record ⌝`.
+/// Whether a clause is a record by itself, `{ Record }`.
 fn clause_says(clause: &[super::reading::words::Word], record: &str) -> bool {
     let words: Vec<&str> = clause.iter().map(|word| word.text.as_str()).collect();
-    words.ends_with(&["⌜", record, "⌝"])
+    words == [record]
 }
 
 fn page() -> String {

@@ -17,8 +17,14 @@ const TOOLCHAIN: [&str; 7] = [
     "Prim", "mathlib", "native", "lib", "borrow", "denote", "mir",
 ];
 
-/// What every clause is lent by the toolchain.
-const LENT: [&str; 3] = ["now", "⌜", "⌝"];
+/// Before the name of a crate of this repository, or of one of the toolchain's.
+const CRATES: &str = "Rattle";
+
+/// The crate of the toolchain in whose words promises are written.
+const STD: &str = "std";
+
+/// What every clause is lent by the toolchain: what the function answers.
+const LENT: [&str; 1] = ["result"];
 
 /// Where a name leads.
 #[derive(Clone, Debug, PartialEq, Eq, PartialOrd, Ord)]
@@ -54,7 +60,7 @@ impl Sources {
             Some(module) => &module.imports,
             None => &self.library.at(path).expect("a file").ghost_imports,
         };
-        // a whole way, as `Rattle·answer.specs.Checks.Check`, or one that begins with a module brought in
+        // a whole way, as `Rattle.answer.specs.Checks.Check`, or one that begins with a module brought in
         if let Some((item, between)) = used.members.split_last() {
             let brought = imports
                 .iter()
@@ -62,7 +68,7 @@ impl Sources {
             let start = match brought {
                 Some(import) => Some(import.path.clone()),
                 None if TOOLCHAIN.contains(&used.name.as_str()) => Some(vec![used.name.clone()]),
-                None if used.name.starts_with("Rattle·") => Some(vec![used.name.clone()]),
+                None if used.name == CRATES => Some(vec![used.name.clone()]),
                 None => None,
             };
             if let Some(mut way) = start {
@@ -95,16 +101,20 @@ impl Sources {
             return Ok(Place::Toolchain);
         }
         let missing = || format!("{}.{item} is not there", way.join("."));
-        let library = way[0].strip_prefix("Rattle·").ok_or_else(missing)?;
-        // `Rattle·answer` from outside; `Rattle·answer·specs` from within
-        let home = library.split('·').next().unwrap_or(library);
-        if way.get(2).is_some_and(|word| word == "declared") {
-            let name = way.get(3).ok_or_else(missing)?;
+        let home = match &way[..] {
+            [root, home, ..] if root == CRATES => home.as_str(),
+            _ => return Err(missing()),
+        };
+        if home == STD {
+            return Ok(Place::Toolchain);
+        }
+        if way.get(3).is_some_and(|word| word == "declared") {
+            let name = way.get(4).ok_or_else(missing)?;
             let code = self.library.code(home).ok_or_else(missing)?;
             let declared = code.type_named(name).ok_or_else(missing)?;
-            let known = match way.get(4).map(String::as_str) {
+            let known = match way.get(5).map(String::as_str) {
                 None => item == name,
-                Some("the-variants") => declared.variants.iter().any(|variant| variant == item),
+                Some("TheVariants") => declared.variants.iter().any(|variant| variant == item),
                 Some(_) => false,
             };
             return match known {
@@ -112,7 +122,7 @@ impl Sources {
                 false => Err(missing()),
             };
         }
-        let path = format!("{home}/{}.antt", way[1..].join("/"));
+        let path = format!("{home}/{}.antt", way[2..].join("/"));
         let module = self.modules.get(&path).ok_or_else(missing)?;
         if let Some(index) = module.definition(item) {
             return Ok(Place::Definition(path, index));

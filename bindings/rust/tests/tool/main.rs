@@ -22,6 +22,7 @@ mod explained;
 mod following;
 mod forms;
 mod formulas;
+mod graded;
 mod habits;
 mod hints;
 mod inclusions;

@@ -1,11 +1,13 @@
 //! Each call on an input, by the library or by one of the engines, with its answer in one form.
 
-use crate::engine::{automata, confirmations, inclusion, lassos, markings, monitors, reductions};
+use crate::engine::{
+    automata, confirmations, inclusion, lassos, markings, monitors, reductions, temporal,
+};
 use crate::engine::{Refusal, Strategy};
 use duknavet as library;
 use duknavet::{Board, Confirmation, Inclusion, Monitor, Refused, Strength};
 use duknavet::{BOARD_FILES, BOARD_NAMES};
-use duknavet::{CLASSES_OUT, MAP_OUT, RULE_OUT, SCRATCH, U_OUT, V_OUT};
+use duknavet::{CLASSES_OUT, MAP_OUT, RULE_OUT, SCRATCH, UNTIL_CLASSES, U_OUT, V_OUT};
 
 #[derive(Clone, Copy, Debug, PartialEq, Eq)]
 pub enum Engine {
@@ -26,6 +28,7 @@ pub struct Buffers {
     map: Vec<u8>,
     u: Vec<u8>,
     v: Vec<u8>,
+    classes: Vec<u8>,
     scratch: Vec<u8>,
 }
 
@@ -36,6 +39,7 @@ impl Buffers {
             map: vec![0; MAP_OUT],
             u: vec![0; U_OUT],
             v: vec![0; V_OUT],
+            classes: vec![0; UNTIL_CLASSES],
             scratch: vec![0; SCRATCH],
         }
     }
@@ -73,6 +77,8 @@ pub enum Call {
     Member(Vec<u8>, (Vec<u8>, Vec<u8>)),
     Included(Vec<u8>, Vec<u8>),
     AutomatonRule(Vec<u8>),
+    Next(Vec<u8>),
+    Until(Vec<u8>, Vec<u8>),
     /// An event on a board with the same rule under every name: the board and its files.
     Board(Board, Vec<u8>),
 }
@@ -101,6 +107,18 @@ impl Call {
         Call::Confirm(rule, out, map)
     }
 
+    /// A rule until its complement.
+    pub fn until_complement(rule: Vec<u8>) -> Call {
+        let Buffers {
+            mut out,
+            mut scratch,
+            ..
+        } = Buffers::new();
+        let complement = library::complement(&rule, &mut out, &mut scratch);
+        out.truncate(complement.expect("a strong rule").length);
+        Call::Until(rule, out)
+    }
+
     /// An event on a board where the rule is present under all names, each with the monitor of the other calls.
     pub fn full_board(rule: Vec<u8>) -> Call {
         let mut state = Board::empty().state();
@@ -112,7 +130,8 @@ impl Call {
         Call::Board(Board::from_state(state), files)
     }
 
-    /// Fails if the engines do not give one answer, list different classes, write different maps, or leave a scratch that is not zeros.
+    /// Fails if the engines do not give one answer, list different classes, write different maps or other rules of `next` and `until`, or
+    /// leave a scratch that is not zeros.
     pub fn confirm(&self) {
         let [first, others @ ..] = ENGINES.map(|(name, engine)| {
             let mut buffers = Buffers::new();
@@ -125,8 +144,8 @@ impl Call {
         for other in others {
             let names = (first.0, other.0);
             assert_eq!(first.1, other.1, "the answers of {names:?} differ");
-            if let Call::Classes(_) = self {
-                assert!(first.2 == other.2, "the classes of {names:?} differ");
+            if let Call::Classes(_) | Call::Next(_) | Call::Until(..) = self {
+                assert!(first.2 == other.2, "what {names:?} write differs");
             }
             assert!(first.3 == other.3, "the maps of {names:?} differ");
         }
@@ -138,6 +157,7 @@ impl Call {
             map,
             u,
             v,
+            classes,
             scratch,
         } = buffers;
         let monitor = Monitor {
@@ -182,6 +202,11 @@ impl Call {
                 library::automaton_rule(automaton, out, scratch)?.length,
                 out,
             ),
+            Call::Next(rule) => written(library::next(rule, out, scratch)?.length, out),
+            Call::Until(first, second) => {
+                let answer = library::until(first, second, out, classes, scratch)?;
+                written(answer.length, out)
+            }
             Call::Board(board, files) => {
                 let posted = library::board_event(*board, 0, files, scratch);
                 let posted = posted.map_err(|not_posted| not_posted.refused)?;
@@ -198,6 +223,7 @@ impl Call {
             map,
             u,
             v,
+            classes,
             scratch,
         } = buffers;
         let monitor = (0, 1);
@@ -220,6 +246,11 @@ impl Call {
             }
             Call::AutomatonRule(automaton) => {
                 written(automata::automaton_rule(how, automaton, out, scratch)?, out)
+            }
+            Call::Next(rule) => written(temporal::next(how, rule, out, scratch)?, out),
+            Call::Until(first, second) => {
+                let rules = (&first[..], &second[..]);
+                written(temporal::until(how, rules, out, classes, scratch)?, out)
             }
             Call::Board(board, files) => {
                 let (mut lowest, mut sum) = (4, 0);

@@ -5,12 +5,14 @@
 //!     benchmark times ROW ..              prints it of some rows
 //!     benchmark rows                      prints the names of its rows
 //!     benchmark count ROW ENGINE N CALLS  runs one call so many times, for a count of its instructions
+//!     benchmark slow SECONDS SEED         looks for slow rules, so long for each call, and prints the slowest
 
 mod calls;
 mod engine;
 mod inputs;
 mod measure;
 mod rows;
+mod slow;
 
 use calls::{Buffers, Engine, ENGINES};
 use inputs::SIZES;
@@ -85,6 +87,12 @@ fn main() {
                 _ => panic!("there is no such row or engine, or a number is none"),
             }
         }
-        _ => panic!("benchmark [times ROW .. | rows | count ROW ENGINE N CALLS]"),
+        ["slow", seconds, seed] => match (seconds.parse(), seed.parse()) {
+            (Ok(seconds), Ok(seed)) => slow::search(seconds, seed),
+            _ => panic!("a number is none"),
+        },
+        _ => {
+            panic!("benchmark [times ROW .. | rows | count ROW ENGINE N CALLS | slow SECONDS SEED]")
+        }
     }
 }

@@ -22,7 +22,7 @@ const GRADED_WEAK: Kind = ("weak of three grades", inputs::graded_weak);
 
 /// Each call on the kinds of rules that differ to it: classes and moves of a monitor look at no marks behind the check, and what
 /// asks for a strong rule does on a weak one what `strong` does.
-const ON_RULES: [(&str, OnRule, &[Kind]); 9] = [
+const ON_RULES: [(&str, OnRule, &[Kind]); 11] = [
     ("event", Call::Event, &[CLOSED, UNCLOSED]),
     ("mark", Call::Mark, &[CLOSED]),
     ("verdict", Call::Verdict, &[CLOSED, UNCLOSED]),
@@ -34,6 +34,12 @@ const ON_RULES: [(&str, OnRule, &[Kind]); 9] = [
     ),
     ("complement", Call::Complement, &[CLOSED, UNCLOSED]),
     ("reduce", Call::Reduce, &[CLOSED, UNCLOSED]),
+    ("next", Call::Next, &[CLOSED, UNCLOSED]),
+    (
+        "until its complement",
+        Call::until_complement,
+        &[CLOSED, UNCLOSED, GRADED],
+    ),
     (
         "confirm",
         Call::confirm_own,

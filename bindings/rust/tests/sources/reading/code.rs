@@ -6,7 +6,7 @@ use super::tokens::{
 };
 use super::words::{words, Word};
 
-/// `use home::item;`
+/// An item of `use home::item;`, of `use home::{item, item};`, or of one with modules between.
 #[derive(Debug)]
 pub struct CodeImport {
     pub line: usize,
@@ -112,17 +112,17 @@ impl Code {
 
     fn import(&mut self, tokens: &[Token], at: usize) -> usize {
         let end = find(tokens, at, ";");
-        let inner: Vec<&str> = tokens[at + 1..end]
-            .iter()
-            .map(|t| t.text.as_str())
-            .collect();
-        match inner[..] {
-            [home, ":", ":", item] => self.imports.push(CodeImport {
-                line: tokens[at].line,
-                home: home.to_string(),
-                item: item.to_string(),
-                passed_on: at > 0 && tokens[at - 1].text == "pub",
-            }),
+        let passed_on = at > 0 && tokens[at - 1].text == "pub";
+        match brought(&[], &tokens[at + 1..end]) {
+            Some(ways) if ways.iter().all(|(_, way)| way.len() > 1) => {
+                self.imports
+                    .extend(ways.into_iter().map(|(line, way)| CodeImport {
+                        line,
+                        home: way[0].clone(),
+                        item: way[way.len() - 1].clone(),
+                        passed_on,
+                    }))
+            }
             _ => self.unread.push((tokens[at].line, "use".to_string())),
         }
         end + 1
@@ -235,12 +235,43 @@ impl Code {
         let types = tokens[at..answer].iter().filter(|t| is_type(&t.text));
         function.types = types.map(|t| t.text.clone()).collect();
         self.identifiers.extend(function.types.iter().cloned());
+        // The module of a type that is written with it, as in `io::Result<()>`.
+        let homes = tokens[at..answer].windows(3).filter(|part| {
+            is_identifier(&part[0].text) && part[1].text == ":" && part[2].text == ":"
+        });
+        self.identifiers
+            .extend(homes.map(|part| part[0].text.clone()));
         if is(tokens, next, "{") {
             function.body = tokens[next + 1..closing(tokens, next)].to_vec();
         }
         self.functions.push(function);
         self.written.extend_from_slice(&tokens[at..answer]);
         next
+    }
+}
+
+/// The whole ways that a tree of a `use` item names, each with its line: `way::item` or `way::{tree, ..}`, where `self` is the way itself.
+fn brought(before: &[String], tree: &[Token]) -> Option<Vec<(usize, Vec<String>)>> {
+    match tree {
+        [item] if item.text == "self" => Some(vec![(item.line, before.to_vec())]),
+        [item] if is_identifier(&item.text) => {
+            let way = [before, &[item.text.clone()]].concat();
+            Some(vec![(item.line, way)])
+        }
+        [module, first, second, rest @ ..]
+            if is_identifier(&module.text) && first.text == ":" && second.text == ":" =>
+        {
+            brought(&[before, &[module.text.clone()]].concat(), rest)
+        }
+        [open, inner @ .., close] if open.text == "{" && close.text == "}" => {
+            let trees = split(inner, ",").into_iter();
+            let mut found = Vec::new();
+            for tree in trees.filter(|tree| !tree.is_empty()) {
+                found.extend(brought(before, tree)?);
+            }
+            Some(found)
+        }
+        _ => None,
     }
 }
 

@@ -168,12 +168,17 @@ fn members(rest: &[Word]) -> Vec<String> {
     found
 }
 
-/// The words of a clause's patterns, without the name that it defines: what it binds, and constructors.
+/// The words of a clause's patterns, without the name that it defines: what it binds, and constructors. Of a constructor by its way,
+/// `Type.constructor`, neither word is bound.
 pub fn pattern_words(clause: &[Word]) -> impl Iterator<Item = &str> {
-    let patterns = clause[..clause_end(clause)].iter().skip(1);
+    let end = clause_end(clause);
+    let words = clause.iter().zip(roles(clause)).enumerate();
+    let patterns = words.take(end).skip(1);
     patterns
-        .filter(|word| !word.is_mark())
-        .map(|word| word.text.as_str())
+        .filter(move |(at, (_, role))| {
+            *role == Role::Name && members(&clause[at + 1..end]).is_empty()
+        })
+        .map(|(_, (word, _))| word.text.as_str())
 }
 
 /// How many words of an item stand left of its `=`; none where it is no clause.

@@ -34,11 +34,16 @@ impl Repository {
         self.files.get(path).map(String::as_str)
     }
 
-    /// The crates, and every crate below them: those that a line of the list names, `name: used used ..`, and so on down.
+    /// The crates, and every crate below them: those that a line of the list names, `name: used used ..`, and so on down. Behind a name may
+    /// stand what kind of library it is, as in `name staticlib: used`.
     pub fn with_all_below(&self, crates: &[&str]) -> BTreeSet<&str> {
         let list = self.text(LIST).expect("the list of the crates");
         let lines = list.lines().filter(|line| !line.starts_with('#'));
-        let uses: BTreeMap<&str, &str> = lines.filter_map(|line| line.split_once(':')).collect();
+        let uses = lines.filter_map(|line| {
+            let (named, used) = line.split_once(':')?;
+            Some((named.split_whitespace().next()?, used))
+        });
+        let uses: BTreeMap<&str, &str> = uses.collect();
         let mut found = BTreeSet::new();
         let mut waiting: Vec<&str> = crates.to_vec();
         while let Some(name) = waiting.pop() {

@@ -108,17 +108,20 @@ pub fn words(text: &str) -> Vec<Word> {
     found
 }
 
-/// The parts of an operator, as `if`, `then` and `else` of `if_then_else_`; none of a plain name.
+/// What stands in an operator's name for an argument.
+const PLACE: char = '◌';
+
+/// The parts of an operator, as `if`, `then` and `else` of `if◌then◌else◌`; none of a plain name.
 pub fn parts(name: &str) -> Vec<&str> {
-    if name.starts_with('«') || !name.contains('_') {
+    if name.starts_with('«') || !name.contains(PLACE) {
         return Vec::new();
     }
-    name.split('_').filter(|part| !part.is_empty()).collect()
+    name.split(PLACE).filter(|part| !part.is_empty()).collect()
 }
 
-/// The part that a word writes of an operator: itself, or for a section as `+_` what is left of it.
+/// The part that a word writes of an operator: itself, or for a section as `◌+` what is left of it.
 pub fn part_written(word: &str) -> &str {
-    word.trim_matches('_')
+    word.trim_matches(PLACE)
 }
 
 /// What a word is to the names that are in scope where it stands.

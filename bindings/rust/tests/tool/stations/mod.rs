@@ -4,6 +4,7 @@ mod answers;
 mod boards;
 mod crashes;
 mod damage;
+mod quiet;
 mod resuming;
 mod saving;
 mod signals;

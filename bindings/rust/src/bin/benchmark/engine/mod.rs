@@ -14,6 +14,7 @@ mod reached;
 pub mod reductions;
 mod search;
 mod sections;
+pub mod temporal;
 
 #[derive(Clone, Copy, Debug, PartialEq, Eq)]
 pub enum Strategy {

@@ -9,7 +9,8 @@ use crate::monitor_state::{self, MonitorState};
 use crate::output;
 use crate::report;
 use crate::station::{
-    self, options, Fault, Fingerprint, Machine, Options, Progress, Reply, Request, StateFile,
+    self, options, Fault, Feeding, Fingerprint, Machine, Options, Progress, Reply, Request,
+    StateFile,
 };
 use duknavet::text::Names;
 use duknavet::words::Explained;
@@ -28,6 +29,7 @@ pub const COMMAND: Command = Command {
         options::SAVE_EVERY,
         options::SAVE_AFTER,
         options::ON_CHANGE,
+        options::QUIET,
         options::FIELD,
         options::SKIP_UNKNOWN,
         former::FROM,
@@ -46,7 +48,9 @@ all; a signal ends with 128 and its number, or with 3 where the state could not 
 state that is damaged, of another rule or of other names is refused, with status 2, and left as it \
 is. With --resume the input is a log from its first line on: the lines that the state stands for \
 are passed over, or the log is refused where it has others, and a last line without a newline is \
-left for the next time. Memory stays the same however many events come.",
+left for the next time. With --quiet an event that is done has no answer of its own: events that \
+are there together are fed in one call, and the answer to the last of them comes at the end of the \
+input; other lines, and those that are refused, are answered as ever. Memory stays the same however many events come.",
     run,
 };
 
@@ -138,6 +142,10 @@ impl Machine for Following {
         })
     }
 
+    fn feeding(&mut self) -> Option<&mut dyn Feeding> {
+        Some(self)
+    }
+
     fn grade(&mut self) -> Result<String, Explained> {
         Ok(match self.watched.monitor().since {
             NONE => "grade none\n".to_string(),
@@ -152,6 +160,20 @@ impl Machine for Following {
             monitor: self.watched.monitor(),
             points: self.watched.points(),
         }
+    }
+}
+
+impl Feeding for Following {
+    fn letter(&self, words: &str) -> Result<u8, Fault> {
+        station::letter(words, &self.names)
+    }
+
+    fn feed(&mut self, letters: &[u8]) -> Result<String, Explained> {
+        if let [letter] = letters {
+            return Ok(shown(self.watched.event(*letter)?));
+        }
+        self.watched.feed(letters)?;
+        Ok(shown(self.watched.monitor()))
     }
 }
 

@@ -8,6 +8,7 @@ use super::options::{Objects, Options};
 use super::progress::Progress;
 use super::sealed;
 use super::state_file::StateFile;
+use super::waiting::Waiting;
 use crate::command::{Answer, Failure};
 use crate::report::{self, About};
 use crate::{json, output};
@@ -77,6 +78,9 @@ pub fn run<M: Machine>(
         lines,
         keeper,
         progress: begun,
+        handled: begun,
+        waiting: Waiting::default(),
+        unsaid: None,
         tally: Tally::default(),
         answers: Vec::new(),
         grade: None,
@@ -117,8 +121,13 @@ struct Station<M: Machine> {
     options: Options,
     lines: Lines,
     keeper: Option<Keeper<Standing<M::State>>>,
-    /// The lines that were answered.
+    /// The lines that the machine stands for.
     progress: Progress,
+    /// The lines that were taken, also those whose events wait.
+    handled: Progress,
+    waiting: Waiting,
+    /// The answer to the last event that was fed, where none has been given since.
+    unsaid: Option<String>,
     tally: Tally,
     /// Answers that are not written yet.
     answers: Vec<u8>,
@@ -138,7 +147,13 @@ impl<M: Machine> Station<M> {
                 break;
             }
             self.answer(&line, progress)?;
-            self.progress = progress;
+            self.handled = progress;
+            if self.waiting.is_full() {
+                self.feed()?;
+            }
+            if self.waiting.is_empty() {
+                self.progress = progress;
+            }
             let every = self.options.save_every;
             if every.is_some_and(|every| progress.lines.is_multiple_of(every)) {
                 self.settle()?;
@@ -146,6 +161,10 @@ impl<M: Machine> Station<M> {
                     keeper::complain_not_saved(&failure);
                 }
             }
+        }
+        self.feed()?;
+        if let Some(answer) = self.unsaid.take() {
+            self.say(answer, self.progress);
         }
         self.settle()
     }
@@ -156,13 +175,13 @@ impl<M: Machine> Station<M> {
             if self.answers.len() >= MOST_ANSWERS {
                 self.settle()?;
             }
-            return self.lines.next(self.progress);
+            return self.lines.next(self.handled);
         }
         self.settle()?;
         if let Some(keeper) = &self.keeper {
             keeper.rest();
         }
-        let next = self.lines.next(self.progress);
+        let next = self.lines.next(self.handled);
         if let Some(keeper) = &self.keeper {
             keeper.work();
         }
@@ -174,6 +193,7 @@ impl<M: Machine> Station<M> {
     /// With `--resume` a line can be read again, so it counts once its answer was written; else it is gone from
     /// the input and counts though nobody reads the answer.
     fn settle(&mut self) -> Result<(), Failure> {
+        self.feed()?;
         if !self.options.resume {
             self.publish();
         }
@@ -195,13 +215,18 @@ impl<M: Machine> Station<M> {
     }
 
     fn answer(&mut self, line: &Line, progress: Progress) -> Result<(), Failure> {
-        let requested = match line {
-            Line::Whole(line) => match self.options.field {
-                Some(column) => language::request_in_column(line, column).map_err(Fault::NoLetter),
-                None => language::request(line, M::BARE_LETTERS).map_err(Fault::NotUnderstood),
-            },
-            Line::TooLong => Err(Fault::NotUnderstood("the line is too long".to_string())),
-        };
+        if self.options.quiet {
+            if let Some(letter) = self.event_of(line) {
+                self.waiting.push(letter, progress);
+                return Ok(());
+            }
+        }
+        let requested = self.requested(line);
+        if let Ok(None) = requested {
+            return Ok(());
+        }
+        self.feed()?;
+        self.waiting.forget();
         let replied = match requested {
             Ok(None) => return Ok(()),
             Ok(Some(Request::Save)) => self.save()?,
@@ -211,6 +236,78 @@ impl<M: Machine> Station<M> {
         match replied.and_then(|reply| self.shown(reply)) {
             Ok(answer) => self.say(answer, progress),
             Err(fault) => self.refuse(fault, progress)?,
+        }
+        Ok(())
+    }
+
+    /// What a line asks for. What is no UTF-8 is a sign that stands for such bytes, and no letter.
+    fn requested(&self, line: &Line) -> Result<Option<Request>, Fault> {
+        let Line::Whole(line) = line else {
+            return Err(Fault::NotUnderstood("the line is too long".to_string()));
+        };
+        let line = &String::from_utf8_lossy(line);
+        match self.options.field {
+            Some(column) => language::request_in_column(line, column).map_err(Fault::NoLetter),
+            None => language::request(line, M::BARE_LETTERS).map_err(Fault::NotUnderstood),
+        }
+    }
+
+    /// The letter of a line that is an event.
+    fn event_of(&mut self, line: &Line) -> Option<u8> {
+        let Line::Whole(bytes) = line else {
+            return None;
+        };
+        if let Some(letter) = self.waiting.known(bytes) {
+            return Some(letter);
+        }
+        let Ok(Some(Request::Event(words))) = self.requested(line) else {
+            return None;
+        };
+        let letter = self.machine.feeding()?.letter(&words).ok()?;
+        self.waiting.remember(bytes, letter);
+        Some(letter)
+    }
+
+    /// Feeds the events that wait. One that is refused is answered as a line of its own, and those behind it are fed.
+    fn feed(&mut self) -> Result<(), Failure> {
+        if self.waiting.is_empty() {
+            return Ok(());
+        }
+        let word = self.waiting.take();
+        let (mut letters, mut lines) = (&word.letters[..], &word.lines[..]);
+        while let Some(refused) = self.feed_part(letters, lines) {
+            if let Err(explained) = self.hear(&letters[refused..=refused]) {
+                self.refuse(Fault::Refused(explained), lines[refused])?;
+            }
+            self.progress = lines[refused];
+            (letters, lines) = (&letters[refused + 1..], &lines[refused + 1..]);
+        }
+        self.progress = self.handled;
+        Ok(())
+    }
+
+    /// Feeds events up to the first that is refused, and says which that is.
+    fn feed_part(&mut self, letters: &[u8], lines: &[Progress]) -> Option<usize> {
+        let refused = self.hear(letters).err()?.refused;
+        let foreign = refused.refusal == Refusal::UnknownLetter;
+        let place = usize::try_from(refused.place).ok().filter(|_| foreign);
+        let place = place.filter(|place| *place < letters.len()).unwrap_or(0);
+        if place == 0 {
+            return Some(0);
+        }
+        match self.feed_part(&letters[..place], &lines[..place]) {
+            None => {
+                self.progress = lines[place - 1];
+                Some(place)
+            }
+            earlier => earlier,
+        }
+    }
+
+    /// Events wait only for a machine that takes them together.
+    fn hear(&mut self, letters: &[u8]) -> Result<(), Explained> {
+        if let Some(machine) = self.machine.feeding() {
+            self.unsaid = Some(machine.feed(letters)?);
         }
         Ok(())
     }
@@ -234,7 +331,11 @@ impl<M: Machine> Station<M> {
                 self.grade = Some(grade.clone());
                 Ok(if is_new { grade } else { String::new() })
             }
-            Reply::Moved(answer) | Reply::Said(answer) => Ok(answer),
+            Reply::Moved(answer) => {
+                self.unsaid = None;
+                Ok(answer)
+            }
+            Reply::Said(answer) => Ok(answer),
         }
     }
 

@@ -12,8 +12,7 @@ const BUFFER: usize = 65_536;
 
 /// A line without its end.
 pub enum Line {
-    /// Its bytes. What is no UTF-8 is a sign that stands for such bytes, and no letter.
-    Whole(String),
+    Whole(Vec<u8>),
     TooLong,
 }
 
@@ -71,7 +70,7 @@ impl Lines {
         }
         let line = match length > self.longest {
             true => Line::TooLong,
-            false => Line::Whole(String::from_utf8_lossy(&kept).into_owned()),
+            false => Line::Whole(kept),
         };
         Ok(Some((line, after)))
     }

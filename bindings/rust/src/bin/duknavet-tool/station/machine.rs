@@ -13,9 +13,22 @@ pub trait Machine {
     const BARE_LETTERS: bool;
     /// What a request does. One that is not done changes nothing.
     fn answer(&mut self, request: Request) -> Result<Reply, Fault>;
+    /// What takes events together, where it can: a monitor.
+    fn feeding(&mut self) -> Option<&mut dyn Feeding> {
+        None
+    }
     /// The grade that it stands for now, as a line.
     fn grade(&mut self) -> Result<String, Explained>;
     fn state(&self) -> Self::State;
+}
+
+/// A machine that takes events together.
+pub trait Feeding {
+    /// The letter of an event, by the words that name it.
+    fn letter(&self, words: &str) -> Result<u8, Fault>;
+    /// Events in their order, in one call, and the answer to the last. Where they are refused nothing has changed; by a
+    /// foreign letter with its position as the place.
+    fn feed(&mut self, letters: &[u8]) -> Result<String, Explained>;
 }
 
 pub trait MachineState: Send + 'static {

@@ -12,11 +12,12 @@ pub mod sealed;
 #[allow(unsafe_code)]
 mod signals;
 mod state_file;
+mod waiting;
 
 pub use answering::run;
 pub use fingerprint::Fingerprint;
 pub use language::{request, request_in_column, Request};
-pub use machine::{letter, Fault, Machine, MachineState, Reply};
+pub use machine::{letter, Fault, Feeding, Machine, MachineState, Reply};
 pub use options::Options;
 pub use progress::Progress;
 pub use state_file::StateFile;

@@ -1,4 +1,4 @@
-//! The options that `follow` and `board` share.
+//! The options that `follow` and `board` share, and `--quiet` of `follow`.
 
 use crate::arguments::Arguments;
 use crate::command::{Choice, Failure};
@@ -39,6 +39,11 @@ pub const ON_CHANGE: Choice = Choice {
     value: None,
     meaning: "answer what moves with the grade, at first and where it changes",
 };
+pub const QUIET: Choice = Choice {
+    name: "quiet",
+    value: None,
+    meaning: "do not answer events that are done, but once at the end",
+};
 pub const FIELD: Choice = Choice {
     name: "field",
     value: Some("N"),
@@ -56,6 +61,7 @@ pub struct Options {
     pub save_every: Option<u64>,
     pub save_after: Option<Duration>,
     pub on_change: bool,
+    pub quiet: bool,
     pub field: Option<isize>,
     pub skip_unknown: bool,
     /// Where answers are objects, what they are of.
@@ -75,6 +81,9 @@ impl Options {
                 return Err(arguments.usage(&format!("`--{}` needs --state", needy.name)));
             }
         }
+        if arguments.has(QUIET.name) && arguments.has(ON_CHANGE.name) {
+            return Err(arguments.usage("`--quiet` and `--on-change` do not go together"));
+        }
         let every = arguments.number(SAVE_EVERY.name, 1, usize::MAX)?;
         let after = arguments.number(SAVE_AFTER.name, 1, MOST_SECONDS)?;
         Ok(Options {
@@ -82,6 +91,7 @@ impl Options {
             save_every: every.map(|lines| lines as u64),
             save_after: after.map(|seconds| Duration::from_secs(seconds as u64)),
             on_change: arguments.has(ON_CHANGE.name),
+            quiet: arguments.has(QUIET.name),
             field: field(arguments)?,
             skip_unknown: arguments.has(SKIP_UNKNOWN.name),
             json: arguments.has(JSON.name).then(|| Objects {

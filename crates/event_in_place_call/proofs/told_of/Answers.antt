@@ -1,0 +1,7 @@
+-- `event_in_place_call::told_of` meets its contract: the answer is known by its case. Assumes nothing.
+use mathlib.Core.Path.{sym, ap}
+use Rattle.event_in_place_call.specs.InPlace.{told_of}
+use Rattle.event_in_place_call.proofs.told_of.Goals as goal
+
+pub returns-in-Refused : goal.returns-in-Refused
+returns-in-Refused c = sym (ap told_of c.in-Refused.is)

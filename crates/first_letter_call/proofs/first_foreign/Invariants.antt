@@ -1,0 +1,6 @@
+-- The loop holds that no letter before the one at hand is foreign and in the set. Assumes nothing.
+use Rattle.first_letter_call.proofs.Elements.{NoForeign}
+use Rattle.first_letter_call.proofs.first_foreign.Given as goal
+
+abbrev pub invariant-loop-a : goal.invariant-loop-a
+invariant-loop-a l = NoForeign l.letters l.set l.a

@@ -1,0 +1,11 @@
+-- `pair_marks::mark_byte` meets its contract: the places are linked or not. Assumes nothing.
+use Rattle.pair_marks.proofs.Ways.{mark_unlinked, mark_linked}
+use mathlib.Core.Bool.{not}
+use mathlib.Core.Path.{ap}
+use Rattle.pair_marks.proofs.mark_byte.Goals as goal
+
+pub returns-then-not-linked : goal.returns-then-not-linked
+returns-then-not-linked c = mark_unlinked c.laid_linked-linked.result c.laid_linked-linked.ensures (ap not c.if-not-linked.true)
+
+pub returns : goal.returns
+returns c = mark_linked c.laid_linked-linked.result c.laid_linked-linked.ensures (ap not c.if-not-linked.false) c.pair_grade.ensures

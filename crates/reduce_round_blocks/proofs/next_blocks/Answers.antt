@@ -1,0 +1,39 @@
+-- `reduce_round_blocks::next_blocks` meets its contract: the elements that were passed have their new blocks. Assumes nothing.
+use native.Mathlib.Omega.{arith}
+use Rattle.scratch.specs.Map.{next_blocks_base}
+use Rattle.scratch.proofs.Unchanged.{unchanged_room}
+use Rattle.reduce_first_round.proofs.BlockBytes.{written_none, written_all}
+use Rattle.reduce_first_round.proofs.Writing.{next_more}
+use Rattle.reduce_round_blocks.proofs.next_blocks.Goals as goal
+
+pub loop-s-init : goal.loop-s-init
+loop-s-init c = written_none next_blocks_base _
+
+pub first_kept-t-requires : goal.first_kept-t-requires
+first_kept-t-requires c = record {
+  table = c.requires.table;
+  s_lt_n = c.loop-s-test.true;
+  scratch_size_in_bounds = unchanged_room c.loop-s.invariant.kept c.requires.scratch_size_in_bounds;
+}
+
+pub overflow_cast-scratch : goal.overflow_cast-scratch
+overflow_cast-scratch c =
+    omega (arith, c.first_kept-t.ensures.at_most, c.requires.table.small)
+
+pub overflow_add-scratch : goal.overflow_add-scratch
+overflow_add-scratch c =
+    omega (arith, c.requires.table.small)
+
+pub bounds-scratch-s : goal.bounds-scratch-s
+bounds-scratch-s c =
+    omega (arith, unchanged_room c.loop-s.invariant.kept c.requires.scratch_size_in_bounds, c.requires.table.small)
+
+pub loop-s-preserved : goal.loop-s-preserved
+loop-s-preserved c =
+    next_more c.requires.table.small c.requires.scratch_size_in_bounds c.loop-s-test.true c.requires.table.products c.requires.table.images c.loop-s.invariant c.first_kept-t.ensures
+
+pub shape_of-scratch : goal.shape_of-scratch
+shape_of-scratch c = c.loop-s.invariant.kept.same_length
+
+pub returns : goal.returns
+returns c = written_all c.loop-s-test.false c.loop-s.invariant
