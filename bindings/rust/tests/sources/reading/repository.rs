@@ -1,4 +1,4 @@
-//! The files of `crates/` and the list of the crates, from the disk or made up.
+//! The files of `crates/` and the list of the crates, from the disk or made up. What rt built in a crate is none of them.
 
 use std::collections::{BTreeMap, BTreeSet};
 use std::fs;
@@ -6,6 +6,9 @@ use std::path::Path;
 
 /// The name of the list of the crates, which stands beside `crates/`.
 const LIST: &str = "crates.txt";
+
+/// The directory of a crate that rt writes what it built to, copies of sources among it.
+const BUILT: &str = "out";
 
 /// Texts by their paths from `crates/` on, as `answer/specs/Checks.antt`, and that of `crates.txt`.
 pub struct Repository {
@@ -77,10 +80,25 @@ fn collect(directory: &Path, path: &str, files: &mut BTreeMap<String, String>) {
         };
         let place = entry.path();
         if place.is_dir() {
-            collect(&place, &below, files);
+            if !is_built(&below) {
+                collect(&place, &below, files);
+            }
         } else if below.ends_with(".antt") || below.ends_with(".rt") {
             let text = fs::read_to_string(&place).expect("a source is text");
             files.insert(below, text);
         }
+    }
+}
+
+/// Whether the path from `crates/` on is that of a crate's own directory `out`.
+fn is_built(path: &str) -> bool {
+    matches!(path.split_once('/'), Some((_, BUILT)))
+}
+
+#[test]
+fn what_rt_built_in_a_crate_is_not_read() {
+    assert!(is_built("answer/out"));
+    for source in ["out", "answer/src", "answer/src/out", "answer/out.rt"] {
+        assert!(!is_built(source), "{source}");
     }
 }
