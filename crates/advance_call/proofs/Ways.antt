@@ -1,4 +1,6 @@
 -- What each way through the calls that move a monitor and grade it promises. Assumes nothing.
+use Rattle.std.specs.Prelude.{Err}
+use Rattle.answer.proofs.Parts.{refused_by}
 use Prim.Native.Nat.{ℕ}
 use mathlib.Core.Path.{◌≡◌, refl, subst}
 use mathlib.Core.List.{List, ◌++◌}
@@ -18,12 +20,11 @@ use Rattle.promises.specs.declared.Advanced.TheVariants.{To, Refused}
 use Rattle.promises.specs.EventWords.{log_checks, after_word}
 use Rattle.promises.specs.Advance.{after_step, foreign_checks, MonitorTurns, strong_monitor_checks, advanced_verdict, AdvanceAnswer, AdvancePromise, AdvanceWordPromise}
 use Rattle.promises.proofs.AdvanceOrder.{step_others_first, word_others_first}
-use Rattle.monitor_standing.specs.declared.Standing.TheVariants.{Refused as Not-standing}
 use Rattle.monitor_standing.specs.Standing.{TurnsRead, Stands, StandingAnswer}
 use Rattle.advance_call.specs.Advancing.{LaterAnswer}
 
 -- the rule does not stand
-module _ (input : ℕ) (bytes : List ℕ) (f : Monitor) (entry : List ℕ) {exit : List ℕ} {r : Refusal} {i place : ℕ} (p : StandingAnswer input bytes f entry exit (Not-standing r i place)) where
+module _ (input : ℕ) (bytes : List ℕ) (f : Monitor) (entry : List ℕ) {exit : List ℕ} {r : Refusal} {i place : ℕ} (p : StandingAnswer input bytes f entry exit (Err (refused_by r i place))) where
   pub step_not_standing : (step : Step) → AdvancePromise input bytes f step entry exit (Refused f r i place)
   step_not_standing step = record { refusal = step_others_first input bytes f entry step r i place p.0; answered = refl; scratch = p.1 }
 

@@ -11,11 +11,10 @@ ghost use Rattle.promises.specs.Advance.{after_step, foreign_checks, AdvanceProm
 ghost use Rattle.monitor_state.specs.Ready.{GoodMonitor};
 ghost use Rattle.advance_call.specs.Advancing.{ForeignAnswer, LaterAnswer};
 
-use answer::Refusal;
-use monitor_standing::{Standing, check_standing, monitor_grade};
+use answer::{Fault, Refusal, Refused};
+use monitor_standing::{check_standing, monitor_grade};
 use monitor_steps::{log_fault, moved, moved_by_word};
 use promises::{Advanced, Monitor, Step};
-use rule_marks::Fault;
 use sections::zero;
 
 // Whether a step is an event with none of k letters.
@@ -79,12 +78,12 @@ pub fn advance(
     ensures { AdvancePromise input rule.now monitor step scratch.old scratch.new result }
 {
     let shape = match check_standing(rule, input, monitor, scratch) {
-        Standing::Rule(shape) => shape,
-        Standing::Refused {
+        Ok(shape) => shape,
+        Err(Refused {
             refusal,
             input,
             place,
-        } => {
+        }) => {
             return Advanced::Refused {
                 monitor,
                 refusal,
@@ -117,8 +116,8 @@ fn word_answer(
     ensures { LaterAnswer (morphism_at rule.now n k) scratch.now (log_checks input k word.now) monitor (after_word (morphism_at rule.now n k) monitor word.now) result }
 {
     match log_fault(word, k) {
-        Fault::Nothing => {}
-        Fault::Refused { refusal, place } => {
+        Ok(()) => {}
+        Err(Fault { refusal, place }) => {
             return Advanced::Refused {
                 monitor,
                 refusal,
@@ -147,12 +146,12 @@ pub fn advance_word(
     ensures { AdvanceWordPromise input rule.now monitor word.now scratch.old scratch.new result }
 {
     let shape = match check_standing(rule, input, monitor, scratch) {
-        Standing::Rule(shape) => shape,
-        Standing::Refused {
+        Ok(shape) => shape,
+        Err(Refused {
             refusal,
             input,
             place,
-        } => {
+        }) => {
             return Advanced::Refused {
                 monitor,
                 refusal,

@@ -1,7 +1,8 @@
 -- The order of the checks: a list of checks, of which the first that fails decides. Document 01, "Order of the checks".
 -- Assumes nothing.
-use Rattle.std.specs.Prelude.{ℕ, ◌≡◌, ◌⊎◌, List, [], ◌∷◌}
+use Rattle.std.specs.Prelude.{ℕ, ◌≡◌, ◌⊎◌, List, [], ◌∷◌, Result, Ok, Err}
 use Rattle.answer.specs.declared.Refusal.{Refusal}
+use Rattle.answer.specs.declared.Refused.{Refused}
 use Rattle.answer.specs.Refusals.{number_of}
 
 -- what the checks of a call come to: "a refusal carries its number, the input it lies in .. and its place"
@@ -12,6 +13,11 @@ pub data Verdict : Type 0 where
 -- the verdict of a refusal: its number in the table, the input, the place
 abbrev pub refused : Refusal → ℕ → ℕ → Verdict
 refused refusal input place = numbered (number_of refusal) input place
+
+-- the verdict of an answer that is a result or a refusal
+abbrev pub verdict_of : {T : Type 0} → Result T Refused → Verdict
+verdict_of (Ok v) = passed
+verdict_of (Err r) = refused r.refusal r.input r.place
 
 -- a line of the table: the refusal, the input looked at, and when it fails at a place
 pub record Check : Type 1 where

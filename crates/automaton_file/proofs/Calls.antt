@@ -1,10 +1,9 @@
 -- What a call that reads an automaton first knows of it afterwards. Assumes nothing.
 use Prim.Native.Nat.{ℕ, ◌≤◌, ◌<◌}
-use mathlib.Core.Path.{◌≡◌, refl, ap, ◌∙◌, subst}
+use mathlib.Core.Path.{◌≡◌, refl, ap, ◌∙◌}
 use mathlib.Core.List.{List}
 use native.Mathlib.Omega.{arith}
 use lib.ListN.{length, replicate}
-use Rattle.answer.specs.declared.Refusal.{Refusal}
 use Rattle.answer.specs.Checks.{passed, FirstFailure}
 use Rattle.answer.proofs.Order.{passes_head, passes_tail}
 use Rattle.formats.specs.RuleChecks.{scratch_size}
@@ -12,9 +11,6 @@ use Rattle.formats.specs.Calls.{after_call}
 use Rattle.rule_check.proofs.Promise.{zeros_after}
 use Rattle.formats.specs.AutomatonChecks.{read_checks}
 use Rattle.formats.proofs.GoodAutomaton.{GoodAutomaton}
-use Rattle.automaton_file.specs.declared.AutomatonRead.{AutomatonRead}
-use Rattle.automaton_file.specs.declared.AutomatonRead.TheVariants.{Automaton, Refused}
-use Rattle.automaton_file.specs.Answers.{ReadPromise}
 use Rattle.automaton_file.proofs.CheckedAutomaton.{good_automaton}
 
 module _ (input : ℕ) (bytes entry : List ℕ) (all : FirstFailure (read_checks input bytes entry) passed) where
@@ -31,11 +27,3 @@ module _ (input : ℕ) (bytes entry : List ℕ) (all : FirstFailure (read_checks
   -- zeros over the whole length are what a call leaves
   pub zeros_left : (mid exit : List ℕ) → length mid ≡ length entry → exit ≡ replicate (length mid) 0 → exit ≡ after_call entry
   zeros_left mid exit e z = z ∙ ap (λ (x : ℕ). replicate x 0) e ∙ zeros_after entry scratch_long
-
--- the reading's answer, known by its case
-module _ (input : ℕ) (bytes entry exit : List ℕ) (answer : AutomatonRead) (known : ReadPromise input bytes entry exit answer) where
-  pub was_read : {m k t : ℕ} → answer ≡ Automaton m k t → ReadPromise input bytes entry exit (Automaton m k t)
-  was_read e = subst (ReadPromise input bytes entry exit) e known
-
-  pub was_refused : {r : Refusal} {i place : ℕ} → answer ≡ Refused r i place → ReadPromise input bytes entry exit (Refused r i place)
-  was_refused e = subst (ReadPromise input bytes entry exit) e known

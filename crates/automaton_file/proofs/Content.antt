@@ -1,4 +1,6 @@
 -- The counts that were read, and what the checks after the sections say in terms of them. Assumes nothing.
+use Rattle.std.specs.Prelude.{Result, Ok, Err}
+use Rattle.answer.specs.declared.Fault.{Fault}
 use Prim.Native.Nat.{ℕ, ◌+◌, ◌*◌, ◌≤◌, ◌<◌}
 use mathlib.Core.Path.{◌≡◌, ap, ◌∙◌}
 use mathlib.Core.List.{List}
@@ -8,8 +10,6 @@ use Rattle.answer.specs.declared.Refusal.TheVariants.{TrailingBytes}
 use Rattle.answer.specs.Checks.{Verdict, refused, FirstFailure}
 use Rattle.answer.proofs.Order.{first_passes, first_fails}
 use Rattle.formats.specs.RuleChecks.{trailing_check}
-use Rattle.rule_marks.specs.declared.Fault.{Fault}
-use Rattle.rule_marks.specs.declared.Fault.TheVariants.{Nothing, Refused}
 use Rattle.rule_marks.specs.Faults.{FaultAnswer}
 use Rattle.formats.specs.AutomatonFile.{automaton_letters_at, transitions_at, transitions_of, automaton_end}
 use Rattle.formats.specs.AutomatonChecks.{repeated_checks, automaton_content_checks}
@@ -62,7 +62,7 @@ module _ (bytes : List ℕ) (counts : Counts) (p : LayoutPassed bytes counts) wh
     follows_none h input f = first_passes (record { nowhere = λ place t. omega (arith, rest_long, t.longer) }) f
 
     -- no byte follows, and the transitions decide
-    pub transitions_decide : length rest ≤ 0 → (answer : Fault) → FaultAnswer (λ input. repeated_checks input bytes 0 (transitions_of bytes)) answer
+    pub transitions_decide : length rest ≤ 0 → (answer : Result (Unit {0}) Fault) → FaultAnswer (λ input. repeated_checks input bytes 0 (transitions_of bytes)) answer
         → FaultAnswer (λ input. automaton_content_checks input bytes) answer
-    transitions_decide h Nothing f = λ input. follows_none h input (f input)
-    transitions_decide h (Refused r place) f = λ input. follows_none h input (f input)
+    transitions_decide h (Ok done) f = λ input. follows_none h input (f input)
+    transitions_decide h (Err fault) f = λ input. follows_none h input (f input)

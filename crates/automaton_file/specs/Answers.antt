@@ -1,15 +1,14 @@
 -- What the answers of this crate's functions say. Assumes nothing.
-use Rattle.std.specs.Prelude.{ℕ, ◌+◌, ◌*◌, ◌≤◌, ◌<◌, ◌≡◌, Bool, true, false, List, length, get_or}
-use Rattle.answer.specs.Checks.{Verdict, passed, refused, FirstFailure}
-use Rattle.rule_marks.specs.declared.Fault.{Fault}
-use Rattle.rule_marks.specs.declared.Fault.TheVariants.{Nothing, Refused as Fault-refused}
+use Rattle.std.specs.Prelude.{ℕ, ◌+◌, ◌*◌, ◌≤◌, ◌<◌, ◌≡◌, Bool, true, false, List, length, get_or, Result, Ok, Err}
+use Rattle.answer.specs.declared.Fault.{Fault}
+use Rattle.answer.specs.declared.Refused.{Refused}
+use Rattle.answer.specs.Checks.{FirstFailure, verdict_of}
 use Rattle.formats.specs.Calls.{after_call}
 use Rattle.scratch.specs.Map.{transition_table_size}
 use Rattle.formats.specs.AutomatonFile.{states_of, automaton_letters_of, transitions_at, transitions_of, from_of, letter_of, to_of, has_transition}
 use Rattle.formats.specs.AutomatonChecks.{read_checks}
 use Rattle.formats.proofs.GoodAutomaton.{GoodSections}
-use Rattle.automaton_file.specs.declared.AutomatonRead.{AutomatonRead}
-use Rattle.automaton_file.specs.declared.AutomatonRead.TheVariants.{Automaton, Refused as Read-refused}
+use Rattle.automaton_sections.specs.declared.Counts.{Counts}
 use Rattle.automaton_sections.specs.Sections.{CountsAre}
 
 -- a byte for a transition: 1 where there is one
@@ -42,25 +41,20 @@ pub record TransitionsLaid (present : ℕ → ℕ → ℕ → Bool) (m k size : 
   pub transition : (p a q : ℕ) → p < m → a < k → q < m → get_or exit (triple_index p a q) 0 ≡ one_if (present p a q)
 
 -- the transitions of a file are laid out; or, where a check fails, nothing is said of the bytes but their number
-abbrev pub LaidAnswer : List ℕ → List ℕ → List ℕ → Fault → Type 0
-LaidAnswer bytes entry exit Nothing = TransitionsLaid (has_transition bytes) (states_of bytes) (automaton_letters_of bytes) (length entry) exit
-LaidAnswer bytes entry exit (Fault-refused refusal place) = length exit ≡ length entry
-
--- document 01's number, input and place of an answer: those of its verdict
-abbrev pub verdict_of : AutomatonRead → Verdict
-verdict_of (Automaton states letters transitions) = passed
-verdict_of (Read-refused refusal input place) = refused refusal input place
+abbrev pub LaidAnswer : List ℕ → List ℕ → List ℕ → Result (Unit {0}) Fault → Type 0
+LaidAnswer bytes entry exit (Ok done) = TransitionsLaid (has_transition bytes) (states_of bytes) (automaton_letters_of bytes) (length entry) exit
+LaidAnswer bytes entry exit (Err fault) = length exit ≡ length entry
 
 -- an automaton that was read: its counts, and scratch holds its transitions
 pub record AutomatonLaid (bytes : List ℕ) (states letters transitions : ℕ) (entry exit : List ℕ) : Type 0 where
   pub counts_are : CountsAre bytes states letters transitions
   pub laid : TransitionsLaid (has_transition bytes) (states_of bytes) (automaton_letters_of bytes) (length entry) exit
 
-abbrev pub ScratchAfter : List ℕ → List ℕ → List ℕ → AutomatonRead → Type 0
-ScratchAfter bytes entry exit (Automaton states letters transitions) = AutomatonLaid bytes states letters transitions entry exit
-ScratchAfter bytes entry exit (Read-refused refusal input place) = exit ≡ after_call entry
+abbrev pub ScratchAfter : List ℕ → List ℕ → List ℕ → Result Counts Refused → Type 0
+ScratchAfter bytes entry exit (Ok counts) = AutomatonLaid bytes counts.states counts.letters counts.transitions entry exit
+ScratchAfter bytes entry exit (Err r) = exit ≡ after_call entry
 
 -- the promise of the reading: which refusal and when; else the automaton's counts, and its transitions in scratch
-pub record ReadPromise (input : ℕ) (bytes entry exit : List ℕ) (answer : AutomatonRead) : Type 0 where
+pub record ReadPromise (input : ℕ) (bytes entry exit : List ℕ) (answer : Result Counts Refused) : Type 0 where
   pub refusal : FirstFailure (read_checks input bytes entry) (verdict_of answer)
   pub scratch : ScratchAfter bytes entry exit answer

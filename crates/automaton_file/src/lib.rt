@@ -9,11 +9,10 @@ ghost use Rattle.formats.specs.AutomatonChecks.{repeated_checks, automaton_conte
 ghost use Rattle.automaton_sections.specs.Sections.{LayoutPassed};
 ghost use Rattle.automaton_file.specs.Answers.{index_of, TransitionsNeeds, BlankRoom, LaidAnswer, ReadPromise};
 
-use answer::Refusal;
-use automaton_sections::{Counts, Layout, read_layout};
+use answer::{Fault, Refusal, Refused};
+use automaton_sections::{Counts, read_layout};
 use formats::SCRATCH_SIZE;
 use rule_check::rest_after;
-use rule_marks::Fault;
 use scratch::TRANSITION_TABLE_SIZE;
 use sections::{zero, zero_part};
 
@@ -32,7 +31,7 @@ fn triple_index(bytes: &[u8], at: usize, count: usize, i: usize) -> usize
 
 // Goes through the transitions of the section at byte `at`, in file order: each is new. A byte of the table for each triple remembers
 // which transitions have stood.
-fn repeated_fault(bytes: &[u8], at: usize, count: usize, table: &mut [u8]) -> Fault
+fn repeated_fault(bytes: &[u8], at: usize, count: usize, table: &mut [u8]) -> Result<(), Fault>
     requires transitions_needs { TransitionsNeeds bytes.now at count }
     requires blank_room { BlankRoom table.old }
     ensures refusal { FaultAnswer (λ input. repeated_checks input bytes.now 0 (transitions_of bytes.now)) result }
@@ -41,18 +40,18 @@ fn repeated_fault(bytes: &[u8], at: usize, count: usize, table: &mut [u8]) -> Fa
     for i in 0..count {
         let index = triple_index(bytes, at, count, i);
         if table[index] != 0 {
-            return Fault::Refused {
-                refusal: Refusal::Duplicate,
-                place: at + (2 + 3 * i),
-            };
+            return Err(Fault {
+            refusal: Refusal::Duplicate,
+            place: at + (2 + 3 * i),
+        });
         }
         table[index] = 1;
     }
-    Fault::Nothing
+    Ok(())
 }
 
 // The checks of a file whose sections are there: nothing follows, and no transition stands twice.
-fn content_fault(bytes: &[u8], counts: Counts, scratch: &mut [u8]) -> Fault
+fn content_fault(bytes: &[u8], counts: Counts, scratch: &mut [u8]) -> Result<(), Fault>
     requires layout_passed { LayoutPassed bytes.now counts }
     requires blank_room { BlankRoom scratch.old }
     ensures refusal { FaultAnswer (λ input. automaton_content_checks input bytes.now) result }
@@ -64,66 +63,39 @@ fn content_fault(bytes: &[u8], counts: Counts, scratch: &mut [u8]) -> Fault
     let end = at + (2 + 3 * count);
     let rest = rest_after(bytes, end);
     if 0 < rest.len() {
-        return Fault::Refused {
+        return Err(Fault {
             refusal: Refusal::TrailingBytes,
             place: end,
-        };
+        });
     }
     repeated_fault(bytes, at, count, scratch)
 }
 
-// An automaton's counts, or the first check that fails, in the input of the given number.
-#[derive(Drop)]
-pub enum AutomatonRead {
-    Automaton {
-        states: usize,
-        letters: usize,
-        transitions: usize,
-    },
-    Refused {
-        refusal: Refusal,
-        input: usize,
-        place: usize,
-    },
-}
-
 // Reads an automaton file that is the input of the given number. Scratch is then zeros, or, of an automaton that passes, holds its
 // transitions in its first 576 bytes: byte p·96 + (a·6 + q) is 1 where one goes from p by a to q.
-pub fn read_automaton(bytes: &[u8], input: usize, scratch: &mut [u8]) -> AutomatonRead
+pub fn read_automaton(bytes: &[u8], input: usize, scratch: &mut [u8]) -> Result<Counts, Refused>
     ensures { ReadPromise input bytes.now scratch.old scratch.new result }
 {
     if scratch.len() < SCRATCH_SIZE {
-        return AutomatonRead::Refused {
+        return Err(Refused {
             refusal: Refusal::BufferTooShort,
             input: 1,
             place: 0,
-        };
+        });
     }
     zero_part(scratch, 0, TRANSITION_TABLE_SIZE);
     let counts = match read_layout(bytes) {
-        Layout::Read(counts) => counts,
-        Layout::Refused { refusal, place } => {
+        Ok(counts) => counts,
+        Err(fault) => {
             zero(scratch);
-            return AutomatonRead::Refused {
-                refusal,
-                input,
-                place,
-            };
+            return Err(fault.in_input(input));
         }
     };
     match content_fault(bytes, counts, scratch) {
-        Fault::Nothing => AutomatonRead::Automaton {
-            states: counts.states,
-            letters: counts.letters,
-            transitions: counts.transitions,
-        },
-        Fault::Refused { refusal, place } => {
+        Ok(()) => Ok(counts),
+        Err(fault) => {
             zero(scratch);
-            AutomatonRead::Refused {
-                refusal,
-                input,
-                place,
-            }
+            Err(fault.in_input(input))
         }
     }
 }

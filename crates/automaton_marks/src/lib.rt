@@ -99,6 +99,7 @@ pub fn lay_marks_of(kinds: &[u8], n: usize, scratch: &mut [u8], count: usize, s:
     ensures { RowFilled (MarkByte kinds.now n count scratch.old s) (laid_marks_base + s * 64) count scratch.old scratch.new }
 {
     let base = LAID_MARKS_BASE + s * 64;
+    // By index: each byte is worked out from the slice that it is written to.
     for e in 0..count {
         let byte = mark_byte(kinds, n, scratch, count, s, e);
         scratch[base + e] = byte;

@@ -1,15 +1,23 @@
 -- A matrix compared with the bytes of a stored one from the front: nothing differs so far, all agree, or something differs.
 -- Assumes nothing.
 use Prim.Native.Nat.{ℕ, ◌+◌, ◌*◌, ◌≤◌, ◌<◌}
-use mathlib.Core.Path.{◌≡◌, sym, subst, ◌∙◌}
+use mathlib.Core.Path.{◌≡◌, sym, subst, ap, ◌∙◌}
 use mathlib.Core.Bool.{Bool, true, false}
 use mathlib.Core.List.{List, []}
 use native.Mathlib.Omega.{arith}
 use borrow.Author.Count.{below_more}
-use lib.ListN.{get_or}
+use lib.ListN.{length, get_or, take}
 use lib.Dec.{T, eqb}
+use Rattle.std.specs.Bool.{Decides}
+use Rattle.std.specs.List.{between}
+use Rattle.std.specs.Cmp.Lexicographic.{pointwise}
+use Rattle.std.proofs.lemmas.Bool.Decides.{Decides-eqb}
+use Rattle.std.proofs.lemmas.Grind.{same_number_lists}
+use Rattle.std.proofs.lemmas.List.{length-take-le, get_or-take}
+use Rattle.std.proofs.lemmas.List.Edits.{length-between, get_or-between}
+use Rattle.std.proofs.lemmas.Slice.Eq.{slice_eq-Decides}
 use mir.Facts.{eqb_yes, yes_eqb}
-use Rattle.finite.proofs.Tests.{T_true, T_false, true_T}
+use Rattle.finite.proofs.Tests.{T_true, T_false, true_T, tests_equal}
 use Rattle.finite.proofs.Search.{all_intro, all_elim}
 use Rattle.buchi.proofs.MatrixTests.{same_test, same_intro, same_elim}
 use Rattle.automaton_products.specs.Arrays.{entry_in}
@@ -27,25 +35,32 @@ module _ (scratch : List ℕ) (at n : ℕ) (row : List ℕ) where
   unfolding same_bytes
   test_agrees t q l = eqb_yes (all_elim n (λ q. eqb (get_or row q 0) (bytes_from scratch at q)) t q l)
 
--- the first k of n entries agree
-pub record Agree (scratch : List ℕ) (at n : ℕ) (row : List ℕ) (k : ℕ) : Type 0 where
-  pub within : k ≤ n
-  pub same : (q : ℕ) → q < k → get_or row q 0 ≡ bytes_from scratch at q
+-- the parts are told to be the same by a comparison of them
+pub parts_same : (scratch : List ℕ) (at n : ℕ) (row : List ℕ) → n ≤ 6 → at + 6 ≤ length scratch → length row ≡ 6 → (answer : Bool)
+    → answer ≡ pointwise eqb (take n row) (between at (at + n) scratch) → answer ≡ same_bytes scratch at n row
+unfolding bytes_from
+parts_same scratch at n row few room six answer e = tests_equal answer _ (λ x. there (T_true answer x)) (λ x. true_T (back x))
+  where
+    front : (q : ℕ) → q < n → get_or (take n row) q 0 ≡ get_or row q 0
+    front q l = get_or-take n row q 0 l
 
-module _ {scratch : List ℕ} {at n : ℕ} {row : List ℕ} where
-  pub agree_none : Agree scratch at n row 0
-  agree_none = record { within = omega arith; same = λ q h. absurd (omega arith) }
+    bytes : (q : ℕ) → q < n → get_or (between at (at + n) scratch) q 0 ≡ bytes_from scratch at q
+    bytes q l = get_or-between scratch at (at + n) q 0 (omega arith)
 
-  pub agree_more : {k : ℕ} → Agree scratch at n row k → k < n → get_or row k 0 ≡ get_or scratch (at + k) 0 → Agree scratch at n row (k + 1)
-  unfolding bytes_from
-  agree_more {k} a h e = record { within = omega arith; same = below_more (λ q. get_or row q 0 ≡ bytes_from scratch at q) k a.same e }
+    front_long : length (take n row) ≡ n
+    front_long = length-take-le n row (omega (arith, six))
 
-  pub agree_all : {k : ℕ} → Agree scratch at n row k → n ≤ k → true ≡ same_bytes scratch at n row
-  agree_all a h = sym (T_true (same_bytes scratch at n row) (agree_test scratch at n row (λ q l. a.same q (omega arith))))
+    bytes_long : length (between at (at + n) scratch) ≡ n
+    bytes_long = omega (arith, length-between scratch at (at + n) (omega (arith, room, few)))
 
-  pub entry_differs : {k : ℕ} → Agree scratch at n row k → k < n → (get_or row k 0 ≡ get_or scratch (at + k) 0 → ⊥) → false ≡ same_bytes scratch at n row
-  unfolding bytes_from
-  entry_differs {k} a h f = sym (T_false (same_bytes scratch at n row) (λ t. f (test_agrees scratch at n row t k h)))
+    told : Decides answer (take n row ≡ between at (at + n) scratch)
+    told = slice_eq-Decides Decides-eqb _ _ answer e
+
+    there : answer ≡ true → T (same_bytes scratch at n row)
+    there a = agree_test scratch at n row (λ q l. sym (front q l) ∙ ap (λ (xs : List ℕ). get_or xs q 0) (told.0 a) ∙ bytes q l)
+
+    back : T (same_bytes scratch at n row) → answer ≡ true
+    back t = told.1 (same_number_lists _ _ (front_long ∙ sym bytes_long) (λ q l. let m : q < n = omega (arith, front_long) in front q m ∙ test_agrees scratch at n row t q m ∙ sym (bytes q m)))
 
 -- ---- matrices
 

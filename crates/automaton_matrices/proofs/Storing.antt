@@ -5,8 +5,10 @@ use mathlib.Core.Logic.{◌≢◌, ⊎_elim}
 use mathlib.Core.List.{List, []}
 use native.Mathlib.Omega.{arith}
 use borrow.Author.Count.{below_more}
-use lib.ListN.{length, get_or, set, length-set}
-use lib.Seq.{get_or-set_same, get_or-set_other}
+use lib.ListN.{length, get_or}
+use Rattle.std.specs.List.{between}
+use Rattle.std.proofs.lemmas.List.{get_or_past}
+use Rattle.std.proofs.lemmas.List.Edits.{length-between, get_or-between}
 use Rattle.buchi.specs.Matrices.{SameEntries}
 use Rattle.finite.proofs.Numbers.{le_or_lt}
 use Rattle.automaton_products.specs.Arrays.{entry_in, StateEntries, MatrixShape, RowOf}
@@ -28,26 +30,16 @@ row_bytes scratch base i p q = ap (λ j. get_or scratch j 0) (row_place base i p
 
 -- ---- a row
 
-module _ {entry : List ℕ} {at : ℕ} {row : List ℕ} where
-  pub row_stored_none : RowStored entry entry at row 0
-  row_stored_none = record { same_length = refl; entries = λ q h. absurd (omega arith); before = λ j h. refl; behind = λ j h. refl }
-
-  pub row_stored_more : {now : List ℕ} {k : ℕ} → RowStored entry now at row k → at + k < length now → RowStored entry (set now (at + k) (get_or row k 0)) at row (k + 1)
-  unfolding bytes_from
-  row_stored_more {now} {k} s h = record {
-    same_length = length-set now (at + k) (get_or row k 0) ∙ s.same_length;
-    entries =
-        below_more (λ q. get_or (set now (at + k) (get_or row k 0)) (at + q) 0 ≡ get_or row q 0) k (λ q l. old (at + q) (omega arith) ∙ s.entries q l)
-        (get_or-set_same now (at + k) (get_or row k 0) 0 h);
-    before = λ j l. old j (omega arith) ∙ s.before j l;
-    behind = λ j l. old j (omega arith) ∙ s.behind j (omega arith);
-  }
-    where
-      old : (j : ℕ) → j ≢ at + k → get_or (set now (at + k) (get_or row k 0)) j 0 ≡ get_or now j 0
-      old j g = get_or-set_other now (at + k) j (get_or row k 0) 0 g
-
-  pub row_stored_all : {now : List ℕ} {k : ℕ} → k ≤ 6 → 6 ≤ k → RowStored entry now at row k → RowStored entry now at row 6
-  row_stored_all {k = k} h l s = let e : 6 ≡ k = omega arith in rw e s
+-- six bytes are a row
+pub bytes_row : (scratch : List ℕ) (at : ℕ) → at + 6 ≤ length scratch → RowOf (bytes_from scratch at) 6 (between at (at + 6) scratch)
+unfolding bytes_from
+bytes_row scratch at h =
+    let six : length (between at (at + 6) scratch) ≡ 6 = omega (arith, length-between scratch at (at + 6) h) in
+    record {
+      six = six;
+      entries = λ q l. get_or-between scratch at (at + 6) q 0 (omega arith);
+      zeros = λ q g. get_or_past (between at (at + 6) scratch) q 0 (omega (arith, six));
+    }
 
 -- ---- a matrix
 

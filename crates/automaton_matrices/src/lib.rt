@@ -31,6 +31,7 @@ fn letter_row(kinds: &[u8], n: usize, steps: &[u8], letter: usize, p: usize) -> 
     ensures { RowOf (letter_entry kinds.now steps.now letter p) n result }
 {
     let mut row = [0u8; 6];
+    // By index: an entry is worked out from its number, so that enumerate and take would be no plainer.
     for q in 0..n {
         row[q] = letter_entry(kinds, steps, letter, p, q);
     }
@@ -43,6 +44,7 @@ pub fn letter_matrix(kinds: &[u8], n: usize, steps: &[u8], letter: usize) -> [[u
     ensures { IsLetter kinds.now n steps.now letter result }
 {
     let mut out = [[0u8; 6]; 6];
+    // By index: a row is worked out from its number, so that enumerate and take would be no plainer.
     for p in 0..n {
         out[p] = letter_row(kinds, n, steps, letter, p);
     }
@@ -54,12 +56,7 @@ fn same_bytes(scratch: &[u8], at: usize, n: usize, row: &[u8; 6]) -> bool
     requires { (n ≤ 6) × (at + 6 ≤ length scratch.now) }
     ensures { result ≡ same_bytes scratch.now at n row.now }
 {
-    for q in 0..n {
-        if row[q] != scratch[at + q] {
-            return false;
-        }
-    }
-    true
+    &row[..n] == &scratch[at..at + n]
 }
 
 // Whether matrix i of the list that begins at a byte has the same entries over n states. It is compared where it stands, up to the
@@ -82,9 +79,7 @@ fn load_row(scratch: &[u8], at: usize) -> [u8; 6]
     ensures { RowOf (bytes_from scratch.now at) 6 result }
 {
     let mut row = [0u8; 6];
-    for q in 0..6 {
-        row[q] = scratch[at + q];
-    }
+    row.copy_from_slice(&scratch[at..at + 6]);
     row
 }
 
@@ -94,20 +89,18 @@ pub fn load_matrix(scratch: &[u8], base: usize, i: usize) -> [[u8; 6]; 6]
     ensures { Loaded scratch.now base i result }
 {
     let mut out = [[0u8; 6]; 6];
-    for p in 0..6 {
-        out[p] = load_row(scratch, base + (i * 64 + p * 6));
+    for (p, row) in out.iter_mut().enumerate() {
+        *row = load_row(scratch, base + (i * 64 + p * 6));
     }
     out
 }
 
 // Writes a row to six bytes.
-fn store_row(scratch: &mut [u8], at: usize, row: [u8; 6])
+fn store_row(scratch: &mut [u8], at: usize, row: &[u8; 6])
     requires { at + 6 ≤ length scratch.old }
-    ensures { RowStored scratch.old scratch.new at row 6 }
+    ensures { RowStored scratch.old scratch.new at row.now 6 }
 {
-    for q in 0..6 {
-        scratch[at + q] = row[q];
-    }
+    scratch[at..at + 6].copy_from_slice(row);
 }
 
 // Writes matrix i of the list that begins at a byte.
@@ -115,8 +108,7 @@ pub fn store_matrix(scratch: &mut [u8], base: usize, i: usize, m: [[u8; 6]; 6])
     requires { MatrixNeeds scratch.old base i }
     ensures { Stored scratch.old scratch.new base i m 6 }
 {
-    for p in 0..6 {
-        let row = m[p];
+    for (p, row) in m.iter().enumerate() {
         store_row(scratch, base + (i * 64 + p * 6), row);
     }
 }

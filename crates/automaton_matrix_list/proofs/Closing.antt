@@ -1,5 +1,6 @@
 -- The list while its matrices are multiplied with the letters' one after the other: when the last one was, the list has the matrices of all
 -- non-empty words. Assumes nothing.
+use Rattle.std.proofs.Common.{Option, Some, None}
 use Prim.Native.Nat.{ℕ, zero, suc, ◌+◌, ◌≤◌, ◌<◌}
 use mathlib.Core.Path.{◌≡◌, sym, subst}
 use mathlib.Core.List.{List}
@@ -14,8 +15,6 @@ use Rattle.automaton_matrices.specs.Bytes.{letter_entry}
 use Rattle.automaton_matrices.proofs.Letters.{stands_letter}
 use Rattle.automaton_matrix_search.specs.Lists.{matrix_at, next_at, parent_at, letter_at, ListNeeds, StandsHere, Kept, step_entry, StepNumber, MatricesAnswer}
 use Rattle.automaton_matrix_search.specs.Steps.{StepsTaken, Following, FollowAnswer, Followed, LetterList, SearchAt, Multiplied, MultipliedFull, MultiplyAnswer, ProductsAdded, ListClosed}
-use Rattle.automaton_matrix_search.specs.declared.MatrixCount.{MatrixCount}
-use Rattle.automaton_matrix_search.specs.declared.MatrixCount.TheVariants.{Listed, TooMany}
 use Rattle.scratch.proofs.Unchanged.{unchanged_none, unchanged_both}
 use Rattle.automaton_matrix_search.proofs.Growing.{among_same, here_kept, place_kept}
 use Rattle.automaton_matrix_list.proofs.Order.{step_among}
@@ -75,7 +74,7 @@ module _ {kinds : List ℕ} {n k : ℕ} {entry now : List ℕ} {count from : ℕ
       steps = λ i x b l. every_step (suc i) x (omega arith) l;
     }
 
-  all_listed : 1 ≤ k → MatricesAnswer kinds n k entry now (Listed count)
+  all_listed : 1 ≤ k → MatricesAnswer kinds n k entry now (Some count)
   all_listed some = record {
     kept = s.kept;
     says = record {
@@ -110,7 +109,7 @@ module _ {n k : ℕ} {entry : List ℕ} {begun : ℕ} {now : List ℕ} {count fr
       record { place = place_kept s.kept e.place; taken = record { kept = unchanged_none _ _ _; words = t.words; steps = t.steps; found = t.found } }
 
   -- one matrix more was multiplied
-  pub closing_next : {next : List ℕ} {total : ℕ} {answer : MatrixCount} → from < count → ProductsAdded n k now count (from + 1) next answer → answer ≡ Listed total
+  pub closing_next : {next : List ℕ} {total : ℕ} {answer : Option ℕ} → from < count → ProductsAdded n k now count (from + 1) next answer → answer ≡ Some total
       → Closing n k entry begun next total (from + 1)
   closing_next {next} {total} h a e =
       let r : Multiplied n k now count (from + 1) next total k = subst (MultiplyAnswer n k now count (from + 1) next) e a.says in
@@ -123,35 +122,35 @@ module _ {n k : ℕ} {entry : List ℕ} {begun : ℕ} {now : List ℕ} {count fr
       }
 
   -- or there are too many
-  pub closing_full : {next : List ℕ} {answer : MatrixCount} → ProductsAdded n k now count (from + 1) next answer → answer ≡ TooMany → ListClosed n k entry begun next TooMany
+  pub closing_full : {next : List ℕ} {answer : Option ℕ} → ProductsAdded n k now count (from + 1) next answer → answer ≡ None → ListClosed n k entry begun next None
   closing_full {next} a e =
       let r : MultipliedFull n k now count (from + 1) = subst (MultiplyAnswer n k now count (from + 1) next) e a.says in
       let kept = unchanged_both s.kept a.kept in
       record { kept = kept; closed = λ kinds f. record { kept = kept; says = rich_kept s.kept (r.rich kinds (search_now f)) } }
 
-  pub closing_done : 1 ≤ k → count ≤ from → ListClosed n k entry begun now (Listed count)
+  pub closing_done : 1 ≤ k → count ≤ from → ListClosed n k entry begun now (Some count)
   closing_done some done = record { kept = s.kept; closed = λ kinds f. all_listed (s.taken kinds f) done some }
 
 -- ---- the letters first
 
-module _ {kinds : List ℕ} {n k : ℕ} {entry now : List ℕ} {answer : MatrixCount} (place : ListNeeds kinds n k entry) (a : Followed kinds n k entry 0 0 now answer) where
-  begun_taken : {begun : ℕ} → answer ≡ Listed begun → StepsTaken kinds n k now now begun 1 0
+module _ {kinds : List ℕ} {n k : ℕ} {entry now : List ℕ} {answer : Option ℕ} (place : ListNeeds kinds n k entry) (a : Followed kinds n k entry 0 0 now answer) where
+  begun_taken : {begun : ℕ} → answer ≡ Some begun → StepsTaken kinds n k now now begun 1 0
   begun_taken {begun} e =
       let r : Following kinds n k entry 0 0 now begun k = subst (FollowAnswer kinds n k entry 0 0 now) e a.says in
       let t : StepsTaken kinds n k entry now begun 1 0 = entry_taken (omega arith) r.taken in
       record { kept = unchanged_none _ _ _; words = t.words; steps = t.steps; found = t.found }
 
-  pub begun_list : {begun : ℕ} → answer ≡ Listed begun → LetterList n k now begun
+  pub begun_list : {begun : ℕ} → answer ≡ Some begun → LetterList n k now begun
   begun_list {begun} e =
       let t : StepsTaken kinds n k now now begun 1 0 = begun_taken e in
       record { few_letters = place.few_letters; list = t.words.list; letters = λ x h. (t.steps 0 x (sooner_parent (omega arith)) h).below }
 
-  pub begun_full : answer ≡ TooMany → MatricesAnswer kinds n k entry now TooMany
+  pub begun_full : answer ≡ None → MatricesAnswer kinds n k entry now None
   begun_full e = record { kept = a.kept; says = subst (FollowAnswer kinds n k entry 0 0 now) e a.says }
 
   -- what holds of the list that the letters began holds from the start
-  from_start : {exit : List ℕ} {last : MatrixCount} → MatricesAnswer kinds n k now exit last → MatricesAnswer kinds n k entry exit last
-  from_start {last = Listed count} r = record {
+  from_start : {exit : List ℕ} {last : Option ℕ} → MatricesAnswer kinds n k now exit last → MatricesAnswer kinds n k entry exit last
+  from_start {last = Some count} r = record {
     kept = unchanged_both a.kept r.kept;
     says = record {
       some = r.says.some;
@@ -161,7 +160,7 @@ module _ {kinds : List ℕ} {n k : ℕ} {entry now : List ℕ} {answer : MatrixC
       in_order = λ t h. r.says.in_order t (here_kept a.kept h);
     };
   }
-  from_start {last = TooMany} r = record { kept = unchanged_both a.kept r.kept; says = rich_kept a.kept r.says }
+  from_start {last = None} r = record { kept = unchanged_both a.kept r.kept; says = rich_kept a.kept r.says }
 
-  pub begun_done : {begun : ℕ} {exit : List ℕ} {last : MatrixCount} → answer ≡ Listed begun → ListClosed n k now begun exit last → MatricesAnswer kinds n k entry exit last
+  pub begun_done : {begun : ℕ} {exit : List ℕ} {last : Option ℕ} → answer ≡ Some begun → ListClosed n k now begun exit last → MatricesAnswer kinds n k entry exit last
   begun_done e r = from_start (r.closed kinds (record { place = place_kept a.kept place; taken = begun_taken e }))

@@ -1,5 +1,6 @@
 -- The letters followed one after the other from one entry of the search: each step's matrix is in the list, and the step is recorded.
 -- Assumes nothing.
+use Rattle.std.proofs.Common.{Option, Some, None}
 use Prim.Native.Nat.{ℕ, suc, ◌+◌, ◌≤◌, ◌<◌}
 use mathlib.Core.Path.{◌≡◌, subst}
 use mathlib.Core.Logic.{◌≢◌, ◌⊎◌, inl, inr, ⊎_elim}
@@ -13,8 +14,6 @@ use Rattle.buchi.proofs.Products.{same_sym, same_trans}
 use Rattle.automaton_products.specs.Arrays.{entry_in}
 use Rattle.automaton_matrix_search.specs.Lists.{step_place, next_at, parent_at, letter_at, ListNeeds, Kept, TooRich, step_entry, StepNumber}
 use Rattle.automaton_matrix_search.specs.Steps.{Full, StepTaken, StepAnswer, StepAdded, IsWord, FoundFrom, StepsTaken, Following, Followed}
-use Rattle.automaton_matrix_search.specs.declared.MatrixCount.{MatrixCount}
-use Rattle.automaton_matrix_search.specs.declared.MatrixCount.TheVariants.{Listed, TooMany}
 use Rattle.scratch.proofs.Unchanged.{unchanged_both}
 use Rattle.automaton_matrix_search.proofs.Growing.{here_kept, grown_refl, grown_trans}
 use Rattle.automaton_matrix_list.proofs.Order.{step_among, step_grown, step_among_grown, number_grown, found_grown}
@@ -22,12 +21,12 @@ use Rattle.automaton_matrix_list.proofs.Words.{words_added, too_rich}
 
 -- ---- the answers of one step
 
-pub step_listed : {n count total p x : ℕ} {entry exit : List ℕ} {m : List (List ℕ)} {answer : MatrixCount} → StepAdded n entry count m p x exit answer
-    → answer ≡ Listed total → StepTaken n entry count m p x exit total
+pub step_listed : {n count total p x : ℕ} {entry exit : List ℕ} {m : List (List ℕ)} {answer : Option ℕ} → StepAdded n entry count m p x exit answer
+    → answer ≡ Some total → StepTaken n entry count m p x exit total
 step_listed {n} {count} {total} {p} {x} {entry} {exit} {m} a e = subst (StepAnswer n entry count m p x exit) e a.says
 
-pub step_full : {n count p x : ℕ} {entry exit : List ℕ} {m : List (List ℕ)} {answer : MatrixCount} → StepAdded n entry count m p x exit answer
-    → answer ≡ TooMany → Full n entry count m
+pub step_full : {n count p x : ℕ} {entry exit : List ℕ} {m : List (List ℕ)} {answer : Option ℕ} → StepAdded n entry count m p x exit answer
+    → answer ≡ None → Full n entry count m
 step_full {n} {count} {p} {x} {entry} {exit} {m} a e = subst (StepAnswer n entry count m p x exit) e a.says
 
 -- an automaton that stands in the bytes at entry stands in those of now
@@ -136,9 +135,9 @@ module _ {kinds : List ℕ} {n k count p : ℕ} {entry : List ℕ} (place : List
     }
 
     -- or the list is full
-    pub following_full : {next : List ℕ} → Full n now total m → Kept now next → Followed kinds n k entry count p next TooMany
+    pub following_full : {next : List ℕ} → Full n now total m → Kept now next → Followed kinds n k entry count p next None
     following_full d e = record { kept = unchanged_both f.taken.kept e; says = rich_kept f.taken.kept (too_rich f.taken.words word d) }
 
   -- every letter was followed
-  pub following_all : {now : List ℕ} {total x : ℕ} → Following kinds n k entry count p now total x → x ≤ k → k ≤ x → Followed kinds n k entry count p now (Listed total)
+  pub following_all : {now : List ℕ} {total x : ℕ} → Following kinds n k entry count p now total x → x ≤ k → k ≤ x → Followed kinds n k entry count p now (Some total)
   following_all {now} {total} {x} f h l = let e : x ≡ k = omega arith in record { kept = f.taken.kept; says = rw e at f }

@@ -1,5 +1,6 @@
 -- The product of one matrix of the list with a letter's matrix, which is read by its number: a word's matrix, and what the letter makes
 -- of the entry. Assumes nothing.
+use Rattle.std.proofs.Common.{Some, None}
 use Prim.Native.Nat.{ℕ, ◌+◌, ◌≤◌, ◌<◌}
 use mathlib.Core.Path.{◌≡◌, subst}
 use mathlib.Core.List.{List}
@@ -16,7 +17,6 @@ use Rattle.automaton_matrices.proofs.Letters.{stands_letter}
 use Rattle.automaton_matrices.proofs.Storing.{loaded_same, loaded_shape}
 use Rattle.automaton_matrix_search.specs.Lists.{matrix_at, step_place, next_at, Kept, step_entry, StepNumber}
 use Rattle.automaton_matrix_search.specs.Steps.{Full, StepTaken, IsWord, LetterList, SearchAt, Multiplied, ProductsAdded}
-use Rattle.automaton_matrix_search.specs.declared.MatrixCount.TheVariants.{Listed, TooMany}
 use Rattle.automaton_matrix_search.proofs.Finding.{list_place}
 use Rattle.scratch.proofs.Unchanged.{unchanged_both}
 use Rattle.automaton_matrix_search.proofs.Growing.{grown_refl, grown_trans}
@@ -97,7 +97,7 @@ module _ {n k count from : ℕ} {entry : List ℕ} (l : LetterList n k entry cou
       }
 
       -- or the list is full
-      pub multiplied_full : {next : List ℕ} → Full n now total m → Kept now next → ProductsAdded n k entry count (from + 1) next TooMany
+      pub multiplied_full : {next : List ℕ} → Full n now total m → Kept now next → ProductsAdded n k entry count (from + 1) next None
       multiplied_full d e = record {
         kept = unchanged_both r.grown.kept e;
         says = record {
@@ -106,5 +106,5 @@ module _ {n k count from : ℕ} {entry : List ℕ} (l : LetterList n k entry cou
       }
 
   -- every letter was followed
-  pub multiplied_all : {now : List ℕ} {total x : ℕ} → Multiplied n k entry count (from + 1) now total x → x ≤ k → k ≤ x → ProductsAdded n k entry count (from + 1) now (Listed total)
+  pub multiplied_all : {now : List ℕ} {total x : ℕ} → Multiplied n k entry count (from + 1) now total x → x ≤ k → k ≤ x → ProductsAdded n k entry count (from + 1) now (Some total)
   multiplied_all {now} {total} {x} r h g = let e : x ≡ k = omega arith in record { kept = r.grown.kept; says = rw e at r }

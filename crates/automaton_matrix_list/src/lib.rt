@@ -12,27 +12,21 @@ ghost use Rattle.automaton_matrix_search.specs.Steps.{Followed, LetterList, Prod
 ghost use Rattle.automaton_ready_products.specs.Ready.{LentTable};
 
 use automaton_matrices::{letter_matrix, load_matrix};
-use automaton_matrix_search::{MatrixCount, add_step};
+use automaton_matrix_search::add_step;
 use automaton_ready_products::any_product;
 use scratch::{MATRICES_BASE, STEPS_BASE};
 
 // Adds the matrix of every letter.
-fn add_letters(kinds: &[u8], n: usize, k: usize, scratch: &mut [u8]) -> MatrixCount
+fn add_letters(kinds: &[u8], n: usize, k: usize, scratch: &mut [u8]) -> Option<usize>
     requires { ListNeeds kinds.now n k scratch.old }
     ensures { Followed kinds.now n k scratch.old 0 0 scratch.new result }
 {
     let mut total = 0;
     for letter in 0..k {
         let m = letter_matrix(kinds, n, scratch, letter);
-        let next = match add_step(scratch, n, total, 0, letter, m) {
-            MatrixCount::Listed(c) => c,
-            MatrixCount::TooMany => {
-                return MatrixCount::TooMany;
-            }
-        };
-        total = next;
+        total = add_step(scratch, n, total, 0, letter, m)?;
     }
-    MatrixCount::Listed(total)
+    Some(total)
 }
 
 // Adds the product of one matrix of the list with the matrix of every letter, which is read from the list by its number.
@@ -43,7 +37,7 @@ fn add_products(
     count: usize,
     from: usize,
     table: &[u8],
-) -> MatrixCount
+) -> Option<usize>
     requires letter_list { LetterList n k scratch.old count }
     requires from_lt_count { from < count }
     requires lent_table { LentTable table.now }
@@ -55,19 +49,13 @@ fn add_products(
         let at = scratch[STEPS_BASE + letter] as usize;
         let right = load_matrix(scratch, MATRICES_BASE, at);
         let m = any_product(n, left, right, table);
-        let next = match add_step(scratch, n, total, from + 1, letter, m) {
-            MatrixCount::Listed(c) => c,
-            MatrixCount::TooMany => {
-                return MatrixCount::TooMany;
-            }
-        };
-        total = next;
+        total = add_step(scratch, n, total, from + 1, letter, m)?;
     }
-    MatrixCount::Listed(total)
+    Some(total)
 }
 
 // Goes through the list, from its first matrix to those that are added.
-fn close_list(n: usize, k: usize, scratch: &mut [u8], begun: usize, table: &[u8]) -> MatrixCount
+fn close_list(n: usize, k: usize, scratch: &mut [u8], begun: usize, table: &[u8]) -> Option<usize>
     requires letter_list { LetterList n k scratch.old begun }
     requires le_k { 1 ≤ k }
     requires lent_table { LentTable table.now }
@@ -75,37 +63,27 @@ fn close_list(n: usize, k: usize, scratch: &mut [u8], begun: usize, table: &[u8]
 {
     let mut count = begun;
     let mut from = 0;
+    // A while: the list grows on the way, so that no range has its entries beforehand.
     while from < count {
-        let next = match add_products(n, k, scratch, count, from, table) {
-            MatrixCount::Listed(c) => c,
-            MatrixCount::TooMany => {
-                return MatrixCount::TooMany;
-            }
-        };
-        count = next;
+        count = add_products(n, k, scratch, count, from, table)?;
         from += 1;
     }
-    MatrixCount::Listed(count)
+    Some(count)
 }
 
-// The matrices of all non-empty words, each once, or that there are more than 64.
+// The matrices of all non-empty words, each once: how many they are, or none where there are more than 64.
 pub fn list_matrices(
     kinds: &[u8],
     n: usize,
     k: usize,
     scratch: &mut [u8],
     table: &[u8],
-) -> MatrixCount
+) -> Option<usize>
     requires list_needs { ListNeeds kinds.now n k scratch.old }
     requires le_k { 1 ≤ k }
     requires lent_table { LentTable table.now }
     ensures { MatricesAnswer kinds.now n k scratch.old scratch.new result }
 {
-    let begun = match add_letters(kinds, n, k, scratch) {
-        MatrixCount::Listed(c) => c,
-        MatrixCount::TooMany => {
-            return MatrixCount::TooMany;
-        }
-    };
+    let begun = add_letters(kinds, n, k, scratch)?;
     close_list(n, k, scratch, begun, table)
 }

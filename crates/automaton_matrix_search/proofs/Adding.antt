@@ -1,4 +1,5 @@
 -- One matrix added to the list, unless it is there or the list is full. Assumes nothing.
+use Rattle.std.proofs.Common.{Some, None}
 use Prim.Native.Nat.{ℕ, ◌+◌, ◌≤◌, ◌<◌}
 use mathlib.Core.Path.{◌≡◌, sym, ◌∙◌}
 use mathlib.Core.Logic.{◌≢◌}
@@ -14,26 +15,26 @@ use Rattle.scratch.specs.Bytes.{UnchangedOutside}
 use Rattle.scratch.specs.Map.{matrices_base, steps_base}
 use Rattle.scratch.proofs.Unchanged.{unchanged_none, unchanged_wider}
 use Rattle.automaton_matrix_search.specs.Lists.{matrix_at, MatrixList}
-use Rattle.automaton_matrix_search.specs.Steps.{Added}
-use Rattle.automaton_matrix_search.specs.declared.Addition.TheVariants.{Placed, NoPlace}
+use Rattle.automaton_matrix_search.specs.Steps.{MatrixThere, Added}
 use Rattle.automaton_matrix_search.proofs.Finding.{answer_same, answer_other}
 use Rattle.automaton_matrix_search.proofs.Growing.{other_same, other_sym, grown_refl}
 
-module _ {n count at : ℕ} {scratch : List ℕ} {m : List (List ℕ)} (list : MatrixList n scratch count)
-    (e : at ≡ number_of n count (matrix_at scratch) (entry_in m)) where
+module _ {n count : ℕ} {scratch : List ℕ} {m : List (List ℕ)} (list : MatrixList n scratch count) where
   -- it is there
-  pub add_there : at < count → Added n scratch count m scratch (Placed at count)
-  add_there h = record {
+  pub add_there : {at : ℕ} → MatrixThere n scratch count m at → Added n scratch count m scratch (Some (record { number = at; total = count }))
+  add_there f = record {
     kept = unchanged_none _ _ _;
-    says = record { grown = grown_refl list; below = h; same = answer_same (matrix_at scratch) (entry_in m) e h; only = λ j l b. absurd (omega arith); one_more = omega arith };
+    says = record { grown = grown_refl list; below = f.below; same = answer_same (matrix_at scratch) (entry_in m) f.first f.below; only = λ j l b. absurd (omega arith); one_more = omega arith };
   }
 
+module _ {n count : ℕ} {scratch : List ℕ} {m : List (List ℕ)} (list : MatrixList n scratch count)
+    (e : count ≡ number_of n count (matrix_at scratch) (entry_in m)) where
   -- the list is full
-  pub add_full : count ≤ at → count ≡ 64 → Added n scratch count m scratch NoPlace
-  add_full h d = record { kept = unchanged_none _ _ _; says = record { full = d; other = answer_other (matrix_at scratch) (entry_in m) e h } }
+  pub add_full : count ≡ 64 → Added n scratch count m scratch None
+  add_full d = record { kept = unchanged_none _ _ _; says = record { full = d; other = answer_other (matrix_at scratch) (entry_in m) e (omega arith) } }
 
   -- it gets the next place
-  module _ {exit : List ℕ} (h : count ≤ at) (f : count ≢ 64) (shape : MatrixShape n m) (s : Stored scratch exit 8192 count m 6) where
+  module _ {exit : List ℕ} (f : count ≢ 64) (shape : MatrixShape n m) (s : Stored scratch exit 8192 count m 6) where
     old : (i : ℕ) → i < count → SameEntries n (matrix_at scratch i) (matrix_at exit i)
     old i l =
         let few = list.few_states in
@@ -55,7 +56,7 @@ module _ {n count at : ℕ} {scratch : List ℕ} {m : List (List ℕ)} (list : M
 
     -- the new matrix differs from the others, and those from one another
     other_old : (i : ℕ) → i < count → OtherEntry n (matrix_at exit count) (matrix_at exit i)
-    other_old i l = other_same new (old i l) (answer_other (matrix_at scratch) (entry_in m) e h i l)
+    other_old i l = other_same new (old i l) (answer_other (matrix_at scratch) (entry_in m) e (omega arith) i l)
 
     all_apart : (i j : ℕ) → i < count + 1 → j < count + 1 → ¬ (i ≡ j) → Dec (i ≡ count) → Dec (j ≡ count) → OtherEntry n (matrix_at exit i) (matrix_at exit j)
     all_apart i j li lj g (yes d) (yes b) = absurd (g (d ∙ sym b))
@@ -85,7 +86,7 @@ module _ {n count at : ℕ} {scratch : List ℕ} {m : List (List ℕ)} (list : M
     only : (j : ℕ) → count ≤ j → j < count + 1 → SameEntries n (entry_in m) (matrix_at exit j)
     only j l b = let d : j ≡ count = omega arith in rw d new
 
-    pub add_new : Added n scratch count m exit (Placed count (count + 1))
+    pub add_new : Added n scratch count m exit (Some (record { number = count; total = count + 1 }))
     add_new = record {
       kept = kept;
       says = record {

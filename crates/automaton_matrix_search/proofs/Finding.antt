@@ -14,6 +14,7 @@ use Rattle.buchi.proofs.MatrixLists.{number_of}
 use Rattle.automaton_products.specs.Arrays.{entry_in}
 use Rattle.automaton_matrices.specs.Bytes.{MatrixNeeds}
 use Rattle.automaton_matrix_search.specs.Lists.{matrix_at, MatrixList}
+use Rattle.automaton_matrix_search.specs.Steps.{MatrixThere}
 
 -- a matrix of the list has its bytes
 pub list_place : {n count i : ℕ} {scratch : List ℕ} → MatrixList n scratch count → i < 64 → MatrixNeeds scratch 8192 i
@@ -31,9 +32,9 @@ module _ {n : ℕ} {scratch : List ℕ} {count : ℕ} {m : List (List ℕ)} wher
   unfound_start = record { within = omega arith; others = λ j h. absurd (omega arith) }
 
   module _ {i : ℕ} {b : Bool} (u : Unfound n scratch count m i) (h : i < count) (e : b ≡ same_test n (entry_in m) (matrix_at scratch i)) where
-    pub found_here : b ≡ true → i ≡ number_of n count (matrix_at scratch) (entry_in m)
+    pub found_here : b ≡ true → MatrixThere n scratch count m i
     unfolding number_of
-    found_here t = least_unique count (λ j. same_test n (entry_in m) (matrix_at scratch j)) i (omega arith) (λ g. subst T e (true_T t)) u.others
+    found_here t = record { below = h; first = least_unique count (λ j. same_test n (entry_in m) (matrix_at scratch j)) i (omega arith) (λ g. subst T e (true_T t)) u.others }
 
     pub unfound_more : b ≡ false → Unfound n scratch count m (i + 1)
     unfound_more f = record {

@@ -1,4 +1,5 @@
 -- A step recorded behind the list, and the matrix that it leads to added before: the list is as the addition left it. Assumes nothing.
+use Rattle.std.proofs.Common.{Option, Some, None}
 use Prim.Native.Nat.{ℕ, ◌≤◌, ◌<◌}
 use mathlib.Core.Path.{◌≡◌, sym, ◌∙◌, subst}
 use mathlib.Core.List.{List}
@@ -9,9 +10,7 @@ use Rattle.buchi.proofs.Products.{same_trans}
 use Rattle.scratch.proofs.Unchanged.{unchanged_both, unchanged_wider}
 use Rattle.automaton_matrix_search.specs.Lists.{step_place, parent_place, letter_place, MatrixList, Kept, KeptBelow}
 use Rattle.automaton_matrix_search.specs.Steps.{Grown, AddedTo, Full, AddAnswer, Added, RecordNeeds, StepRecorded, StepAdded}
-use Rattle.automaton_matrix_search.specs.declared.Addition.{Addition}
-use Rattle.automaton_matrix_search.specs.declared.Addition.TheVariants.{Placed, NoPlace}
-use Rattle.automaton_matrix_search.specs.declared.MatrixCount.TheVariants.{Listed, TooMany}
+use Rattle.automaton_matrix_search.specs.declared.Placed.{Placed}
 use Rattle.automaton_matrix_search.proofs.Staying.{matrix_stays, list_stays}
 
 -- ---- three bytes
@@ -40,29 +39,29 @@ module _ {scratch : List ℕ} {p x number next : ℕ} (place : RecordNeeds scrat
 
 -- ---- an addition, and the record of it
 
-module _ {n count p x : ℕ} {entry mid : List ℕ} {m : List (List ℕ)} (list : MatrixList n entry count) (inside : p ≤ count) (small : x < 16) (answer : Addition)
+module _ {n count p x : ℕ} {entry mid : List ℕ} {m : List (List ℕ)} (list : MatrixList n entry count) (inside : p ≤ count) (small : x < 16) (answer : Option Placed)
     (a : Added n entry count m mid answer) where
-  pub step_full : answer ≡ NoPlace → StepAdded n entry count m p x mid TooMany
+  pub step_full : answer ≡ None → StepAdded n entry count m p x mid None
   step_full e =
       let f : Full n entry count m = subst (AddAnswer n entry count m mid) e a.says in
       record { kept = unchanged_wider (omega arith) (omega arith) a.kept; says = f }
 
-  module _ {number total : ℕ} (e : answer ≡ Placed number total) where
-    placed : AddedTo n entry count m mid number total
-    placed = subst (AddAnswer n entry count m mid) e a.says
+  module _ {placed : Placed} (e : answer ≡ Some placed) where
+    stands : AddedTo n entry count m mid placed.number placed.total
+    stands = subst (AddAnswer n entry count m mid) e a.says
 
-    pub record_place : RecordNeeds mid p x number count
+    pub record_place : RecordNeeds mid p x placed.number count
     record_place =
         let few = list.few in
         record {
           entry_small = omega arith;
           letter_small = small;
-          number_small = omega (arith, placed.below, placed.grown.list.few);
+          number_small = omega (arith, stands.below, stands.grown.list.few);
           next_small = few;
-          room = placed.grown.list.room;
+          room = stands.grown.list.room;
         }
 
-    module _ {exit : List ℕ} (r : StepRecorded mid exit p x number count) where
+    module _ {exit : List ℕ} (r : StepRecorded mid exit p x placed.number count) where
       below : KeptBelow 12288 mid exit
       below =
           let few = list.few in
@@ -75,33 +74,33 @@ module _ {n count p x : ℕ} {entry mid : List ℕ} {m : List (List ℕ)} (list 
       kept : Kept entry exit
       kept = unchanged_both (unchanged_wider (omega arith) (omega arith) a.kept) (unchanged_wider (omega arith) (omega arith) below)
 
-      grown : Grown n entry count exit total
+      grown : Grown n entry count exit placed.total
       grown =
           let few = list.few in
           record {
-            list = list_stays below placed.grown.list;
-            more = placed.grown.more;
-            same = λ i h. same_trans (placed.grown.same i h) (matrix_stays below list.few_states (omega arith));
+            list = list_stays below stands.grown.list;
+            more = stands.grown.more;
+            same = λ i h. same_trans (stands.grown.same i h) (matrix_stays below list.few_states (omega arith));
             kept = kept;
           }
 
-      added : AddedTo n entry count m exit number total
+      added : AddedTo n entry count m exit placed.number placed.total
       added =
-          let few = placed.grown.list.few in
-          let inside = placed.below in
+          let few = stands.grown.list.few in
+          let inside = stands.below in
           record {
             grown = grown;
-            below = placed.below;
-            same = same_trans placed.same (matrix_stays below list.few_states (omega arith));
-            only = λ j c b. same_trans (placed.only j c b) (matrix_stays below list.few_states (omega arith));
-            one_more = placed.one_more;
+            below = stands.below;
+            same = same_trans stands.same (matrix_stays below list.few_states (omega arith));
+            only = λ j c b. same_trans (stands.only j c b) (matrix_stays below list.few_states (omega arith));
+            one_more = stands.one_more;
           }
 
-      pub step_taken : StepAdded n entry count m p x exit (Listed total)
+      pub step_taken : StepAdded n entry count m p x exit (Some placed.total)
       step_taken = record {
         kept = kept;
         says = record {
-          added = subst (λ i. AddedTo n entry count m exit i total) (sym r.step) added;
+          added = subst (λ i. AddedTo n entry count m exit i placed.total) (sym r.step) added;
           parent = r.parent;
           letter = r.letter;
           others = λ i h f g d. r.others i f g d ∙ a.kept.after i h;

@@ -1,15 +1,13 @@
 -- The list of an automaton's matrices as it stands in scratch: the bytes of the transitions up to 576, the matrices from 8192 on, and
 -- behind them what is recorded while they are found. The search goes by entries: entry 0 is the empty word, entry i + 1 is matrix i.
 -- Assumes nothing.
-use Rattle.std.specs.Prelude.{ℕ, zero, suc, ◌+◌, ◌*◌, ◌≤◌, ◌<◌, ◌≡◌, List, length, get_or}
+use Rattle.std.specs.Prelude.{ℕ, zero, suc, ◌+◌, ◌*◌, ◌≤◌, ◌<◌, ◌≡◌, List, length, get_or, Option, Some, None}
 use Rattle.buchi.specs.Automata.{Automaton}
 use Rattle.buchi.specs.Matrices.{Matrix, SameEntries, OtherEntry, product}
 use Rattle.buchi.specs.Rule.{MoreMatrices}
 use Rattle.buchi.proofs.MatrixLists.{ClosedList, FoundInOrder}
 use Rattle.automaton_products.specs.Arrays.{StateEntries}
 use Rattle.automaton_matrices.specs.Bytes.{AutomatonAt, matrix_from, letter_entry}
-use Rattle.automaton_matrix_search.specs.declared.MatrixCount.{MatrixCount}
-use Rattle.automaton_matrix_search.specs.declared.MatrixCount.TheVariants.{Listed, TooMany}
 use Rattle.scratch.specs.Bytes.{UnchangedOutside}
 use Rattle.scratch.specs.Map.{laid_end, matrices_base, step_letters_base, step_parents_base, steps_base}
 use Rattle.formats.specs.RuleChecks.{scratch_size}
@@ -102,11 +100,11 @@ pub record TooRich (kinds : List ℕ) (n k : ℕ) (scratch : List ℕ) : Type 0 
   pub more : (automaton : Automaton) → StandsHere automaton kinds n k scratch → MoreMatrices automaton 64
 
 -- how many there are, or that there are more than 64
-abbrev pub ListAnswer : List ℕ → ℕ → ℕ → List ℕ → List ℕ → MatrixCount → Type 0
-ListAnswer kinds n k entry exit (Listed count) = AllListed kinds n k entry exit count
-ListAnswer kinds n k entry exit TooMany = TooRich kinds n k entry
+abbrev pub ListAnswer : List ℕ → ℕ → ℕ → List ℕ → List ℕ → Option ℕ → Type 0
+ListAnswer kinds n k entry exit (Some count) = AllListed kinds n k entry exit count
+ListAnswer kinds n k entry exit None = TooRich kinds n k entry
 
 -- the answer, and the bytes before the list
-pub record MatricesAnswer (kinds : List ℕ) (n k : ℕ) (entry exit : List ℕ) (answer : MatrixCount) : Type 0 where
+pub record MatricesAnswer (kinds : List ℕ) (n k : ℕ) (entry exit : List ℕ) (answer : Option ℕ) : Type 0 where
   pub kept : Kept entry exit
   pub says : ListAnswer kinds n k entry exit answer

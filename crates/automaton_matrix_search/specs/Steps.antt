@@ -1,19 +1,28 @@
 -- What each step of the list's making does to the list and to what is recorded. Assumes nothing.
-use Rattle.std.specs.Prelude.{ℕ, ◌+◌, ◌≤◌, ◌<◌, ◌≡◌, ◌≢◌, List, length, get_or}
+use Rattle.std.specs.Prelude.{ℕ, ◌+◌, ◌≤◌, ◌<◌, ◌≡◌, ◌≢◌, List, length, get_or, Option, Some, None}
 use Rattle.finite.proofs.FirstWords.{Sooner}
 use Rattle.buchi.specs.Automata.{Automaton}
 use Rattle.buchi.specs.Matrices.{Matrix, SameEntries, OtherEntry}
 use Rattle.buchi.specs.Rule.{MatrixWord}
-use Rattle.buchi.proofs.MatrixLists.{Among}
+use Rattle.buchi.proofs.MatrixLists.{Among, number_of}
 use Rattle.automaton_products.specs.Arrays.{entry_in}
 use Rattle.automaton_matrix_search.specs.Lists.{matrix_at, step_place, parent_place, letter_place, next_at, parent_at, letter_at, ListNeeds, StandsHere, MatrixList, Kept, step_entry, StepNumber, StepMatrix, TooRich, MatricesAnswer}
-use Rattle.automaton_matrix_search.specs.declared.Addition.{Addition}
-use Rattle.automaton_matrix_search.specs.declared.Addition.TheVariants.{Placed, NoPlace}
-use Rattle.automaton_matrix_search.specs.declared.MatrixCount.{MatrixCount}
-use Rattle.automaton_matrix_search.specs.declared.MatrixCount.TheVariants.{Listed, TooMany}
+use Rattle.automaton_matrix_search.specs.declared.Placed.{Placed}
 use Rattle.scratch.specs.Bytes.{UnchangedOutside}
 use Rattle.scratch.specs.Map.{matrices_base, steps_base}
 use Rattle.formats.specs.RuleChecks.{scratch_size}
+
+-- ---- a matrix is looked up
+
+-- it is the first with the entries of m
+pub record MatrixThere (n : ℕ) (scratch : List ℕ) (count : ℕ) (m : List (List ℕ)) (at : ℕ) : Type 0 where
+  pub below : at < count
+  pub first : at ≡ number_of n count (matrix_at scratch) (entry_in m)
+
+-- or none has them
+abbrev pub FoundMatrix : ℕ → List ℕ → ℕ → List (List ℕ) → Option ℕ → Type 0
+FoundMatrix n scratch count m (Some at) = MatrixThere n scratch count m at
+FoundMatrix n scratch count m None = count ≡ number_of n count (matrix_at scratch) (entry_in m)
 
 -- ---- a matrix is added
 
@@ -38,12 +47,12 @@ pub record Full (n : ℕ) (scratch : List ℕ) (count : ℕ) (m : List (List ℕ
   pub other : (i : ℕ) → i < count → OtherEntry n (entry_in m) (matrix_at scratch i)
 
 -- the matrix was added or is there, or there is no place for it
-abbrev pub AddAnswer : ℕ → List ℕ → ℕ → List (List ℕ) → List ℕ → Addition → Type 0
-AddAnswer n entry count m exit (Placed number total) = AddedTo n entry count m exit number total
-AddAnswer n entry count m exit NoPlace = Full n entry count m
+abbrev pub AddAnswer : ℕ → List ℕ → ℕ → List (List ℕ) → List ℕ → Option Placed → Type 0
+AddAnswer n entry count m exit (Some placed) = AddedTo n entry count m exit placed.number placed.total
+AddAnswer n entry count m exit None = Full n entry count m
 
 -- the answer, and the bytes before and behind the list
-pub record Added (n : ℕ) (entry : List ℕ) (count : ℕ) (m : List (List ℕ)) (exit : List ℕ) (answer : Addition) : Type 0 where
+pub record Added (n : ℕ) (entry : List ℕ) (count : ℕ) (m : List (List ℕ)) (exit : List ℕ) (answer : Option Placed) : Type 0 where
   pub kept : UnchangedOutside matrices_base steps_base entry exit
   pub says : AddAnswer n entry count m exit answer
 
@@ -73,12 +82,12 @@ pub record StepTaken (n : ℕ) (entry : List ℕ) (count : ℕ) (m : List (List 
   pub others : (i : ℕ) → steps_base ≤ i → i ≢ step_place p x → i ≢ parent_place count → i ≢ letter_place count → get_or exit i 0 ≡ get_or entry i 0
 
 -- the step was taken, or there is no place for its matrix
-abbrev pub StepAnswer : ℕ → List ℕ → ℕ → List (List ℕ) → ℕ → ℕ → List ℕ → MatrixCount → Type 0
-StepAnswer n entry count m p x exit (Listed total) = StepTaken n entry count m p x exit total
-StepAnswer n entry count m p x exit TooMany = Full n entry count m
+abbrev pub StepAnswer : ℕ → List ℕ → ℕ → List (List ℕ) → ℕ → ℕ → List ℕ → Option ℕ → Type 0
+StepAnswer n entry count m p x exit (Some total) = StepTaken n entry count m p x exit total
+StepAnswer n entry count m p x exit None = Full n entry count m
 
 -- the answer, and the bytes before the list
-pub record StepAdded (n : ℕ) (entry : List ℕ) (count : ℕ) (m : List (List ℕ)) (p x : ℕ) (exit : List ℕ) (answer : MatrixCount) : Type 0 where
+pub record StepAdded (n : ℕ) (entry : List ℕ) (count : ℕ) (m : List (List ℕ)) (p x : ℕ) (exit : List ℕ) (answer : Option ℕ) : Type 0 where
   pub kept : Kept entry exit
   pub says : StepAnswer n entry count m p x exit answer
 
@@ -111,12 +120,12 @@ pub record Following (kinds : List ℕ) (n k : ℕ) (entry : List ℕ) (count p 
   pub taken : StepsTaken kinds n k entry exit total p x
 
 -- every letter was followed from entry p, or there are too many matrices
-abbrev pub FollowAnswer : List ℕ → ℕ → ℕ → List ℕ → ℕ → ℕ → List ℕ → MatrixCount → Type 0
-FollowAnswer kinds n k entry count p exit (Listed total) = Following kinds n k entry count p exit total k
-FollowAnswer kinds n k entry count p exit TooMany = TooRich kinds n k entry
+abbrev pub FollowAnswer : List ℕ → ℕ → ℕ → List ℕ → ℕ → ℕ → List ℕ → Option ℕ → Type 0
+FollowAnswer kinds n k entry count p exit (Some total) = Following kinds n k entry count p exit total k
+FollowAnswer kinds n k entry count p exit None = TooRich kinds n k entry
 
 -- the answer, and the bytes before the list
-pub record Followed (kinds : List ℕ) (n k : ℕ) (entry : List ℕ) (count p : ℕ) (exit : List ℕ) (answer : MatrixCount) : Type 0 where
+pub record Followed (kinds : List ℕ) (n k : ℕ) (entry : List ℕ) (count p : ℕ) (exit : List ℕ) (answer : Option ℕ) : Type 0 where
   pub kept : Kept entry exit
   pub says : FollowAnswer kinds n k entry count p exit answer
 
@@ -143,16 +152,16 @@ pub record Multiplied (n k : ℕ) (entry : List ℕ) (count p : ℕ) (exit : Lis
 pub record MultipliedFull (n k : ℕ) (entry : List ℕ) (count p : ℕ) : Type 0 where
   pub rich : (kinds : List ℕ) → SearchAt n k entry count p kinds → TooRich kinds n k entry
 
-abbrev pub MultiplyAnswer : ℕ → ℕ → List ℕ → ℕ → ℕ → List ℕ → MatrixCount → Type 0
-MultiplyAnswer n k entry count p exit (Listed total) = Multiplied n k entry count p exit total k
-MultiplyAnswer n k entry count p exit TooMany = MultipliedFull n k entry count p
+abbrev pub MultiplyAnswer : ℕ → ℕ → List ℕ → ℕ → ℕ → List ℕ → Option ℕ → Type 0
+MultiplyAnswer n k entry count p exit (Some total) = Multiplied n k entry count p exit total k
+MultiplyAnswer n k entry count p exit None = MultipliedFull n k entry count p
 
 -- the answer, and the bytes before the list
-pub record ProductsAdded (n k : ℕ) (entry : List ℕ) (count p : ℕ) (exit : List ℕ) (answer : MatrixCount) : Type 0 where
+pub record ProductsAdded (n k : ℕ) (entry : List ℕ) (count p : ℕ) (exit : List ℕ) (answer : Option ℕ) : Type 0 where
   pub kept : Kept entry exit
   pub says : MultiplyAnswer n k entry count p exit answer
 
 -- the list was closed: the answer for whatever kinds
-pub record ListClosed (n k : ℕ) (entry : List ℕ) (begun : ℕ) (exit : List ℕ) (answer : MatrixCount) : Type 0 where
+pub record ListClosed (n k : ℕ) (entry : List ℕ) (begun : ℕ) (exit : List ℕ) (answer : Option ℕ) : Type 0 where
   pub kept : Kept entry exit
   pub closed : (kinds : List ℕ) → SearchAt n k entry begun 1 kinds → MatricesAnswer kinds n k entry exit answer

@@ -5,63 +5,54 @@
 // from byte 14336 on the entry from which each matrix was found, and from byte 15360 on the letter by which.
 #![tactic(auto)]
 
-ghost use Rattle.std.specs.Prelude.{◌≡◌, ◌≤◌, ◌<◌};
-ghost use Rattle.buchi.proofs.MatrixLists.{number_of};
-ghost use Rattle.automaton_products.specs.Arrays.{entry_in, MatrixShape};
-ghost use Rattle.automaton_matrix_search.specs.Lists.{matrix_at, MatrixList};
-ghost use Rattle.automaton_matrix_search.specs.Steps.{Added, RecordNeeds, StepRecorded, StepAdded};
+ghost use Rattle.std.specs.Prelude.{◌≤◌, ◌<◌};
+ghost use Rattle.automaton_products.specs.Arrays.{MatrixShape};
+ghost use Rattle.automaton_matrix_search.specs.Lists.{MatrixList};
+ghost use Rattle.automaton_matrix_search.specs.Steps.{FoundMatrix, Added, RecordNeeds, StepRecorded, StepAdded};
 
 use automaton_matrices::{same_stored, store_matrix};
 use scratch::{MATRICES_BASE, STEP_LETTERS_BASE, STEP_PARENTS_BASE, STEPS_BASE};
 
-// The number of a matrix in the list and how many it has now, or that there is no place for the matrix.
+// The number of a matrix in the list, and how many it has now.
 #[derive(Drop)]
-pub enum Addition {
-    Placed { number: usize, total: usize },
-    NoPlace,
+pub struct Placed {
+    pub number: usize,
+    pub total: usize,
 }
 
-// How many matrices there are, or that there are more than 64.
-#[derive(Drop)]
-pub enum MatrixCount {
-    Listed(usize),
-    TooMany,
-}
-
-// The number of a matrix in the list, or how many it has where the matrix is none of them.
-pub fn find_matrix(scratch: &[u8], n: usize, count: usize, m: [[u8; 6]; 6]) -> usize
+// The number of a matrix in the list, or none where it is not there.
+pub fn find_matrix(scratch: &[u8], n: usize, count: usize, m: [[u8; 6]; 6]) -> Option<usize>
     requires { MatrixList n scratch.now count }
-    ensures { result ≡ number_of n count (matrix_at scratch.now) (entry_in m) }
+    ensures { FoundMatrix n scratch.now count m result }
 {
     for i in 0..count {
         if same_stored(scratch, MATRICES_BASE, i, n, &m) {
-            return i;
+            return Some(i);
         }
     }
-    count
+    None
 }
 
-// Adds a matrix, unless it is there.
-pub fn add_matrix(scratch: &mut [u8], n: usize, count: usize, m: [[u8; 6]; 6]) -> Addition
+// Adds a matrix, unless it is there, or finds no place for it.
+pub fn add_matrix(scratch: &mut [u8], n: usize, count: usize, m: [[u8; 6]; 6]) -> Option<Placed>
     requires matrix_list { MatrixList n scratch.old count }
     requires matrix_shape { MatrixShape n m }
     ensures { Added n scratch.old count m scratch.new result }
 {
-    let at = find_matrix(scratch, n, count, m);
-    if at < count {
-        return Addition::Placed {
-            number: at,
+    if let Some(number) = find_matrix(scratch, n, count, m) {
+        return Some(Placed {
+            number,
             total: count,
-        };
+        });
     }
     if count == 64 {
-        return Addition::NoPlace;
+        return None;
     }
     store_matrix(scratch, MATRICES_BASE, count, m);
-    Addition::Placed {
+    Some(Placed {
         number: count,
         total: count + 1,
-    }
+    })
 }
 
 // Records that a letter leads from an entry to a number, and that the matrix at `next` was found so. Where no matrix was added there,
@@ -75,7 +66,8 @@ fn record_step(scratch: &mut [u8], parent: usize, letter: usize, number: usize, 
     scratch[STEP_LETTERS_BASE + next] = letter as u8;
 }
 
-// Adds the matrix that a letter makes of an entry, unless it is there, and records the step.
+// Adds the matrix that a letter makes of an entry, unless it is there, and records the step: how many matrices there are then, or none
+// where there are more than 64.
 pub fn add_step(
     scratch: &mut [u8],
     n: usize,
@@ -83,17 +75,13 @@ pub fn add_step(
     parent: usize,
     letter: usize,
     m: [[u8; 6]; 6],
-) -> MatrixCount
+) -> Option<usize>
     requires matrix_list { MatrixList n scratch.old count }
     requires matrix_shape { MatrixShape n m }
     requires parent_le_count { (parent ≤ count) × (letter < 16) }
     ensures { StepAdded n scratch.old count m parent letter scratch.new result }
 {
-    match add_matrix(scratch, n, count, m) {
-        Addition::Placed { number, total } => {
-            record_step(scratch, parent, letter, number, count);
-            MatrixCount::Listed(total)
-        }
-        Addition::NoPlace => MatrixCount::TooMany,
-    }
+    let placed = add_matrix(scratch, n, count, m)?;
+    record_step(scratch, parent, letter, placed.number, count);
+    Some(placed.total)
 }

@@ -2,19 +2,9 @@
 // with neither 0.
 #![tactic(auto)]
 
-ghost use Rattle.std.specs.Prelude.{◌≡◌, max, ◌≤◌};
+ghost use Rattle.std.specs.Prelude.{◌≡◌, ◌≤◌};
 ghost use Rattle.buchi.specs.Matrices.{entries_through};
 ghost use Rattle.automaton_products.specs.Arrays.{row_product, MatrixShape, RowOf, IsProduct};
-
-// The greater of two entries.
-pub fn greater(x: u8, y: u8) -> u8
-    ensures { result ≡ max x y }
-{
-    if x < y {
-        return y;
-    }
-    x
-}
 
 // The greater of two entries, 0 where one of them is 0.
 pub fn through(x: u8, y: u8) -> u8
@@ -26,7 +16,7 @@ pub fn through(x: u8, y: u8) -> u8
     if y == 0 {
         return 0;
     }
-    greater(x, y)
+    x.max(y)
 }
 
 // A row of the product, from that row of the left factor, state by state. A state to which no path leads is left out.
@@ -35,14 +25,14 @@ pub fn product_row(n: usize, row: &[u8; 6], right: &[[u8; 6]; 6]) -> [u8; 6]
     ensures { RowOf (row_product n row.now right.now) n result }
 {
     let mut out = [0u8; 6];
+    // By index: the first n of six entries and rows, which zip and take would say no plainer.
     for r in 0..n {
         let x = row[r];
         if x != 0 {
             for q in 0..n {
                 let y = right[r][q];
                 let z = through(x, y);
-                let best = out[q];
-                out[q] = greater(z, best);
+                out[q] = z.max(out[q]);
             }
         }
     }
@@ -57,8 +47,7 @@ pub fn matrix_product(n: usize, left: [[u8; 6]; 6], right: [[u8; 6]; 6]) -> [[u8
 {
     let mut out = [[0u8; 6]; 6];
     for p in 0..n {
-        let row = left[p];
-        out[p] = product_row(n, &row, &right);
+        out[p] = product_row(n, &left[p], &right);
     }
     out
 }

@@ -12,7 +12,7 @@ use Rattle.formats.proofs.Buffers.{buffer_short, buffer_long}
 use Rattle.rule_check.proofs.Left.{short_left, long_left}
 use Rattle.formats.specs.AutomatonFile.{states_of, automaton_letters_of, has_transition}
 use Rattle.automaton_file.specs.Answers.{TransitionsLaid, ReadPromise}
-use Rattle.automaton_file.specs.declared.AutomatonRead.TheVariants.{Automaton, Refused as Read-refused}
+use Rattle.std.specs.Prelude.{Ok, Err}
 use Rattle.automaton_file.proofs.Calls.{scratch_long, called_good, zeros_left}
 use Rattle.automaton_translation.specs.Promise.{ReadHere, MadePromise}
 use Rattle.promises.specs.Automaton.{RulePromise}
@@ -30,12 +30,12 @@ module _ (bytes out entry : List ℕ) where
 
   module _ (long : rule_size ≤ length out) where
     -- the automaton is refused
-    pub read_refused : {exit : List ℕ} {r : Refusal} {i place : ℕ} → ReadPromise 1 bytes entry exit (Read-refused r i place)
+    pub read_refused : {exit : List ℕ} {r : Refusal} {i place : ℕ} → ReadPromise 1 bytes entry exit (Err (record { refusal = r; input = i; place = place }))
         → RulePromise bytes out out entry exit (Refused r i place)
     read_refused p = record { refusal = buffer_long long (refused_before _ _ p.refusal); answered = refl; scratch = long_left rule_size out entry long p.scratch }
 
     -- the automaton was read
-    module _ {n k t : ℕ} {mid : List ℕ} (p : ReadPromise 1 bytes entry mid (Automaton n k t)) where
+    module _ {n k t : ℕ} {mid : List ℕ} (p : ReadPromise 1 bytes entry mid (Ok (record { states = n; letters = k; transitions = t }))) where
       mid_length : length mid ≡ length entry
       mid_length = p.scratch.laid.same_length
 

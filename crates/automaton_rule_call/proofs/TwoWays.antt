@@ -6,7 +6,7 @@ use mathlib.Core.List.{List}
 use lib.ListN.{length}
 use Rattle.formats.specs.RuleChecks.{rule_size}
 use Rattle.automaton_file.specs.Answers.{ReadPromise}
-use Rattle.automaton_file.specs.declared.AutomatonRead.TheVariants.{Automaton}
+use Rattle.std.specs.Prelude.{Ok}
 use Rattle.promises.specs.Automaton.{RulePromise}
 use Rattle.promises.specs.declared.Written.{Written}
 use Rattle.promises.proofs.OneTranslation.{one_answer, one_scratch}
@@ -18,7 +18,7 @@ pub two_calls : {bytes out out-exit out-exit' entry exit exit' : List ℕ} (answ
     → RulePromise bytes out out-exit' entry exit' answer' → SameOutcome answer answer' out-exit out-exit' exit exit'
 two_calls answer answer' p q = let one = one_answer answer answer' p q in record { same_answer = one.0; same_file = one.1; same_scratch = one_scratch p q }
 
-pub two_ways : (bytes out entry : List ℕ) → rule_size ≤ length out → {n k t : ℕ} {mid : List ℕ} → ReadPromise 1 bytes entry mid (Automaton n k t)
+pub two_ways : (bytes out entry : List ℕ) → rule_size ≤ length out → {n k t : ℕ} {mid : List ℕ} → ReadPromise 1 bytes entry mid (Ok (record { states = n; letters = k; transitions = t }))
     → {out-exit out-exit' exit exit' : List ℕ} (answer answer' : Written) → MadePromise bytes out out-exit mid exit answer
     → MadePromise bytes out out-exit' mid exit' answer' → SameOutcome answer answer' out-exit out-exit' exit exit'
 two_ways bytes out entry long p answer answer' ready general =

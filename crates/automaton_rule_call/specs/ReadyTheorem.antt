@@ -4,11 +4,11 @@
 use Rattle.std.specs.Prelude.{ℕ, ◌≤◌, List, length}
 use Rattle.formats.specs.RuleChecks.{rule_size}
 use Rattle.automaton_file.specs.Answers.{ReadPromise}
-use Rattle.automaton_file.specs.declared.AutomatonRead.TheVariants.{Automaton}
+use Rattle.std.specs.Prelude.{Ok}
 use Rattle.promises.specs.declared.Written.{Written}
 use Rattle.automaton_translation.specs.Promise.{MadePromise, SameOutcome}
 
 pub record ReadyTheorem : Type 0 where
-  pub two_ways : (bytes out entry mid : List ℕ) (states letters transitions : ℕ) → rule_size ≤ length out → ReadPromise 1 bytes entry mid (Automaton states letters transitions)
+  pub two_ways : (bytes out entry mid : List ℕ) (states letters transitions : ℕ) → rule_size ≤ length out → ReadPromise 1 bytes entry mid (Ok (record { states = states; letters = letters; transitions = transitions }))
       → (out-exit out-exit' exit exit' : List ℕ) (answer answer' : Written) → MadePromise bytes out out-exit mid exit answer
       → MadePromise bytes out out-exit' mid exit' answer' → SameOutcome answer answer' out-exit out-exit' exit exit'

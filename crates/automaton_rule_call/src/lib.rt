@@ -4,8 +4,8 @@
 ghost use Rattle.automaton_translation.specs.Promise.{ReadHere, MadePromise};
 ghost use Rattle.promises.specs.Automaton.{RulePromise};
 
-use answer::Refusal;
-use automaton_file::{AutomatonRead, read_automaton};
+use answer::{Refusal, Refused};
+use automaton_file::read_automaton;
 use automaton_ready_table::make_ready_rule;
 use automaton_translation::make_rule;
 use formats::RULE_SIZE;
@@ -34,16 +34,12 @@ pub fn automaton_rule(automaton: &[u8], out: &mut [u8], scratch: &mut [u8]) -> W
         };
     }
     match read_automaton(automaton, 1, scratch) {
-        AutomatonRead::Automaton {
-            states,
-            letters,
-            transitions,
-        } => translate(automaton, states, letters, out, scratch),
-        AutomatonRead::Refused {
+        Ok(counts) => translate(automaton, counts.states, counts.letters, out, scratch),
+        Err(Refused {
             refusal,
             input,
             place,
-        } => Written::Refused {
+        }) => Written::Refused {
             refusal,
             input,
             place,

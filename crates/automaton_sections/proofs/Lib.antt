@@ -1,2 +1,3 @@
 pub mod TripleBytes
 pub mod CountsRead
+pub mod LayoutRead

@@ -6,22 +6,20 @@ ghost use Rattle.sections.specs.Answers.{SectionAnswer};
 ghost use Rattle.formats.specs.AutomatonFile.{states_section, automaton_letters_section, transitions_section};
 ghost use Rattle.automaton_sections.specs.Sections.{LayoutAnswer};
 
-use answer::Refusal;
+use answer::Fault;
 use section_triples::triples;
-use sections::{Counted, byte_count, entries, wide_count};
+use sections::{byte_count, entries, wide_count};
 
 // The states' section, at the front of the file: a kind is 0, 1, 2 or 3.
-pub fn states_section(bytes: &[u8]) -> Counted
+pub fn states_section(bytes: &[u8]) -> Result<usize, Fault>
     ensures { SectionAnswer states_section 0 bytes.now result }
 {
-    match byte_count(bytes, 0, 6) {
-        Counted::Read(m) => entries(bytes, 0, 1, m, 4, m),
-        Counted::Refused { refusal, place } => Counted::Refused { refusal, place },
-    }
+    let m = byte_count(bytes, 0, 6)?;
+    entries(bytes, 0, 1, m, 4, m)
 }
 
 // The letters' section, a count only, in the rest of the file from byte `at` on.
-pub fn letters_section(rest: &[u8], at: usize) -> Counted
+pub fn letters_section(rest: &[u8], at: usize) -> Result<usize, Fault>
     requires { at + length rest.now < 2 ^ 64 }
     ensures { SectionAnswer automaton_letters_section at rest.now result }
 {
@@ -29,14 +27,12 @@ pub fn letters_section(rest: &[u8], at: usize) -> Counted
 }
 
 // The transitions' section of an automaton of m states and k letters.
-pub fn transitions_section(rest: &[u8], at: usize, m: usize, k: usize) -> Counted
+pub fn transitions_section(rest: &[u8], at: usize, m: usize, k: usize) -> Result<usize, Fault>
     requires { at + length rest.now < 2 ^ 64 }
     ensures { SectionAnswer (transitions_section m k) at rest.now result }
 {
-    match wide_count(rest, at, 576) {
-        Counted::Read(c) => triples(rest, at, c, m, k, m, 0),
-        Counted::Refused { refusal, place } => Counted::Refused { refusal, place },
-    }
+    let c = wide_count(rest, at, 576)?;
+    triples(rest, at, c, m, k, m, 0)
 }
 
 // The counts of an automaton file.
@@ -47,39 +43,20 @@ pub struct Counts {
     pub transitions: usize,
 }
 
-#[derive(Drop)]
-pub enum Layout {
-    Read(Counts),
-    Refused { refusal: Refusal, place: usize },
-}
-
 // Reads the three sections in a row, each from the rest that the one before leaves.
-pub fn read_layout(bytes: &[u8]) -> Layout
+pub fn read_layout(bytes: &[u8]) -> Result<Counts, Fault>
     ensures { LayoutAnswer bytes.now result }
 {
-    let m = match states_section(bytes) {
-        Counted::Read(m) => m,
-        Counted::Refused { refusal, place } => {
-            return Layout::Refused { refusal, place };
-        }
-    };
+    let m = states_section(bytes)?;
     let letters_at = 1 + m;
     let rest = &bytes[letters_at..];
-    let k = match letters_section(rest, letters_at) {
-        Counted::Read(k) => k,
-        Counted::Refused { refusal, place } => {
-            return Layout::Refused { refusal, place };
-        }
-    };
-    let used = 1;
-    let transitions_at = letters_at + used;
-    let last = &rest[used..];
-    match transitions_section(last, transitions_at, m, k) {
-        Counted::Read(c) => Layout::Read(Counts {
-            states: m,
-            letters: k,
-            transitions: c,
-        }),
-        Counted::Refused { refusal, place } => Layout::Refused { refusal, place },
-    }
+    let k = letters_section(rest, letters_at)?;
+    let transitions_at = letters_at + 1;
+    let last = &rest[1..];
+    let c = transitions_section(last, transitions_at, m, k)?;
+    Ok(Counts {
+        states: m,
+        letters: k,
+        transitions: c,
+    })
 }

@@ -35,6 +35,7 @@ pub fn lay_products_of(scratch: &mut [u8], count: usize, i: usize)
     ensures { RowFilled (TableNumber count scratch.old i) (laid_products_base + i * count) count scratch.old scratch.new }
 {
     let base = LAID_PRODUCTS_BASE + i * count;
+    // By index: each byte is worked out from the slice that it is written to.
     for j in 0..count {
         let number = product_number(scratch, count, i, j);
         scratch[base + j] = number;

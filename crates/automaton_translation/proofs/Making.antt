@@ -1,4 +1,5 @@
 -- What each way through the making of a rule promises, once the automaton was read. Assumes nothing.
+use Rattle.std.proofs.Common.{Option, Some, None}
 use Prim.Native.Nat.{ℕ, ◌+◌, ◌-◌}
 use mathlib.Core.Path.{◌≡◌, refl, ap, ◌∙◌, subst}
 use mathlib.Core.List.{List}
@@ -8,8 +9,6 @@ use Rattle.answer.specs.declared.Refusal.TheVariants.{TooManyMatrices}
 use Rattle.answer.proofs.Order.{first_passes, first_fails, none_left}
 use Rattle.buchi.proofs.AutomatonRule.{elements_reached, graded_good, graded_accepts_runs, graded_strong, graded_marks}
 use Rattle.automaton_matrix_search.specs.Lists.{matrix_at, step_place, AllListed, TooRich, ListAnswer, MatricesAnswer}
-use Rattle.automaton_matrix_search.specs.declared.MatrixCount.{MatrixCount}
-use Rattle.automaton_matrix_search.specs.declared.MatrixCount.TheVariants.{Listed, TooMany}
 use Rattle.formats.proofs.ReadBack.{written_rule}
 use Rattle.promises.specs.Automaton.{automaton_of, matrices_check}
 use Rattle.automaton_table.specs.Laying.{laid_rule, laid_marks, StepList, MarkNeeds, RuleLaid}
@@ -26,7 +25,7 @@ kinds bytes = take (length bytes - 1) (drop 1 bytes)
 
 module _ {bytes : List ℕ} {n k : ℕ} {out scratch listed : List ℕ} (r : ReadHere bytes n k out scratch) where
   -- more than 64 matrices
-  pub made_refused : {end : List ℕ} (answer : MatrixCount) → MatricesAnswer (kinds bytes) n k scratch listed answer → answer ≡ TooMany → end ≡ replicate (length listed) 0
+  pub made_refused : {end : List ℕ} (answer : Option ℕ) → MatricesAnswer (kinds bytes) n k scratch listed answer → answer ≡ None → end ≡ replicate (length listed) 0
       → MadePromise bytes out out scratch end (Refused TooManyMatrices 1 0)
   made_refused answer a e z =
       let rich : TooRich (kinds bytes) n k scratch = subst (ListAnswer (kinds bytes) n k scratch listed) e a.says in
@@ -37,7 +36,7 @@ module _ {bytes : List ℕ} {n k : ℕ} {out scratch listed : List ℕ} (r : Rea
       }
 
   -- the matrices were listed
-  module _ {count : ℕ} (answer : MatrixCount) (a : MatricesAnswer (kinds bytes) n k scratch listed answer) (e : answer ≡ Listed count) where
+  module _ {count : ℕ} (answer : Option ℕ) (a : MatricesAnswer (kinds bytes) n k scratch listed answer) (e : answer ≡ Some count) where
     all : AllListed (kinds bytes) n k scratch listed count
     all = subst (ListAnswer (kinds bytes) n k scratch listed) e a.says
 

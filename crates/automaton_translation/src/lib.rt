@@ -13,7 +13,6 @@ ghost use Rattle.automaton_translation.specs.Promise.{ReadHere, MadePromise};
 use answer::Refusal;
 use automaton_marks::lay_marks;
 use automaton_matrix_list::list_matrices;
-use automaton_matrix_search::MatrixCount;
 use automaton_table::lay_products;
 use promises::Written;
 use rule_laid::write_laid;
@@ -46,8 +45,8 @@ pub fn make_rule(
 {
     let kinds = &automaton[1..];
     let count = match list_matrices(kinds, n, k, scratch, table) {
-        MatrixCount::Listed(c) => c,
-        MatrixCount::TooMany => {
+        Some(count) => count,
+        None => {
             zero(scratch);
             return Written::Refused {
                 refusal: Refusal::TooManyMatrices,

@@ -2,18 +2,11 @@
 #![tactic(auto)]
 
 ghost use Rattle.std.specs.Prelude.{◌≡◌, ◌≤◌, length};
-ghost use Rattle.board_state.specs.State.{state_size, board_of, flag_byte, state_with, state_after};
+ghost use Rattle.board_state.specs.State.{state_size, board_of, state_with, state_after};
 
 use board_promises::{Board, Notice, Posted};
 
 pub const STATE_SIZE: usize = 25;
-
-// A byte as a number of names and values.
-fn wide(byte: u8) -> usize
-    ensures { result ≡ byte }
-{
-    byte as usize
-}
 
 // The board that stands in the bytes. A name is present unless its byte is 0.
 pub fn read_board(state: &[u8]) -> Board
@@ -25,25 +18,16 @@ pub fn read_board(state: &[u8]) -> Board
     let mut since = [0; 8];
     for i in 0..8 {
         present[i] = state[3 * i] != 0;
-        before[i] = wide(state[3 * i + 1]);
-        since[i] = wide(state[3 * i + 2]);
+        before[i] = usize::from(state[3 * i + 1]);
+        since[i] = usize::from(state[3 * i + 2]);
     }
-    let lowest = wide(state[24]);
+    let lowest = usize::from(state[24]);
     Board {
         present,
         before,
         since,
         lowest,
     }
-}
-
-fn flag_byte(there: bool) -> u8
-    ensures { result ≡ flag_byte there }
-{
-    if there {
-        return 1;
-    }
-    0
 }
 
 // Writes a board to the front of the bytes.
@@ -55,7 +39,7 @@ pub fn write_board(board: Board, state: &mut [u8])
     let before = board.before;
     let since = board.since;
     for i in 0..8 {
-        state[3 * i] = flag_byte(present[i]);
+        state[3 * i] = u8::from(present[i]);
         state[3 * i + 1] = (before[i] % 256) as u8;
         state[3 * i + 2] = (since[i] % 256) as u8;
     }

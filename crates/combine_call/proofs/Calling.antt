@@ -1,4 +1,6 @@
 -- What the call that makes one rule of two promises, from what the checks of both files and the checks behind them promise. Assumes nothing.
+use Rattle.std.specs.Prelude.{Ok, Err}
+use Rattle.answer.proofs.Parts.{refused_by}
 use Prim.Native.Nat.{ℕ, ◌≤◌, ◌<◌}
 use mathlib.Core.Path.{◌≡◌, refl}
 use mathlib.Core.List.{List}
@@ -9,7 +11,6 @@ use Rattle.formats.specs.RuleChecks.{rule_size}
 use Rattle.formats.proofs.Buffers.{buffer_short, buffer_long}
 use Rattle.rule_layout.specs.declared.Shape.{Shape}
 use Rattle.rule_check.proofs.Left.{short_left, long_left}
-use Rattle.two_rules.specs.declared.BothChecked.TheVariants.{Rules, Refused as Both-refused}
 use Rattle.two_rules.specs.Checking.{BothPromise}
 use Rattle.two_rules.proofs.Calling.{refused_then, passed_then, both_left}
 use Rattle.promises.specs.declared.Operation.{Operation}
@@ -26,7 +27,7 @@ out_short first second out scratch h = record { refusal = buffer_short h; answer
 
 module _ (first second out entry : List ℕ) (long : rule_size ≤ length out) where
   -- the refusal of a file is handed on
-  pub file_refused : {operation : Operation} {mid : List ℕ} {r : Refusal} {input place : ℕ} → BothPromise first second entry mid (Both-refused r input place)
+  pub file_refused : {operation : Operation} {mid : List ℕ} {r : Refusal} {input place : ℕ} → BothPromise first second entry mid (Err (refused_by r input place))
       → CombinePromise first second operation out out entry mid (Refused r input place)
   file_refused p = record {
     refusal = buffer_long long (refused_then first second entry (pair_checks first second) p);
@@ -34,7 +35,7 @@ module _ (first second out entry : List ℕ) (long : rule_size ≤ length out) w
     scratch = long_left rule_size out entry long p.scratch;
   }
 
-  module _ {one two : Shape} {mid : List ℕ} (p : BothPromise first second entry mid (Rules one two)) where
+  module _ {one two : Shape} {mid : List ℕ} (p : BothPromise first second entry mid (Ok (one, two))) where
     -- two files that pass may be combined
     pub both_place : BothReady first second one two mid out
     both_place = record { entry = entry; checked = p; out_room = long }

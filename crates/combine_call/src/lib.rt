@@ -5,12 +5,12 @@
 
 ghost use Rattle.promises.specs.Combine.{CombinePromise};
 
-use answer::Refusal;
+use answer::{Refusal, Refused};
 use combine_strengths::combine_checked;
 use formats::RULE_SIZE;
 use promises::{Operation, Written};
 use sections::zero;
-use two_rules::{BothChecked, check_both};
+use two_rules::check_both;
 
 // Checks two rules and writes the rule that the operation makes of them, or refuses them. Scratch ends as zeros, but where a buffer is too
 // short.
@@ -31,19 +31,16 @@ pub fn combine(
         };
     }
     match check_both(first, second, scratch) {
-        BothChecked::Refused {
+        Err(Refused {
             refusal,
             input,
             place,
-        } => Written::Refused {
+        }) => Written::Refused {
             refusal,
             input,
             place,
         },
-        BothChecked::Rules {
-            first: one,
-            second: two,
-        } => {
+        Ok((one, two)) => {
             let answer = combine_checked(first, one, second, two, operation, scratch, out);
             zero(scratch);
             answer

@@ -1,4 +1,5 @@
 -- Two strong rules whose closures stand in scratch: the list of their pairs, and the rule that was written of it, whole. Assumes nothing.
+use Rattle.std.proofs.Common.{Option, Some, None}
 use Prim.Native.Nat.{ℕ, ◌≤◌, ◌<◌}
 use mathlib.Core.Path.{◌≡◌, refl, sym, ap₂, ◌∙◌, subst}
 use mathlib.Core.List.{List}
@@ -20,8 +21,6 @@ use Rattle.scratch.proofs.Markings.{marking_kept}
 use Rattle.sections.specs.Answers.{PartZeroed}
 use Rattle.rule_layout.specs.declared.Shape.{Shape}
 use Rattle.two_rules.proofs.StrongFiles.{first_is, first_read, first_law, first_grades, second_grades, letters_agree, second_is_too, second_read_too}
-use Rattle.pair_list.specs.declared.PairCount.{PairCount}
-use Rattle.pair_list.specs.declared.PairCount.TheVariants.{Listed, TooMany}
 use Rattle.pair_list.specs.Pairs.{left_at, right_at, TwoTables, Empty, PairList, ListAnswer, PairsAnswer}
 use Rattle.pair_list.proofs.Listed.{no_more_pairs}
 use Rattle.pair_list.proofs.Tables.{table_pairs, table_lawful, table_by_first_words}
@@ -52,9 +51,9 @@ module _ {first second : List ℕ} {one two : Shape} {entry out : List ℕ} (s :
     list_empty = record { room = omega (arith, s.files.room, z.outside.same_length); blank = z.zeros }
 
     -- the list, or more than 64 pairs
-    module _ {listed : List ℕ} (answer : PairCount)
+    module _ {listed : List ℕ} (answer : Option ℕ)
         (l : PairsAnswer first one.elements second two.elements one.letters zeroed listed answer) where
-      pub too_many : {operation : Operation} → answer ≡ TooMany → PairsPromise first second operation out out entry listed (Refused TooManyPairs 1 0)
+      pub too_many : {operation : Operation} → answer ≡ None → PairsPromise first second operation out out entry listed (Refused TooManyPairs 1 0)
       too_many e =
           let more : MorePairs (morphism_at first one.elements one.letters) (morphism_at second two.elements one.letters) 64 =
           subst (ListAnswer first one.elements second two.elements one.letters listed) e l.says in
@@ -67,7 +66,7 @@ module _ {first second : List ℕ} {one two : Shape} {entry out : List ℕ} (s :
             same_length = l.kept.same_length ∙ z.outside.same_length;
           }
 
-      module _ {count : ℕ} (e : answer ≡ Listed count) where
+      module _ {count : ℕ} (e : answer ≡ Some count) where
         list : PairList first one.elements second two.elements one.letters listed count
         list = subst (ListAnswer first one.elements second two.elements one.letters listed) e l.says
 

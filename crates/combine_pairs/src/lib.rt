@@ -5,7 +5,7 @@
 ghost use Rattle.combine_pairs.specs.Steps.{StrongReady, PairsPromise};
 
 use answer::Refusal;
-use pair_list::{PairCount, list_pairs};
+use pair_list::list_pairs;
 use pair_rule::write_pairs;
 use promises::{Operation, Written};
 use rule_layout::Shape;
@@ -34,8 +34,8 @@ pub fn combine_strong(
         one.letters,
         scratch,
     ) {
-        PairCount::Listed(count) => count,
-        PairCount::TooMany => {
+        Some(count) => count,
+        None => {
             return Written::Refused {
                 refusal: Refusal::TooManyPairs,
                 input: 1,

@@ -1,4 +1,6 @@
 -- What each way through the call for the complement promises. Assumes nothing.
+use Rattle.std.specs.Prelude.{Ok, Err}
+use Rattle.answer.proofs.Parts.{refused_by}
 use Prim.Native.Nat.{ℕ, ◌≤◌, ◌<◌}
 use mathlib.Core.Path.{◌≡◌, refl, sym, ap, ◌∙◌, subst}
 use mathlib.Core.Bool.{Bool, true, false, not}
@@ -15,7 +17,6 @@ use Rattle.formats.specs.RuleFile.{morphism_of, marking_of}
 use Rattle.formats.specs.RuleChecks.{rule_size}
 use Rattle.formats.proofs.Buffers.{buffer_short, buffer_long}
 use Rattle.rule_layout.specs.declared.Shape.{Shape}
-use Rattle.rule_check.specs.declared.Checked.TheVariants.{Rule as Checked-rule, Refused as Checked-refused}
 use Rattle.rule_check.specs.Answers.{CheckPromise}
 use Rattle.formats.specs.Calls.{scratch_left}
 use Rattle.rule_check.proofs.Left.{short_left, long_left}
@@ -50,11 +51,11 @@ module _ (bytes out entry : List ℕ) where
 
   module _ (long : rule_size ≤ length out) where
     -- the rule is refused
-    pub rule_refused : {exit : List ℕ} {r : Refusal} {i place : ℕ} → CheckPromise 1 bytes entry exit (Checked-refused r i place)
+    pub rule_refused : {exit : List ℕ} {r : Refusal} {i place : ℕ} → CheckPromise 1 bytes entry exit (Err (refused_by r i place))
         → ComplementPromise bytes out out entry exit (Refused r i place)
     rule_refused p = record { refusal = buffer_long long (refused_before _ _ p.refusal); answered = refl; scratch = long_left rule_size out entry long p.scratch }
 
-    module _ {shape : Shape} {mid decided : List ℕ} {answer : Bool} (p : CheckPromise 1 bytes entry mid (Checked-rule shape))
+    module _ {shape : Shape} {mid decided : List ℕ} {answer : Bool} (p : CheckPromise 1 bytes entry mid (Ok shape))
         (d : Decided (morphism_at bytes shape.elements shape.letters) mid decided answer) where
       abbrev m : Morphism
       m = morphism_at bytes shape.elements shape.letters

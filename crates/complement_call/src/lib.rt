@@ -8,12 +8,12 @@ ghost use Rattle.formats.specs.Front.{AtFront};
 ghost use Rattle.complement_call.specs.Promise.{WriteNeeds, second_file};
 ghost use Rattle.promises.specs.Complement.{ComplementPromise};
 
-use answer::Refusal;
+use answer::{Refusal, Refused};
 use formats::RULE_SIZE;
 use mark_complement_marks::complement_marks;
 use mark_strong::decide;
 use promises::Written;
-use rule_check::{Checked, check};
+use rule_check::check;
 use rule_writer::write_rule;
 use scratch::SECOND_BASE;
 use sections::zero;
@@ -42,12 +42,12 @@ pub fn complement(rule: &[u8], out: &mut [u8], scratch: &mut [u8]) -> Written
         };
     }
     let shape = match check(rule, 1, scratch) {
-        Checked::Rule(shape) => shape,
-        Checked::Refused {
+        Ok(shape) => shape,
+        Err(Refused {
             refusal,
             input,
             place,
-        } => {
+        }) => {
             return Written::Refused {
                 refusal,
                 input,

@@ -5,10 +5,11 @@
 
 ghost use Rattle.promises.specs.Confirm.{ConfirmPromise};
 
+use answer::Refused;
 use confirm_strengths::confirm_checked;
 use promises::Confirmation;
 use sections::zero;
-use two_rules::{BothChecked, check_both};
+use two_rules::check_both;
 
 // Checks two rules and says whether the second is the first one reduced, by a map of its elements, or refuses them. Scratch ends as zeros, but
 // where it is too short.
@@ -16,19 +17,16 @@ pub fn confirm(first: &[u8], second: &[u8], map: &[u8], scratch: &mut [u8]) -> C
     ensures { ConfirmPromise first.now second.now map.now scratch.old scratch.new result }
 {
     match check_both(first, second, scratch) {
-        BothChecked::Refused {
+        Err(Refused {
             refusal,
             input,
             place,
-        } => Confirmation::Refused {
+        }) => Confirmation::Refused {
             refusal,
             input,
             place,
         },
-        BothChecked::Rules {
-            first: one,
-            second: two,
-        } => {
+        Ok((one, two)) => {
             let answer = confirm_checked(first, one, second, two, map, scratch);
             zero(scratch);
             answer

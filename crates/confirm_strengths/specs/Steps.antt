@@ -2,7 +2,7 @@
 use Rattle.std.specs.Prelude.{ℕ, ◌≡◌, List, [], ◌∷◌, length}
 use Rattle.answer.specs.Checks.{FirstFailure}
 use Rattle.rule_layout.specs.declared.Shape.{Shape}
-use Rattle.two_rules.specs.declared.BothChecked.TheVariants.{Rules}
+use Rattle.std.specs.Prelude.{Ok}
 use Rattle.two_rules.specs.Checking.{BothPromise}
 use Rattle.promises.specs.declared.Confirmation.{Confirmation}
 use Rattle.promises.specs.Weak.{weak_check}
@@ -11,7 +11,7 @@ use Rattle.promises.specs.Confirm.{confirmation_verdict, ConfirmationAnswer}
 -- both files were checked
 pub record FilesReady (first second : List ℕ) (one two : Shape) (scratch : List ℕ) : Type 0 where
   pub entry : List ℕ
-  pub checked : BothPromise first second entry scratch (Rules one two)
+  pub checked : BothPromise first second entry scratch (Ok (one, two))
 
 -- the verdict of the check behind those of the files, and the answer
 pub record CheckedPromise (first second map entry exit : List ℕ) (answer : Confirmation) : Type 0 where

@@ -1,4 +1,6 @@
 -- What an event and a mark promise on each way. Assumes nothing.
+use Rattle.std.specs.Prelude.{Ok, Err}
+use Rattle.answer.proofs.Parts.{refused_by}
 use Prim.Native.Nat.{ℕ, ◌≤◌, ◌<◌}
 use mathlib.Core.Path.{◌≡◌, refl, ap, ◌∙◌, subst}
 use mathlib.Core.List.{List}
@@ -13,7 +15,6 @@ use Rattle.rule_layout.specs.declared.Shape.{Shape}
 use Rattle.rule_check.proofs.Calls.{shape_morphism}
 use Rattle.promises.specs.declared.Monitor.{Monitor}
 use Rattle.promises.specs.declared.Step.TheVariants.{Event, Mark}
-use Rattle.monitor_state.specs.declared.Ready.TheVariants.{Rule, Refused as Not-ready}
 use Rattle.promises.specs.declared.Moved.TheVariants.{To, Refused}
 use Rattle.promises.specs.Moves.{lone_letter_check, after_event, after_mark, EventPromise, MarkPromise}
 use Rattle.promises.specs.Advance.{after_step}
@@ -21,10 +22,10 @@ use Rattle.monitor_state.specs.Ready.{ReadyPromise}
 
 module _ (bytes : List ℕ) (f : Monitor) (letter : ℕ) (entry exit : List ℕ) where
   -- the rule or the monitor is refused
-  pub event_refused : {r : Refusal} {i place : ℕ} → ReadyPromise bytes f entry exit (Not-ready r i place) → EventPromise bytes f letter entry exit (Refused f r i place)
+  pub event_refused : {r : Refusal} {i place : ℕ} → ReadyPromise bytes f entry exit (Err (refused_by r i place)) → EventPromise bytes f letter entry exit (Refused f r i place)
   event_refused p = record { refusal = refused_before _ _ p.refusal; monitor = refl; scratch = p.scratch }
 
-  module _ {shape : Shape} (p : ReadyPromise bytes f entry exit (Rule shape)) where
+  module _ {shape : Shape} (p : ReadyPromise bytes f entry exit (Ok shape)) where
     -- the letter is foreign
     pub event_foreign : shape.letters ≤ letter → EventPromise bytes f letter entry exit (Refused f UnknownLetter 1 0)
     event_foreign h = record {
@@ -43,11 +44,11 @@ module _ (bytes : List ℕ) (f : Monitor) (letter : ℕ) (entry exit : List ℕ)
     }
 
 module _ (bytes : List ℕ) (f : Monitor) (entry exit : List ℕ) where
-  pub mark_refused : {r : Refusal} {i place : ℕ} → ReadyPromise bytes f entry exit (Not-ready r i place) → MarkPromise bytes f entry exit (Refused f r i place)
+  pub mark_refused : {r : Refusal} {i place : ℕ} → ReadyPromise bytes f entry exit (Err (refused_by r i place)) → MarkPromise bytes f entry exit (Refused f r i place)
   mark_refused p = record { refusal = p.refusal; monitor = refl; scratch = p.scratch }
 
   -- the mark moves before and empties since
-  pub mark_moved : {shape : Shape} {g : Monitor} → ReadyPromise bytes f entry exit (Rule shape) → g ≡ after_step (morphism_at bytes shape.elements shape.letters) f Mark
+  pub mark_moved : {shape : Shape} {g : Monitor} → ReadyPromise bytes f entry exit (Ok shape) → g ≡ after_step (morphism_at bytes shape.elements shape.letters) f Mark
       → MarkPromise bytes f entry exit (To g)
   mark_moved p e = record {
     refusal = p.refusal;

@@ -4,8 +4,8 @@
 
 ghost use Rattle.promises.specs.Moves.{EventPromise, MarkPromise};
 
-use answer::Refusal;
-use monitor_state::{Ready, prepare};
+use answer::{Refusal, Refused};
+use monitor_state::prepare;
 use monitor_steps::moved;
 use promises::{Monitor, Moved, Step};
 
@@ -14,12 +14,12 @@ pub fn event(rule: &[u8], m: Monitor, letter: u8, scratch: &mut [u8]) -> Moved
     ensures { EventPromise rule.now m letter scratch.old scratch.new result }
 {
     let shape = match prepare(rule, m, scratch) {
-        Ready::Rule(shape) => shape,
-        Ready::Refused {
+        Ok(shape) => shape,
+        Err(Refused {
             refusal,
             input,
             place,
-        } => {
+        }) => {
             return Moved::Refused {
                 monitor: m,
                 refusal,
@@ -46,12 +46,12 @@ pub fn mark(rule: &[u8], m: Monitor, scratch: &mut [u8]) -> Moved
     ensures { MarkPromise rule.now m scratch.old scratch.new result }
 {
     let shape = match prepare(rule, m, scratch) {
-        Ready::Rule(shape) => shape,
-        Ready::Refused {
+        Ok(shape) => shape,
+        Err(Refused {
             refusal,
             input,
             place,
-        } => {
+        }) => {
             return Moved::Refused {
                 monitor: m,
                 refusal,

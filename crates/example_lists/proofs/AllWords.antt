@@ -5,16 +5,24 @@ use mathlib.Core.Logic.{by_cases}
 use mathlib.Core.List.{List, [], ◌∷◌, ◌++◌}
 use native.Mathlib.Omega.{arith}
 use native.Mathlib.Decide.{ℕ_discrete}
+use borrow.Author.Tests.{eq-eqb, ne_eqb}
 use lib.ListN.{length}
 use Rattle.example_parts.specs.Parts.{up_to, after}
 use Rattle.example_lists.specs.Lists.{word_bytes, space, words_bytes, list_bytes}
-use Rattle.example_parts.proofs.Splitting.{after_mark_lem, after_other}
+
+after_mark : {byte mark : ℕ} (text : List ℕ) → byte ≡ mark → after mark (byte ∷ text) ≡ text
+unfolding after
+after_mark {byte} {mark} text e = simp (eq-eqb byte mark e)
+
+after_other : {byte mark : ℕ} (text : List ℕ) → (byte ≡ mark → ⊥) → after mark (byte ∷ text) ≡ after mark text
+unfolding after
+after_other {byte} {mark} text n = simp (ne_eqb byte mark n)
 
 -- what stands after the first mark is no longer than the text, and has lost a byte of one that is not empty
 one_less : (mark byte : ℕ) (text : List ℕ) → length (after mark text) ≤ length text → length (after mark (byte ∷ text)) ≤ length text
 one_less mark byte text h =
     by_cases (ℕ_discrete byte mark)
-    (λ e. omega (arith, ap length (after_mark_lem text e)))
+    (λ e. omega (arith, ap length (after_mark text e)))
     (λ n. omega (arith, ap length (after_other text n)))
 
 no_longer : (mark : ℕ) (text : List ℕ) → length (after mark text) ≤ length text

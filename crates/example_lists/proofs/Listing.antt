@@ -2,18 +2,21 @@
 use Prim.Native.Nat.{ℕ, zero, suc, ◌+◌, ◌*◌, ◌/◌, ◌%◌, ◌≤◌, ◌<◌, max}
 use mathlib.Core.Path.{◌≡◌, refl, sym, ap, ◌∙◌, subst}
 use mathlib.Core.Bool.{Bool, true, false, ◌&&◌}
-use mathlib.Core.List.{List, [], ◌++◌, append-nil, append_assoc}
+use mathlib.Core.List.{List, [], ◌∷◌, ◌++◌, append-nil, append_assoc}
 use native.Mathlib.Omega.{arith}
 use native.Mathlib.Nat.{mod-add-mod, div-div-eq-div-mul}
 use native.Mathlib.Numerals.{add-one}
 use borrow.Author.Tests.{lt-ltb, le-ltb, eq-eqb, ne_eqb}
 use lib.Bits.{bit_or}
 use lib.Dec.{ltb, eqb}
-use lib.ListN.{length, get_or, replicate, replicate-append-replicate}
+use lib.ListN.{length, get_or, get_or-eq_default, replicate, replicate-append-replicate}
 use Rattle.example_parts.specs.Parts.{up_to, after, part_of}
 use Rattle.example_parts.specs.Digits.{decimal_of}
 use Rattle.example_lists.specs.Lists.{word_product, list_pair_product, letters_in_set, is_set_mark, set_mark_bytes, entry_bytes, entries_bytes, word_bytes, words_bytes, list_bytes, space, star, last_byte}
 use Rattle.example_lists.specs.Storing.{Stored, ListStored}
+use Rattle.std.specs.List.{slice_split}
+use Rattle.example_parts.proofs.Splitting.{split_part}
+use Rattle.example_lists.proofs.AllWords.{words_enough}
 use Rattle.example_lists.proofs.Storing.{stored_none, stored_more, stored_listed}
 
 -- two words of one of the first five letters
@@ -153,13 +156,6 @@ module _ (word : List ℕ) (some : length word ≡ 0 → ⊥) where
         simp (ne_eqb (length word) 0 some, le-ltb 57 (get_or word 0 0) h, ne_eqb (length (part_of star 1 word)) 0 n)
         (sym (repeated (decimal_of (part_of star 1 word)) (max 1 (decimal_of (part_of star 0 word))) h))
 
--- a byte is repeated as often as the count says, and once where that is 0
-pub listed_once : (word : List ℕ) {n : ℕ} → n ≡ decimal_of (part_of star 0 word) → n < 1 → 1 ≡ max 1 (decimal_of (part_of star 0 word))
-listed_once word e h = omega arith
-
-pub as_often : (word : List ℕ) {n : ℕ} → n ≡ decimal_of (part_of star 0 word) → 1 ≤ n → n ≡ max 1 (decimal_of (part_of star 0 word))
-as_often word e h = omega arith
-
 -- what was stored is what the word stands for
 pub put_empty : {d : List ℕ} {at : ℕ} (word : List ℕ) → length word ≡ 0 → at ≤ length d → Stored d at (word_bytes word) d at
 put_empty word z h = rw (word_empty word z) (stored_none h)
@@ -184,22 +180,48 @@ words_suc (suc i) list =
     ap (λ (l : List ℕ). word_bytes (up_to space list) ++ l) (words_suc i (after space list))
     ∙ sym (append_assoc (word_bytes (up_to space list)) (words_bytes i (after space list)) (word_bytes (part_of space i (after space list))))
 
+-- a part behind the last one that a split gives is empty, so that more words add nothing
+no_word : word_bytes [] ≡ []
+unfolding word_bytes
+no_word = refl
+
+past : (list : List ℕ) (k : ℕ) → words_bytes (length (slice_split (λ b. eqb b space) list) + k) list ≡ words_bytes (length (slice_split (λ b. eqb b space) list)) list
+past list zero = ap (λ (n : ℕ). words_bytes n list) (let q : length (slice_split (λ b. eqb b space) list) + 0 ≡ length (slice_split (λ b. eqb b space) list) = omega arith in q)
+past list (suc k) =
+    let n = length (slice_split (λ b. eqb b space) list) in
+    let none : part_of space (n + k) list ≡ [] =
+    sym (split_part space (n + k) list) ∙ get_or-eq_default (slice_split (λ b. eqb b space) list) [] (let l : n ≤ n + k = omega arith in l) in
+    ap (λ (m : ℕ). words_bytes m list) (let q : n + suc k ≡ suc (n + k) = omega arith in q)
+    ∙ words_suc (n + k) list
+    ∙ ap (λ (word : List ℕ). words_bytes (n + k) list ++ word_bytes word) none
+    ∙ ap (λ (l : List ℕ). words_bytes (n + k) list ++ l) no_word
+    ∙ append-nil (words_bytes (n + k) list)
+    ∙ past list k
+
+all_words : (list : List ℕ) → words_bytes (length (slice_split (λ b. eqb b space) list)) list ≡ list_bytes list
+all_words list = sym (past list (length list)) ∙ words_enough (length (slice_split (λ b. eqb b space) list) + length list) list (omega arith)
+
+same_default : (list : List (List ℕ)) (i : ℕ) (a b : List ℕ) → i < length list → get_or list i a ≡ get_or list i b
+same_default [] i a b h = absurd (let z : ⊥ = omega arith in z)
+same_default (x ∷ list) zero a b h = refl
+same_default (x ∷ list) (suc i) a b h = same_default list i a b (omega arith)
+
 -- the first i words are stored
 pub record WordsSoFar (list d e : List ℕ) (end i : ℕ) : Type 0 where
-  pub within : i ≤ length list
   pub stored : Stored d 0 (words_bytes i list) e end
 
 pub words_none : (list d : List ℕ) → WordsSoFar list d d 0 0
 unfolding words_bytes
-words_none list d = record { within = omega arith; stored = stored_none (omega arith) }
+words_none list d = record { stored = stored_none (omega arith) }
 
 module _ {list d e : List ℕ} {mid i : ℕ} (s : WordsSoFar list d e mid i) where
-  pub words_more : i < length list → {word : List ℕ} → word ≡ part_of space i list → {f : List ℕ} {end : ℕ} → Stored e mid (word_bytes word) f end
-      → WordsSoFar list d f end (i + 1)
-  words_more h q t = record { within = omega arith; stored = rw (add-one i, words_suc i list, ← q) (stored_more s.stored t) }
+  pub words_more : {word : List ℕ} → (i < length (slice_split (λ b. eqb b space) list)) × (word ≡ get_or (slice_split (λ b. eqb b space) list) i word)
+      → {f : List ℕ} {end : ℕ} → Stored e mid (word_bytes word) f end → WordsSoFar list d f end (i + 1)
+  words_more {word} turn t =
+      let q : word ≡ part_of space i list = turn.1 ∙ same_default (slice_split (λ b. eqb b space) list) i word [] turn.0 ∙ split_part space i list in
+      record { stored = rw (add-one i, words_suc i list, ← q) (stored_more s.stored t) }
 
-  pub words_all : length list ≤ i → {part : List ℕ} → list ≡ part → ListStored d (list_bytes part) e mid
-  unfolding list_bytes
-  words_all h q =
+  pub words_all : i ≡ length (slice_split (λ b. eqb b space) list) → {part : List ℕ} → list ≡ part → ListStored d (list_bytes part) e mid
+  words_all n q =
       rw (← q)
-      (stored_listed (subst (λ (n : ℕ). Stored d 0 (words_bytes n list) e mid) (let z : i ≡ length list = omega (arith, s.within) in z) s.stored))
+      (stored_listed (subst (λ (bytes : List ℕ). Stored d 0 bytes e mid) (ap (λ (m : ℕ). words_bytes m list) n ∙ all_words list) s.stored))

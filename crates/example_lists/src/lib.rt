@@ -11,7 +11,7 @@ ghost use Rattle.example_parts.specs.Digits.{decimal_of, colon};
 ghost use Rattle.example_lists.specs.Lists.{last_byte, list_pair_product, set_mark_bytes, entry_bytes, entries_bytes, star, word_bytes, list_bytes};
 ghost use Rattle.example_lists.specs.Storing.{Stored, ListStored};
 
-use example_parts::{byte_at, decimal, part};
+use example_parts::{decimal, part};
 
 // Stores a number's last byte where there is room for it, and answers the place after it.
 pub fn store(out: &mut [u8], at: usize, byte: usize) -> usize
@@ -30,10 +30,7 @@ fn word_pair(x: usize, y: usize) -> usize
     ensures { result ≡ list_pair_product x y }
 {
     let parity = (x % 2 + y % 2) % 2;
-    if 9 < x {
-        return 62 + parity;
-    }
-    if 9 < y {
+    if 9 < x || 9 < y {
         return 62 + parity;
     }
     2 * (6 + (x / 2 * 5 + y / 2)) + parity
@@ -89,11 +86,7 @@ fn entries(name: u8, byte: usize, count: usize, out: &mut [u8], at: usize) -> us
 fn repeats(word: &[u8]) -> usize
     ensures { result ≡ max 1 (decimal_of (part_of star 0 word.now)) }
 {
-    let count = decimal(part(word, b'*', 0));
-    if count < 1 {
-        return 1;
-    }
-    count
+    decimal(part(word, b'*', 0)).max(1)
 }
 
 // Stores what a word of a list stands for.
@@ -101,15 +94,15 @@ fn put(word: &[u8], out: &mut [u8], at: usize) -> usize
     requires { at ≤ length out.old }
     ensures { Stored out.old at (word_bytes word.now) out.new result }
 {
-    if word.len() == 0 {
+    if word.is_empty() {
         return at;
     }
-    let name = byte_at(word, 0);
+    let name = word[0];
     if b'9' < name {
         return entries(name, 0, 4096, out, at);
     }
     let byte = part(word, b'*', 1);
-    if byte.len() == 0 {
+    if byte.is_empty() {
         return store(out, at, decimal(word));
     }
     entries(name, decimal(byte), repeats(word), out, at)
@@ -122,8 +115,8 @@ pub fn numbers(line: &[u8], k: usize, out: &mut [u8]) -> usize
 {
     let list = part(line, b':', k);
     let mut at = 0;
-    for i in 0..list.len() {
-        at = put(part(list, b' ', i), out, at);
+    for word in list.split(|byte| *byte == b' ') {
+        at = put(word, out, at);
     }
     at
 }

@@ -1,14 +1,17 @@
 -- Digits that are added to a number one by one. Assumes nothing.
 use Prim.Native.Nat.{ℕ, ◌+◌, ◌*◌, ◌-◌, ◌≤◌, ◌<◌}
 use mathlib.Core.Path.{◌≡◌, refl, sym, ap, ◌∙◌}
+use mathlib.Core.Bool.{true, false}
 use mathlib.Core.Logic.{by_cases}
 use mathlib.Core.List.{List, [], ◌∷◌}
 use native.Mathlib.Omega.{arith}
 use native.Mathlib.Decide.{dec_lt}
 use native.Mathlib.Numerals.{add-one}
-use borrow.Author.Tests.{lt-ltb, le-ltb, le-leb, lt-leb}
+use borrow.Author.Tests.{lt-ltb, le-ltb}
 use lib.ListN.{length, get_or, drop, drop_of_length-le}
 use lib.Seq.{drop-cons}
+use Rattle.std.specs.Char.{is_ascii_digit}
+use Rattle.std.proofs.lemmas.Bool.Decides.{nat_tests}
 use Rattle.example_parts.specs.Digits.{with_digits, saturated, decimal_of, DigitAdded}
 
 one_by_one : (n byte : ℕ) (text : List ℕ) → with_digits n (byte ∷ text) ≡ with_digits (with_digits n (byte ∷ [])) text
@@ -16,18 +19,16 @@ unfolding with_digits
 one_by_one n byte text = refl
 
 -- a byte that is no digit
-below : (n : ℕ) {byte : ℕ} → byte < 48 → with_digits n (byte ∷ []) ≡ n
+no_digit : (n byte : ℕ) → is_ascii_digit byte ≡ false → with_digits n (byte ∷ []) ≡ n
 unfolding with_digits
-below n {byte} h = simp (lt-leb 48 byte h)
+no_digit n byte h = simp h
 
-above : (n : ℕ) {byte : ℕ} → 57 < byte → with_digits n (byte ∷ []) ≡ n
+digit : (n byte : ℕ) → is_ascii_digit byte ≡ true → with_digits n (byte ∷ []) ≡ n * 10 + (byte - 48)
 unfolding with_digits
-above n {byte} h = simp (le-leb 48 byte (let l : 48 ≤ byte = omega arith in l), lt-leb byte 57 h)
+digit n byte h = simp h
 
--- a digit
-digit : (n : ℕ) {byte : ℕ} → 48 ≤ byte → byte ≤ 57 → with_digits n (byte ∷ []) ≡ n * 10 + (byte - 48)
-unfolding with_digits
-digit n {byte} l h = simp (le-leb 48 byte l, le-leb byte 57 h)
+digit_value : (byte : ℕ) → is_ascii_digit byte ≡ true → byte - 48 ≤ 9
+digit_value byte h = grind (arith, nat_tests)
 
 saturated_low : (n : ℕ) → n < 18446744073709551610 → saturated n ≡ n
 unfolding saturated
@@ -37,13 +38,10 @@ saturated_high : (n : ℕ) → 18446744073709551610 ≤ n → saturated n ≡ 18
 unfolding saturated
 saturated_high n h = simp (le-ltb n 18446744073709551610 h)
 
-pub digit_below : {n byte : ℕ} → byte < 48 → DigitAdded n byte n
-digit_below h = record { stands = λ value e. e ∙ ap saturated (sym (below value h)) }
+pub digit_none : {n byte : ℕ} → is_ascii_digit byte ≡ false → DigitAdded n byte n
+digit_none h = record { stands = λ value e. e ∙ ap saturated (sym (no_digit value _ h)) }
 
-pub digit_above : {n byte : ℕ} → 57 < byte → DigitAdded n byte n
-digit_above h = record { stands = λ value e. e ∙ ap saturated (sym (above value h)) }
-
-module _ {n byte : ℕ} (l : 48 ≤ byte) (h : byte ≤ 57) where
+module _ {n byte : ℕ} (h : is_ascii_digit byte ≡ true) where
   -- there is room for a digit
   pub digit_fits : n < 1844674407370955161 → DigitAdded n byte (n * 10 + (byte - 48))
   digit_fits s = record {
@@ -51,8 +49,8 @@ module _ {n byte : ℕ} (l : 48 ≤ byte) (h : byte ≤ 57) where
         (λ low.
         let q : n ≡ value = e ∙ saturated_low value low in
         ap (λ (m : ℕ). m * 10 + (byte - 48)) q
-        ∙ sym (saturated_low (value * 10 + (byte - 48)) (omega arith))
-        ∙ ap saturated (sym (digit value l h)))
+        ∙ sym (saturated_low (value * 10 + (byte - 48)) (omega (arith, digit_value byte h)))
+        ∙ ap saturated (sym (digit value _ h)))
         (λ high. absurd (let z : ⊥ = omega (arith, e, saturated_high value (let g : 18446744073709551610 ≤ value = omega arith in g)) in z));
   }
 
@@ -63,7 +61,7 @@ module _ {n byte : ℕ} (l : 48 ≤ byte) (h : byte ≤ 57) where
         let large : 1844674407370955161 ≤ value = by_cases (dec_lt value 18446744073709551610)
         (λ low. omega (arith, e, saturated_low value low))
         (λ high. omega arith) in
-        sym (saturated_high (value * 10 + (byte - 48)) (omega arith)) ∙ ap saturated (sym (digit value l h));
+        sym (saturated_high (value * 10 + (byte - 48)) (omega arith)) ∙ ap saturated (sym (digit value _ h));
   }
 
 -- n stands for the number that the first i bytes say

@@ -1,15 +1,12 @@
 -- The number of a text in decimal digits, and what the parts of a line say by a number or a letter. Assumes nothing.
-use Rattle.std.specs.Prelude.{ℕ, ◌+◌, ◌*◌, ◌-◌, ◌≡◌, Bool, cond, ◌&&◌, List, [], ◌∷◌, ltb, leb, get_or}
+use Rattle.std.specs.Prelude.{ℕ, ◌+◌, ◌*◌, ◌-◌, ◌≡◌, cond, List, [], ◌∷◌, ltb, get_or}
+use Rattle.std.specs.Char.{is_ascii_digit}
 use Rattle.example_parts.specs.Parts.{part_of}
-
--- a byte from `0` to `9`
-abbrev pub is_digit : ℕ → Bool
-is_digit byte = leb 48 byte && leb byte 57
 
 -- a number with the digits of a text after its own; bytes that are no digit are passed over
 unfoldable pub with_digits : ℕ → List ℕ → ℕ
 with_digits n [] = n
-with_digits n (byte ∷ text) = with_digits (cond (is_digit byte) (n * 10 + (byte - 48)) n) text
+with_digits n (byte ∷ text) = with_digits (cond (is_ascii_digit byte) (n * 10 + (byte - 48)) n) text
 
 -- a number below 18446744073709551610, and the largest of 64 bits in place of any other: those that do not fit, and the last six that do
 unfoldable pub saturated : ℕ → ℕ

@@ -1,5 +1,5 @@
 -- The parts of a text, where marks stand between them. Assumes nothing.
-use Rattle.std.specs.Prelude.{ℕ, zero, suc, ◌≤◌, ◌≡◌, cond, List, [], ◌∷◌, eqb, length, drop}
+use Rattle.std.specs.Prelude.{ℕ, zero, suc, cond, List, [], ◌∷◌, eqb}
 
 -- the text before the first mark, all of it where there is none
 unfoldable pub up_to : ℕ → List ℕ → List ℕ
@@ -15,8 +15,3 @@ after mark (byte ∷ text) = cond (eqb byte mark) text (after mark text)
 unfoldable pub part_of : ℕ → ℕ → List ℕ → List ℕ
 part_of mark zero text = up_to mark text
 part_of mark (suc k) text = part_of mark k (after mark text)
-
--- the text from `next` on is what stands after the first mark of the text from `from` on
-pub record NextPart (text : List ℕ) (mark from next : ℕ) : Type 0 where
-  pub inside : next ≤ length text
-  pub rest : drop next text ≡ after mark (drop from text)

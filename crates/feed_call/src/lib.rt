@@ -3,22 +3,22 @@
 
 ghost use Rattle.promises.specs.Feed.{FeedPromise};
 
-use monitor_state::{Ready, prepare};
+use answer::{Fault, Refused};
+use monitor_state::prepare;
 use monitor_steps::{log_fault, moved_by_word};
 use promises::{Monitor, Moved};
-use rule_marks::Fault;
 
 // The monitor after an event for each letter of the word, for weak rules too.
 pub fn feed(rule: &[u8], m: Monitor, word: &[u8], scratch: &mut [u8]) -> Moved
     ensures { FeedPromise rule.now m word.now scratch.old scratch.new result }
 {
     let shape = match prepare(rule, m, scratch) {
-        Ready::Rule(shape) => shape,
-        Ready::Refused {
+        Ok(shape) => shape,
+        Err(Refused {
             refusal,
             input,
             place,
-        } => {
+        }) => {
             return Moved::Refused {
                 monitor: m,
                 refusal,
@@ -30,8 +30,8 @@ pub fn feed(rule: &[u8], m: Monitor, word: &[u8], scratch: &mut [u8]) -> Moved
     let n = shape.elements;
     let k = shape.letters;
     match log_fault(word, k) {
-        Fault::Nothing => {}
-        Fault::Refused { refusal, place } => {
+        Ok(()) => {}
+        Err(Fault { refusal, place }) => {
             return Moved::Refused {
                 monitor: m,
                 refusal,

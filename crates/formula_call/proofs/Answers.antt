@@ -6,7 +6,8 @@ use mathlib.Core.List.{List, ◌++◌}
 use native.Mathlib.Omega.{arith}
 use lib.ListN.{length, replicate, drop}
 use lib.Seq.{paste}
-use Rattle.answer.specs.declared.Refusal.{Refusal}
+use Rattle.std.specs.Prelude.{Result, Ok, Err}
+use Rattle.answer.specs.declared.Fault.{Fault}
 use Rattle.answer.specs.declared.Refusal.TheVariants.{BufferTooShort}
 use Rattle.answer.specs.Checks.{passed, FirstFailure}
 use Rattle.answer.proofs.Order.{refused_before, passed_before}
@@ -22,28 +23,24 @@ use Rattle.board_promises.proofs.Places.{pasted_file}
 use Rattle.formula_promises.specs.Checks.{scan_checks, formula_checks}
 use Rattle.formula_promises.specs.FormulaRule.{FormulaMade, lent_left, FormulaPromise}
 use Rattle.formula_slots.specs.Slots.{LentLengths}
-use Rattle.formula_scan.specs.declared.Scanned.{Scanned}
-use Rattle.formula_scan.specs.declared.Scanned.TheVariants.{Fine, Refused as Not-fine}
 use Rattle.formula_scan.specs.Scanning.{scanned_verdict}
-use Rattle.formula_run.specs.declared.Ran.{Ran}
-use Rattle.formula_run.specs.declared.Ran.TheVariants.{Done, Refused}
 use Rattle.formula_run.specs.Running.{FormulaStands, FormulaRan}
 use Rattle.formula_call.specs.Calling.{LentAnswer, LentCleared, FormulaTried, Told}
 use Rattle.formula_call.proofs.Lent.{lent_refused, some_short_lem, lent_passed, none_short}
 
 -- ---- the pass and the run
 
-module _ {letters : ℕ} {formula : List ℕ} {s : Scanned} (f : FirstFailure (scan_checks letters formula) (scanned_verdict s)) where
-  pub scan-passed : s ≡ Fine → FirstFailure (scan_checks letters formula) passed
-  scan-passed e = subst (λ (t : Scanned). FirstFailure (scan_checks letters formula) (scanned_verdict t)) e f
+module _ {letters : ℕ} {formula : List ℕ} {s : Result Unit Fault} (f : FirstFailure (scan_checks letters formula) (scanned_verdict s)) where
+  pub scan-passed : {done : Unit} → s ≡ Ok done → FirstFailure (scan_checks letters formula) passed
+  scan-passed e = subst (λ (t : Result Unit Fault). FirstFailure (scan_checks letters formula) (scanned_verdict t)) e f
 
-  pub tried-ran : s ≡ Fine → {stack : List ℕ} {ran : Ran} → FormulaRan letters formula stack ran → FormulaTried letters formula stack ran
+  pub tried-ran : {done : Unit} → s ≡ Ok done → {stack : List ℕ} {ran : Result Unit Fault} → FormulaRan letters formula stack ran → FormulaTried letters formula stack ran
   tried-ran e r = record { refusal = passed_before (scan_checks letters formula) _ (scan-passed e) r.refusal; stands = r.stands }
 
-  pub tried-refused : {stack : List ℕ} {refusal : Refusal} {place : ℕ} → s ≡ Not-fine refusal place → FormulaTried letters formula stack (Refused refusal place)
+  pub tried-refused : {stack : List ℕ} {fault : Fault} → s ≡ Err fault → FormulaTried letters formula stack (Err fault)
   tried-refused e = record {
-    refusal = refused_before (scan_checks letters formula) _ (subst (λ (t : Scanned). FirstFailure (scan_checks letters formula) (scanned_verdict t)) e f);
-    stands = λ done. absurd (let z : ◌≡◌ {A = ℕ} 0 1 = cc in omega arith);
+    refusal = refused_before (scan_checks letters formula) _ (subst (λ (t : Result Unit Fault). FirstFailure (scan_checks letters formula) (scanned_verdict t)) e f);
+    stands = λ done. absurd (let z : false ≡ true = done in cc);
   }
 
 -- ---- the copy
@@ -55,11 +52,12 @@ copied_front stack {file} {before} {after} is e =
       counts = refl;
     })
 
-pub told_done : {ran : Ran} (stack : List ℕ) {before after : List ℕ} {end : ℕ} → ran ≡ Done → AtFront (file_at stack 0) before after end → Told ran stack before after (Rule end)
-told_done stack {before} {after} {end} e front = subst (λ (r : Ran). Told r stack before after (Rule end)) (sym e) (record { end = end; is = refl; front = front })
+pub told_done : {ran : Result Unit Fault} {done : Unit} (stack : List ℕ) {before after : List ℕ} {end : ℕ} → ran ≡ Ok done → AtFront (file_at stack 0) before after end
+    → Told ran stack before after (Rule end)
+told_done stack {before} {after} {end} e front = subst (λ (r : Result Unit Fault). Told r stack before after (Rule end)) (sym e) (record { end = end; is = refl; front = front })
 
-pub told_refused : {ran : Ran} (stack before : List ℕ) {refusal : Refusal} {place : ℕ} → ran ≡ Refused refusal place → Told ran stack before before (Not-written refusal 1 place)
-told_refused stack before {refusal} {place} e = subst (λ (r : Ran). Told r stack before before (Not-written refusal 1 place)) (sym e) (refl, refl)
+pub told_refused : {ran : Result Unit Fault} (stack before : List ℕ) {fault : Fault} → ran ≡ Err fault → Told ran stack before before (Not-written fault.refusal 1 fault.place)
+told_refused stack before {fault} e = subst (λ (r : Result Unit Fault). Told r stack before before (Not-written fault.refusal 1 fault.place)) (sym e) (refl, refl)
 
 -- ---- the answer
 
@@ -85,11 +83,11 @@ pub record Answered (letters : ℕ) (formula before after : List ℕ) (answer : 
   pub refusal : FirstFailure (formula_checks letters formula) (written_verdict answer)
   pub answered : FormedAnswer (FormulaMade letters formula) before after answer
 
-tried_answered : {letters : ℕ} {formula stack before after : List ℕ} {answer : Written} (ran : Ran) → FormulaTried letters formula stack ran → Told ran stack before after answer
+tried_answered : {letters : ℕ} {formula stack before after : List ℕ} {answer : Written} (ran : Result Unit Fault) → FormulaTried letters formula stack ran → Told ran stack before after answer
     → Answered letters formula before after answer
-tried_answered {letters} {formula} {before = before} {after} Done t copied =
+tried_answered {letters} {formula} {before = before} {after} (Ok done) t copied =
     subst (Answered letters formula before after) (sym copied.is) (record { refusal = t.refusal; answered = stands_written (t.stands refl) copied.front })
-tried_answered {letters} {formula} {before = before} {after} (Refused refusal place) t kept =
+tried_answered {letters} {formula} {before = before} {after} (Err fault) t kept =
     subst (Answered letters formula before after) (sym kept.0) (record { refusal = t.refusal; answered = kept.1 })
 
 -- ---- the call
@@ -114,7 +112,7 @@ module _ {letters : ℕ} {formula : List ℕ} (out stack spare classes scratch :
         scratch_at_exit = left_kept scratch short;
       }
 
-  pub call-told : b ≡ false → {after stack' stack'' spare' spare'' classes' classes'' scratch' scratch'' : List ℕ} {said : Written} (ran : Ran)
+  pub call-told : b ≡ false → {after stack' stack'' spare' spare'' classes' classes'' scratch' scratch'' : List ℕ} {said : Written} (ran : Result Unit Fault)
       → FormulaTried letters formula stack' ran → Told ran stack' out after said
       → LentLengths stack stack' spare spare' classes classes' scratch scratch' → LentCleared stack' stack'' spare' spare'' classes' classes'' scratch' scratch''
       → FormulaPromise letters formula out after stack stack'' spare spare'' classes classes'' scratch scratch'' said

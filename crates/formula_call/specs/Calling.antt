@@ -1,5 +1,6 @@
 -- The parts of the call for a whole formula. Assumes nothing.
-use Rattle.std.specs.Prelude.{ℕ, ◌≤◌, ◌<◌, ◌≡◌, Bool, true, false, ◌⊎◌, List, length, replicate}
+use Rattle.std.specs.Prelude.{ℕ, ◌≤◌, ◌<◌, ◌≡◌, Bool, true, false, ◌⊎◌, List, length, replicate, Result, Ok, Err, IsOk}
+use Rattle.answer.specs.declared.Fault.{Fault}
 use Rattle.answer.specs.Checks.{FirstFailure}
 use Rattle.formats.specs.RuleChecks.{rule_size, scratch_size}
 use Rattle.formats.specs.Front.{AtFront}
@@ -8,9 +9,8 @@ use Rattle.promises.specs.declared.Written.TheVariants.{Rule, Refused as Not-wri
 use Rattle.temporal_promises.specs.Until.{until_classes_size}
 use Rattle.board_promises.specs.Boards.{file_at}
 use Rattle.formula_promises.specs.Checks.{stack_size, formula_checks}
-use Rattle.formula_run.specs.declared.Ran.{Ran}
-use Rattle.formula_run.specs.declared.Ran.TheVariants.{Done, Refused}
-use Rattle.formula_run.specs.Running.{ran_verdict, FormulaStands}
+use Rattle.formula_scan.specs.Scanning.{scanned_verdict}
+use Rattle.formula_run.specs.Running.{FormulaStands}
 
 -- a lent buffer is too short, or all are long enough, by their lengths
 pub record LongEnough (out stack spare classes scratch : ℕ) : Type 0 where
@@ -33,9 +33,9 @@ pub record LentCleared (stack stack_exit spare spare_exit classes classes_exit s
   pub scratch_zeros : scratch-exit ≡ replicate (length scratch) 0
 
 -- the pass over the bytes and the run
-pub record FormulaTried (letters : ℕ) (formula stack : List ℕ) (ran : Ran) : Type 0 where
-  pub refusal : FirstFailure (formula_checks letters formula) (ran_verdict ran)
-  pub stands : ran ≡ Done → FormulaStands letters formula stack
+pub record FormulaTried (letters : ℕ) (formula stack : List ℕ) (ran : Result Unit Fault) : Type 0 where
+  pub refusal : FirstFailure (formula_checks letters formula) (scanned_verdict ran)
+  pub stands : IsOk ran → FormulaStands letters formula stack
 
 -- the file of the first slot was copied to the front of out, or a refusal keeps it
 pub record Copied (stack before after : List ℕ) (answer : Written) : Type 0 where
@@ -43,6 +43,6 @@ pub record Copied (stack before after : List ℕ) (answer : Written) : Type 0 wh
   pub is : answer ≡ Rule end
   pub front : AtFront (file_at stack 0) before after end
 
-abbrev pub Told : Ran → List ℕ → List ℕ → List ℕ → Written → Type 0
-Told Done stack before after answer = Copied stack before after answer
-Told (Refused refusal place) stack before after answer = (answer ≡ Not-written refusal 1 place) × (after ≡ before)
+abbrev pub Told : Result Unit Fault → List ℕ → List ℕ → List ℕ → Written → Type 0
+Told (Ok done) stack before after answer = Copied stack before after answer
+Told (Err fault) stack before after answer = (answer ≡ Not-written fault.refusal 1 fault.place) × (after ≡ before)

@@ -12,9 +12,10 @@ ghost use Rattle.formula_slots.specs.Slots.{LentRoom, LentLengths};
 ghost use Rattle.formula_call.specs.Calling.{LentAnswer, LentCleared, FormulaTried, Told};
 
 use board_buffers::{clear, put};
+use answer::Fault;
 pub use formula_promises::{LONGEST_FORMULA, STACK_SIZE};
-use formula_run::{Ran, run_operations};
-use formula_scan::{Scanned, scan};
+use formula_run::run_operations;
+use formula_scan::scan;
 use formula_slots::rule_in;
 use rules::{RULE_SIZE, Refusal, SCRATCH_SIZE, UNTIL_CLASSES_SIZE, Written};
 
@@ -58,15 +59,13 @@ fn try_formula(
     spare: &mut [u8],
     classes: &mut [u8],
     scratch: &mut [u8],
-) -> Ran
+) -> Result<(), Fault>
     requires { LentRoom stack.old spare.old classes.old scratch.old }
     ensures tried { FormulaTried letters formula.now stack.new result }
     ensures lengths { LentLengths stack.old stack.new spare.old spare.new classes.old classes.new scratch.old scratch.new }
 {
-    match scan(letters, formula) {
-        Scanned::Fine => run_operations(letters, formula, stack, spare, classes, scratch),
-        Scanned::Refused { refusal, place } => Ran::Refused { refusal, place },
-    }
+    scan(letters, formula)?;
+    run_operations(letters, formula, stack, spare, classes, scratch)
 }
 
 // Copies the rule of the first slot to the front of `out`.
@@ -81,17 +80,17 @@ fn copy_out(stack: &[u8], out: &mut [u8]) -> usize
 }
 
 // What is told of a formula that was tried; `out` is written only where nothing can be refused any more.
-fn told(ran: Ran, stack: &[u8], out: &mut [u8]) -> Written
+fn told(ran: Result<(), Fault>, stack: &[u8], out: &mut [u8]) -> Written
     requires stack_size_in_bounds { stack_size ≤ length stack.now }
     requires rule_size_in_bounds { rule_size ≤ length out.old }
     ensures { Told ran stack.now out.old out.new result }
 {
     match ran {
-        Ran::Done => Written::Rule(copy_out(stack, out)),
-        Ran::Refused { refusal, place } => Written::Refused {
-            refusal,
+        Ok(()) => Written::Rule(copy_out(stack, out)),
+        Err(fault) => Written::Refused {
+            refusal: fault.refusal,
             input: 1,
-            place,
+            place: fault.place,
         },
     }
 }

@@ -1,4 +1,2 @@
-pub mod Codes
 pub mod Applying
 pub mod Needed
-pub mod Grouped

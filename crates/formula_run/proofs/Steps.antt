@@ -1,6 +1,7 @@
 -- The run over the operations: from one to the next, and at the end. Assumes nothing.
 use Prim.Native.Nat.{ℕ, zero, suc, ◌+◌, ◌-◌, ◌≤◌, ◌<◌}
 use mathlib.Core.Path.{◌≡◌, refl, sym, ap, ◌∙◌, subst}
+use mathlib.Core.Bool.{true, false}
 use mathlib.Core.Logic.{by_cases}
 use mathlib.Core.List.{List, [], ◌∷◌, ◌++◌}
 use native.Mathlib.Omega.{arith}
@@ -11,20 +12,28 @@ use Rattle.answer.specs.declared.Refusal.{Refusal}
 use Rattle.answer.specs.Checks.{Check, Verdict, passed, refused, FirstFailure}
 use Rattle.answer.proofs.Order.{none_left, refused_before, passed_before, passed_first, passed_last, passes_head, passes_tail}
 use Rattle.temporal.specs.Formulas.{Formula}
-use Rattle.formula_promises.specs.Operations.{Operation, operation_of, operation_at, behind, height_after, stack_after, stack_from, stack_at_end}
+use Rattle.formula_promises.specs.Operations.{Operation, operation_at, bytes_of, behind, height_after, stack_after, stack_from, stack_at_end}
 use Rattle.formula_promises.specs.Checks.{highest_stack, makings, making_checks, operation_checks, program_checks, run_checks, scan_checks}
 use Rattle.formula_slots.specs.Slots.{Standing, none_stands}
 use Rattle.formula_slots.proofs.Stands.{standing_top}
-use Rattle.formula_reading.specs.declared.Reading.{Reading}
-use Rattle.formula_reading.specs.Readings.{ReadingAt}
-use Rattle.formula_operations.specs.declared.Applied.{Applied}
-use Rattle.formula_operations.specs.declared.Applied.TheVariants.{Done, Refused}
+use Rattle.formula_promises.specs.Values.{meant}
+use Rattle.formula_promises.specs.declared.Operation as declared
+use Rattle.formula_reading.specs.Readings.{IsOperationAt}
+use Rattle.std.specs.Prelude.{Result, Ok, Err, IsOk}
 use Rattle.formula_operations.specs.Applying.{applied_verdict, OperationApplied}
 use Rattle.formula_scan.proofs.Operations.{bytes_few}
 use Rattle.formula_scan.proofs.Passing.{program_on, program_ends, passed_within, passed_few}
-use Rattle.formula_run.specs.declared.Ran.TheVariants.{Done as Ran-done, Refused as Ran-refused}
 use Rattle.formula_run.specs.Running.{FormulaStands, FormulaRan}
-use Rattle.formula_run.proofs.Needs.{passed_enough, read_operation, stack_counted}
+use Rattle.formula_run.proofs.Needs.{passed_enough, stack_counted}
+
+-- an operation that was carried out passed its checks
+ok_passed : {checks : List Check} {at : ℕ} (answer : Result Unit Refusal) → IsOk answer → FirstFailure checks (applied_verdict at answer) → FirstFailure checks passed
+ok_passed (Ok done) ok f = f
+ok_passed (Err refusal) ok f = absurd (let z : false ≡ true = ok in cc)
+
+pub not_refused : (answer : Result Unit Refusal) → ((refusal : Refusal) → answer ≡ Err refusal → ⊥) → IsOk answer
+not_refused (Ok done) n = refl
+not_refused (Err refusal) n = absurd (n refusal refl)
 
 -- what is left to be made from a byte on, and the formulas at the end
 module _ (letters : ℕ) (formula : List ℕ) (at : ℕ) (stack : List Formula) (steps : ℕ) where
@@ -94,55 +103,61 @@ module _ {letters : ℕ} {formula stack : List ℕ} {at height : ℕ} (m : Runni
         m.whole v (subst (λ (n : ℕ). FirstFailure (run_checks n letters formula at m.formulas) v) last_step
         (subst (λ (checks : List Check). FirstFailure checks v) (sym (run_on letters formula at m.formulas (m.steps - 1) h)) f))
 
-    module _ {exit : List ℕ} {answer : Applied} {r : Reading} (read : ReadingAt formula at height r)
-        (applied : OperationApplied letters (operation_of r.code r.operand r.number) height stack exit answer) where
+    module _ {exit : List ℕ} {answer : Result Unit Refusal} {operation : declared.Operation} (read : IsOperationAt formula at operation)
+        (applied : OperationApplied letters (meant operation) height stack exit answer) where
       is_operation : OperationApplied letters (operation_at formula at) height stack exit answer
-      is_operation = subst (λ (o : Operation). OperationApplied letters o height stack exit answer) (read_operation operation_passed read) applied
+      is_operation = subst (λ (o : Operation). OperationApplied letters o height stack exit answer) read.is applied
 
       making_decided : FirstFailure (making_checks letters at (makings (operation_at formula at) m.formulas)) (applied_verdict at answer)
       making_decided = is_operation.checked m.formulas m.counted m.standing at
 
-      pub running_refused : {refusal : Refusal} → answer ≡ Refused refusal → FormulaRan letters formula exit (Ran-refused refusal at)
+      pub running_refused : {refusal : Refusal} → answer ≡ Err refusal → FormulaRan letters formula exit (Err (record { refusal = refusal; place = at }))
       running_refused {refusal} e = record {
         refusal =
             making_whole (refused refusal 1 at) (refused_before _ _
-            (subst (λ (a : Applied). FirstFailure (making_checks letters at (makings (operation_at formula at) m.formulas)) (applied_verdict at a)) e making_decided));
-        stands = λ done. absurd (let z : ◌≡◌ {A = ℕ} 0 1 = cc in omega arith);
+            (subst (λ (a : Result Unit Refusal). FirstFailure (making_checks letters at (makings (operation_at formula at) m.formulas)) (applied_verdict at a)) e making_decided));
+        stands = λ done. absurd (let z : false ≡ true = done in cc);
       }
 
-      pub size_some : 1 ≤ r.facts.size
-      size_some = omega (arith, read.facts.size, (bytes_few (operation_at formula at)).0)
+      -- the operation's bytes
+      module _ {size : ℕ} (size_is : size ≡ bytes_of (meant operation)) where
+        size_at : size ≡ bytes_of (operation_at formula at)
+        size_at = size_is ∙ ap bytes_of read.is
 
-      pub size_within : at + r.facts.size ≤ length formula
-      size_within = omega (arith, read.facts.size, passed_within operation_passed)
+        pub size_some : 1 ≤ size
+        size_some = omega (arith, size_at, (bytes_few (operation_at formula at)).0)
 
-      pub running_next : answer ≡ Done → Running letters formula exit (at + r.facts.size) r.facts.height
-      running_next e =
-          let place : behind formula at ≡ at + r.facts.size = ap (λ (n : ℕ). at + n) (sym read.facts.size) in
-          let rules : height_after (operation_at formula at) height ≡ r.facts.height = sym read.facts.after in
-          let n = m.steps - 1 in
-          let after = stack_after (operation_at formula at) m.formulas in
-          record {
-            formulas = after;
-            counted = stack_counted (operation_at formula at) m.formulas m.counted (passed_enough operation_passed) ∙ rules;
-            standing = is_operation.stands e m.formulas m.counted m.standing;
-            steps = n;
-            enough = omega (arith, m.enough, size_some);
-            within = size_within;
-            few = omega (arith, read.facts.after, passed_few operation_passed);
-            scanned =
-                subst (λ (x : ℕ). FirstFailure (program_checks (suc n) letters formula (at + r.facts.size) x) passed) rules
-                (subst (λ (x : ℕ). FirstFailure (program_checks (suc n) letters formula x (height_after (operation_at formula at) height)) passed) place
-                (subst (λ (x : ℕ). FirstFailure (program_checks x letters formula (behind formula at) (height_after (operation_at formula at) height)) passed) (sym last_step)
-                (passed_last (operation_checks letters formula at height) _ both_passed)));
-            whole = λ v g.
-                making_whole v (passed_before _ _
-                (subst (λ (a : Applied). FirstFailure (making_checks letters at (makings (operation_at formula at) m.formulas)) (applied_verdict at a)) e making_decided)
-                (subst (λ (x : ℕ). FirstFailure (run_checks n letters formula x after) v) (sym place) g));
-            at_end =
-                ap (λ (x : ℕ). stack_from n formula x after) (sym place) ∙ sym (stack_on letters formula at m.formulas n h)
-                ∙ ap (λ (x : ℕ). stack_from x formula at m.formulas) last_step ∙ m.at_end;
-          }
+        pub size_within : at + size ≤ length formula
+        size_within = omega (arith, size_at, passed_within operation_passed)
+
+        pub running_next : {left : ℕ} → left ≡ height_after (meant operation) height → IsOk answer → Running letters formula exit (at + size) left
+        running_next {left} left_is ok =
+            let place : behind formula at ≡ at + size = ap (λ (n : ℕ). at + n) (sym size_at) in
+            let left_at : left ≡ height_after (operation_at formula at) height = left_is ∙ ap (λ (o : Operation). height_after o height) read.is in
+            let rules : height_after (operation_at formula at) height ≡ left = sym left_at in
+            let n = m.steps - 1 in
+            let after = stack_after (operation_at formula at) m.formulas in
+            record {
+              formulas = after;
+              counted = stack_counted (operation_at formula at) m.formulas m.counted (passed_enough operation_passed) ∙ rules;
+              standing = is_operation.stands ok m.formulas m.counted m.standing;
+              steps = n;
+              enough = omega (arith, m.enough, size_some);
+              within = size_within;
+              few = omega (arith, left_at, passed_few operation_passed);
+              scanned =
+                  subst (λ (x : ℕ). FirstFailure (program_checks (suc n) letters formula (at + size) x) passed) rules
+                  (subst (λ (x : ℕ). FirstFailure (program_checks (suc n) letters formula x (height_after (operation_at formula at) height)) passed) place
+                  (subst (λ (x : ℕ). FirstFailure (program_checks x letters formula (behind formula at) (height_after (operation_at formula at) height)) passed) (sym last_step)
+                  (passed_last (operation_checks letters formula at height) _ both_passed)));
+              whole = λ v g.
+                  making_whole v (passed_before _ _
+                  (ok_passed answer ok making_decided)
+                  (subst (λ (x : ℕ). FirstFailure (run_checks n letters formula x after) v) (sym place) g));
+              at_end =
+                  ap (λ (x : ℕ). stack_from n formula x after) (sym place) ∙ sym (stack_on letters formula at m.formulas n h)
+                  ∙ ap (λ (x : ℕ). stack_from x formula at m.formulas) last_step ∙ m.at_end;
+            }
 
   -- at the end
   module _ (h : length formula ≤ at) where
@@ -160,7 +175,7 @@ module _ {letters : ℕ} {formula stack : List ℕ} {at height : ℕ} (m : Runni
     }
     stands_alone (g ∷ f ∷ rest) e l s = absurd (let z : ⊥ = omega arith in z)
 
-    pub running_done : FormulaRan letters formula stack Ran-done
+    pub running_done : FormulaRan letters formula stack (Ok tt)
     running_done = record {
       refusal = m.whole passed (subst (λ (checks : List Check). FirstFailure checks passed) (sym (run_ends letters formula at m.formulas m.steps h)) none_left);
       stands = λ done. stands_alone m.formulas refl (m.counted ∙ one_left) m.standing;

@@ -7,16 +7,9 @@ ghost use Rattle.formula_promises.specs.Checks.{scan_checks};
 ghost use Rattle.formula_slots.specs.Slots.{LentRoom, LentLengths};
 ghost use Rattle.formula_run.specs.Running.{FormulaRan};
 
-use answer::Refusal;
-use formula_operations::{Applied, apply};
+use answer::Fault;
+use formula_operations::apply;
 use formula_reading::read;
-
-// Every operation was carried out, or the first refusal with the operation's byte.
-#[derive(Drop)]
-pub enum Ran {
-    Done,
-    Refused { refusal: Refusal, place: usize },
-}
 
 // Carries out every operation of a formula that the pass over its bytes let through.
 pub fn run_operations(
@@ -26,7 +19,7 @@ pub fn run_operations(
     spare: &mut [u8],
     classes: &mut [u8],
     scratch: &mut [u8],
-) -> Ran
+) -> Result<(), Fault>
     requires first_failure { FirstFailure (scan_checks letters formula.now) passed }
     requires lent_room { LentRoom stack.old spare.old classes.old scratch.old }
     ensures ran { FormulaRan letters formula.now stack.new result }
@@ -35,24 +28,12 @@ pub fn run_operations(
     let mut at = 0;
     let mut height = 0;
     while at < formula.len() {
-        let reading = read(formula, at, height);
-        let code = reading.code;
-        let operand = reading.operand;
-        let number = reading.number;
-        let facts = reading.facts;
-        let size = facts.size;
-        let left = facts.height;
-        match apply(
-            letters, code, operand, number, height, stack, spare, classes, scratch,
-        ) {
-            Applied::Done => {
-                at += size;
-                height = left;
-            }
-            Applied::Refused(refusal) => {
-                return Ran::Refused { refusal, place: at };
-            }
+        let operation = read(formula, at).unwrap();
+        if let Err(refusal) = apply(letters, operation, height, stack, spare, classes, scratch) {
+            return Err(Fault { refusal, place: at });
         }
+        at += operation.size();
+        height = operation.height_after(height);
     }
-    Ran::Done
+    Ok(())
 }

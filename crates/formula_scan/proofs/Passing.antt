@@ -7,14 +7,14 @@ use native.Mathlib.Omega.{arith}
 use borrow.Author.Tests.{lt-ltb, le-ltb}
 use lib.ListN.{length}
 use Rattle.finite.proofs.Numbers.{le_or_lt}
-use Rattle.answer.specs.declared.Refusal.{Refusal}
 use Rattle.answer.specs.declared.Refusal.TheVariants.{WordLength, UnbalancedFormula}
 use Rattle.answer.specs.Checks.{Check, Verdict, passed, refused, FirstFailure}
 use Rattle.answer.proofs.Order.{first_passes, first_fails, none_left, refused_before, passed_before, passes_head, passes_tail}
 use Rattle.formula_promises.specs.Operations.{operation_at, behind, height_after}
 use Rattle.formula_promises.specs.Checks.{highest_stack, longest_formula, length_check, NotOneAt, operation_checks, program_checks}
-use Rattle.formula_scan.specs.declared.Checked.{Checked}
-use Rattle.formula_scan.specs.declared.Checked.TheVariants.{To, Refused}
+use Rattle.answer.specs.declared.Fault.{Fault}
+use Rattle.formula_scan.specs.declared.Reached.{Reached}
+use Rattle.std.specs.Prelude.{Result, Ok, Err}
 use Rattle.formula_scan.specs.Scanning.{OperationChecked}
 use Rattle.formula_scan.proofs.Operations.{bytes_few}
 
@@ -60,22 +60,22 @@ module _ {letters : ℕ} {formula : List ℕ} {at height : ℕ} (m : Remaining l
       → FirstFailure (program_checks (suc (length formula)) letters formula 0 0) v
   operation_whole h v f = m.whole v (subst (λ (checks : List Check). FirstFailure checks v) (sym (program_on letters formula at height m.steps h)) f)
 
-  pub remaining_refused : at < length formula → {refusal : Refusal} {place : ℕ} {answer : Checked} → OperationChecked letters formula at height answer → answer ≡ Refused refusal place
-      → FirstFailure (program_checks (suc (length formula)) letters formula 0 0) (refused refusal 1 place)
-  remaining_refused h {refusal} {place} f e =
-      operation_whole h (refused refusal 1 place) (refused_before _ _ (subst (OperationChecked letters formula at height) e f).refusal)
+  pub remaining_refused : at < length formula → {fault : Fault} {answer : Result Reached Fault} → OperationChecked letters formula at height answer → answer ≡ Err fault
+      → FirstFailure (program_checks (suc (length formula)) letters formula 0 0) (refused fault.refusal 1 fault.place)
+  remaining_refused h {fault} f e =
+      operation_whole h (refused fault.refusal 1 fault.place) (refused_before _ _ (subst (OperationChecked letters formula at height) e f).refusal)
 
-  module _ (h : at < length formula) {next left : ℕ} {answer : Checked} (checked : OperationChecked letters formula at height answer) (to : answer ≡ To next left) where
+  module _ (h : at < length formula) {reached : Reached} {answer : Result Reached Fault} (checked : OperationChecked letters formula at height answer) (to : answer ≡ Ok reached) where
     passes : FirstFailure (operation_checks letters formula at height) passed
     passes = (subst (OperationChecked letters formula at height) to checked).refusal
 
-    pub next_further : at < next
-    next_further = omega (arith, (checked.leads next left to).0, (bytes_few (operation_at formula at)).0)
+    pub next_further : at < reached.at
+    next_further = omega (arith, (checked.leads reached to).0, (bytes_few (operation_at formula at)).0)
 
-    pub remaining_next : Remaining letters formula next left
+    pub remaining_next : Remaining letters formula reached.at reached.height
     remaining_next =
-        let place : next ≡ behind formula at = (checked.leads next left to).0 in
-        let rules : left ≡ height_after (operation_at formula at) height = (checked.leads next left to).1 in
+        let place : reached.at ≡ behind formula at = (checked.leads reached to).0 in
+        let rules : reached.height ≡ height_after (operation_at formula at) height = (checked.leads reached to).1 in
         let one : suc (m.steps - 1) ≡ m.steps = omega (arith, m.enough) in
         record {
           steps = m.steps - 1;
@@ -85,8 +85,8 @@ module _ {letters : ℕ} {formula : List ℕ} {at height : ℕ} (m : Remaining l
           whole = λ v g.
               operation_whole h v (passed_before _ _ passes
               (subst (λ (n : ℕ). FirstFailure (program_checks m.steps letters formula (behind formula at) n) v) rules
-              (subst (λ (n : ℕ). FirstFailure (program_checks m.steps letters formula n left) v) place
-              (subst (λ (n : ℕ). FirstFailure (program_checks n letters formula next left) v) one g))));
+              (subst (λ (n : ℕ). FirstFailure (program_checks m.steps letters formula n reached.height) v) place
+              (subst (λ (n : ℕ). FirstFailure (program_checks n letters formula reached.at reached.height) v) one g))));
         }
 
   -- at the end

@@ -6,22 +6,15 @@ ghost use Rattle.answer.specs.Checks.{FirstFailure};
 ghost use Rattle.formula_promises.specs.Checks.{longest_formula, program_checks, scan_checks};
 ghost use Rattle.formula_scan.specs.Scanning.{ForeignAnswer, scanned_verdict, OperationChecked};
 
-use answer::Refusal;
+use answer::{Fault, Refusal};
 use formula_promises::LONGEST_FORMULA;
 use formula_reading::read;
 
-// Every operation is fine and one rule is left, or the first refusal with its place.
+// Where an operation that passes leads: the byte behind it, and the rules on the stack then.
 #[derive(Drop)]
-pub enum Scanned {
-    Fine,
-    Refused { refusal: Refusal, place: usize },
-}
-
-// An operation that passes, with the byte behind it and the rules on the stack then; or its refusal.
-#[derive(Drop)]
-enum Checked {
-    To { at: usize, height: usize },
-    Refused { refusal: Refusal, place: usize },
+struct Reached {
+    at: usize,
+    height: usize,
 }
 
 // Whether a set has a letter that is not below `letters`.
@@ -37,112 +30,98 @@ fn foreign(letters: usize, set: usize) -> bool
 }
 
 // The checks of the operation at a byte, where so many rules stand on the stack.
-fn check(letters: usize, formula: &[u8], at: usize, height: usize) -> Checked
+fn check(letters: usize, formula: &[u8], at: usize, height: usize) -> Result<Reached, Fault>
     requires { (at < length formula.now) × (length formula.now ≤ longest_formula) × (height ≤ 8) }
     ensures { OperationChecked letters formula.now at height result }
 {
-    let reading = read(formula, at, height);
-    let code = reading.code;
-    let facts = reading.facts;
-    let size = facts.size;
-    let grade = facts.grade;
-    let set = facts.set;
-    let asked = facts.asked;
-    let left = facts.height;
-    if 12 < code {
-        return Checked::Refused {
+    let Some(operation) = read(formula, at) else {
+        return Err(Fault {
             refusal: Refusal::EntryOutOfRange,
             place: at,
-        };
-    }
-    let behind = at + size;
+        });
+    };
+    let behind = at + operation.size();
     if formula.len() < behind {
-        return Checked::Refused {
+        return Err(Fault {
             refusal: Refusal::Truncated,
             place: formula.len(),
-        };
+        });
     }
+    let grade = operation.grade();
     if 3 < grade {
-        return Checked::Refused {
+        return Err(Fault {
             refusal: Refusal::EntryOutOfRange,
             place: at + 1,
-        };
+        });
     }
-    if foreign(letters, set) {
-        return Checked::Refused {
+    if foreign(letters, operation.set()) {
+        return Err(Fault {
             refusal: Refusal::UnknownLetter,
             place: at + 2,
-        };
+        });
     }
+    let asked = operation.asks();
     if height < asked {
-        return Checked::Refused {
+        return Err(Fault {
             refusal: Refusal::UnbalancedFormula,
             place: at,
-        };
+        });
     }
+    let left = operation.height_after(height);
     if 8 < left {
-        return Checked::Refused {
+        return Err(Fault {
             refusal: Refusal::UnbalancedFormula,
             place: at,
-        };
+        });
     }
-    Checked::To {
+    Ok(Reached {
         at: behind,
         height: left,
-    }
+    })
 }
 
 // All operations, the first before the others; at the end exactly one rule is there.
-fn scan_operations(letters: usize, formula: &[u8]) -> Scanned
+fn scan_operations(letters: usize, formula: &[u8]) -> Result<(), Fault>
     requires { length formula.now ≤ longest_formula }
     ensures { FirstFailure (program_checks (suc (length formula.now)) letters formula.now 0 0) (scanned_verdict result) }
 {
     let mut at = 0;
     let mut height = 0;
     while at < formula.len() {
-        match check(letters, formula, at, height) {
-            Checked::To {
-                at: behind,
-                height: left,
-            } => {
-                at = behind;
-                height = left;
-            }
-            Checked::Refused { refusal, place } => {
-                return Scanned::Refused { refusal, place };
-            }
-        }
+        let reached = check(letters, formula, at, height)?;
+        at = reached.at;
+        height = reached.height;
     }
     if height == 1 {
-        return Scanned::Fine;
+        return Ok(());
     }
-    Scanned::Refused {
+    Err(Fault {
         refusal: Refusal::UnbalancedFormula,
         place: formula.len(),
-    }
+    })
 }
 
 // The letters, the length, and then the operations.
-pub fn scan(letters: usize, formula: &[u8]) -> Scanned
+pub fn scan(letters: usize, formula: &[u8]) -> Result<(), Fault>
     ensures { FirstFailure (scan_checks letters formula.now) (scanned_verdict result) }
 {
     if letters < 1 {
-        return Scanned::Refused {
+        return Err(Fault {
             refusal: Refusal::CountOutOfRange,
             place: 0,
-        };
+        });
     }
     if 16 < letters {
-        return Scanned::Refused {
+        return Err(Fault {
             refusal: Refusal::CountOutOfRange,
             place: 0,
-        };
+        });
     }
     if LONGEST_FORMULA < formula.len() {
-        return Scanned::Refused {
+        return Err(Fault {
             refusal: Refusal::WordLength,
             place: 0,
-        };
+        });
     }
     scan_operations(letters, formula)
 }

@@ -1,4 +1,9 @@
 -- What each way through the call that compares two markings promises. Assumes nothing.
+use Rattle.std.specs.Prelude.{Result}
+use Rattle.answer.specs.declared.Fault.{Fault}
+use Rattle.answer.proofs.Parts.{fault_by}
+use Rattle.std.specs.Prelude.{Ok, Err}
+use Rattle.answer.proofs.Parts.{refused_by}
 use Prim.Native.Nat.{ℕ, ◌+◌, ◌*◌, ◌≤◌, ◌<◌}
 use mathlib.Core.Path.{◌≡◌, refl, sym, ◌∙◌, subst}
 use mathlib.Core.List.{List, ◌∷◌, ◌++◌}
@@ -19,9 +24,6 @@ use Rattle.formats.proofs.MarkEntries.{grades_within}
 use Rattle.formats.proofs.Buffers.{buffer_short, buffer_long}
 use Rattle.formats.specs.RuleChecks.{scratch_size, trailing_check, mark_checks, second_marks_checks}
 use Rattle.rule_layout.specs.declared.Shape.{Shape}
-use Rattle.rule_check.specs.declared.Checked.TheVariants.{Rule, Refused as Checked-refused}
-use Rattle.rule_marks.specs.declared.Fault.{Fault}
-use Rattle.rule_marks.specs.declared.Fault.TheVariants.{Nothing, Refused as Fault-refused}
 use Rattle.rule_marks.specs.Faults.{FaultAnswer}
 use Rattle.rule_check.specs.Answers.{CheckPromise}
 use Rattle.formats.specs.Calls.{checked_checks, after_call}
@@ -61,7 +63,7 @@ module _ (bytes second u v entry : List ℕ) where
       left e = e ∙ sym (simp (le-ltb (length u) start_size long, le-ltb (length v) cycle_size wide))
 
       -- the rule is refused
-      pub rule_refused : {exit : List ℕ} {r : Refusal} {i place : ℕ} → CheckPromise 1 bytes entry exit (Checked-refused r i place)
+      pub rule_refused : {exit : List ℕ} {r : Refusal} {i place : ℕ} → CheckPromise 1 bytes entry exit (Err (refused_by r i place))
           → InclusionPromise bytes second u u v v entry exit (Refused r i place)
       rule_refused p = record {
         refusal = after_buffers (refused_before _ _ p.refusal);
@@ -69,7 +71,7 @@ module _ (bytes second u v entry : List ℕ) where
         scratch = left p.scratch;
       }
 
-      module _ {shape : Shape} {mid : List ℕ} (p : CheckPromise 1 bytes entry mid (Rule shape)) where
+      module _ {shape : Shape} {mid : List ℕ} (p : CheckPromise 1 bytes entry mid (Ok shape)) where
         abbrev m : Morphism
         m = morphism_at bytes shape.elements shape.letters
 
@@ -79,10 +81,10 @@ module _ (bytes second u v entry : List ℕ) where
         zeros : (was end : List ℕ) → length was ≡ length mid → end ≡ replicate (length was) 0 → end ≡ inclusion_left u v entry
         zeros was end e z = left (zeros_left 1 bytes entry p.refusal was end (e ∙ checked_length p.scratch) z)
 
-        module _ (answer : Fault) (verdict : FaultAnswer (λ input. second_marks_checks input bytes second) answer) (laid : List ℕ)
+        module _ (answer : Result (Unit {0}) Fault) (verdict : FaultAnswer (λ input. second_marks_checks input bytes second) answer) (laid : List ℕ)
             (l : LaidAnswer second shape.elements mid laid answer) where
           -- the second marks are refused
-          pub second_refused : {end : List ℕ} {r : Refusal} {place : ℕ} → answer ≡ Fault-refused r place → end ≡ replicate (length laid) 0
+          pub second_refused : {end : List ℕ} {r : Refusal} {place : ℕ} → answer ≡ Err (fault_by r place) → end ≡ replicate (length laid) 0
               → InclusionPromise bytes second u u v v entry end (Refused r 2 place)
           second_refused {end} e z = record {
             refusal = after_buffers (passed_before _ _ p.refusal (subst (FaultAnswer (λ input. second_marks_checks input bytes second)) e verdict 2));
@@ -90,7 +92,7 @@ module _ (bytes second u v entry : List ℕ) where
             scratch = zeros laid end (subst (LaidAnswer second shape.elements mid laid) e l) z;
           }
 
-          module _ (e : answer ≡ Nothing) where
+          module _ (e : answer ≡ (Ok tt)) where
             second_passed : FirstFailure (second_marks_checks 2 bytes second) passed
             second_passed = subst (FaultAnswer (λ input. second_marks_checks input bytes second)) e verdict 2
 

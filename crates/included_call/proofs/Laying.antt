@@ -1,4 +1,6 @@
 -- What laying out the second marking shows. Assumes nothing.
+use Rattle.std.specs.Prelude.{Result, Ok, Err}
+use Rattle.answer.specs.declared.Fault.{Fault}
 use Prim.Native.Nat.{ℕ, ◌+◌, ◌*◌, ◌-◌, ◌≤◌}
 use mathlib.Core.Path.{◌∙◌}
 use mathlib.Core.List.{List}
@@ -7,8 +9,6 @@ use lib.ListN.{length, take, drop}
 use borrow.Rule.Slice.PartMut.{put_mid, same_len_mid}
 use Rattle.formats.specs.RuleFile.{marks_in}
 use Rattle.formats.specs.RuleChecks.{scratch_size}
-use Rattle.rule_marks.specs.declared.Fault.{Fault}
-use Rattle.rule_marks.specs.declared.Fault.TheVariants.{Nothing, Refused as Fault-refused}
 use Rattle.rule_marks.specs.Faults.{MarksLaid}
 use Rattle.rule_second_marks.specs.SecondMarks.{MarksSpace, SecondAnswer}
 use Rattle.sections.specs.Answers.{PartZeroed}
@@ -49,9 +49,9 @@ module _ {entry scratch : List ℕ} (room : scratch_size ≤ length entry) (z : 
           after = λ i h. l.other i (λ s e hs he q. omega arith);
         })
 
-    pub laid_answer : (answer : Fault) → SecondAnswer second n (take (length scratch - second_base) (drop second_base scratch)) new answer
+    pub laid_answer : (answer : Result (Unit {0}) Fault) → SecondAnswer second n (take (length scratch - second_base) (drop second_base scratch)) new answer
         → LaidAnswer second n entry (put_mid second_base (length scratch - second_base) scratch new) answer
-    laid_answer Nothing l =
+    laid_answer (Ok done) l =
         let d = second_laid l in
         record {
           same_length = d.same_length ∙ z.outside.same_length;
@@ -59,4 +59,4 @@ module _ {entry scratch : List ℕ} (room : scratch_size ≤ length entry) (z : 
           after = λ i h. d.after i h ∙ z.outside.after i h;
           mark = d.mark;
         }
-    laid_answer (Fault-refused refusal place) l = same_len_mid second_base (length scratch - second_base) scratch new l ∙ z.outside.same_length
+    laid_answer (Err fault) l = same_len_mid second_base (length scratch - second_base) scratch new l ∙ z.outside.same_length

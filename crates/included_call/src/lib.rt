@@ -10,17 +10,16 @@ ghost use Rattle.rule_marks.specs.Faults.{FaultAnswer};
 ghost use Rattle.included_call.specs.Laying.{LaidAnswer};
 ghost use Rattle.promises.specs.Inclusion.{InclusionPromise};
 
-use answer::Refusal;
+use answer::{Fault, Refusal, Refused};
 use mark_comparison::compare;
 use promises::{CYCLE_SIZE, Inclusion, START_SIZE};
-use rule_check::{Checked, check};
-use rule_marks::Fault;
+use rule_check::check;
 use rule_second_marks::second_marks;
 use scratch::{SECOND_BASE, TABLES_END};
 use sections::{zero, zero_part};
 
 // Checks the second marks and lays them out behind the first.
-fn lay_second(rule: &[u8], n: usize, k: usize, second: &[u8], scratch: &mut [u8]) -> Fault
+fn lay_second(rule: &[u8], n: usize, k: usize, second: &[u8], scratch: &mut [u8]) -> Result<(), Fault>
     requires table { Table rule.now n k }
     requires n_value { (n ≡ elements_of rule.now) × (k ≡ letters_of rule.now) }
     requires scratch_size_in_bounds { scratch_size ≤ length scratch.old }
@@ -57,12 +56,12 @@ pub fn included(
         };
     }
     let shape = match check(rule, 1, scratch) {
-        Checked::Rule(shape) => shape,
-        Checked::Refused {
+        Ok(shape) => shape,
+        Err(Refused {
             refusal,
             input,
             place,
-        } => {
+        }) => {
             return Inclusion::Refused {
                 refusal,
                 input,
@@ -73,8 +72,8 @@ pub fn included(
     let n = shape.elements;
     let k = shape.letters;
     match lay_second(rule, n, k, second, scratch) {
-        Fault::Nothing => {}
-        Fault::Refused { refusal, place } => {
+        Ok(()) => {}
+        Err(Fault { refusal, place }) => {
             zero(scratch);
             return Inclusion::Refused {
                 refusal,

@@ -3,8 +3,9 @@
 
 ghost use Rattle.promises.specs.Inspect.{InspectPromise};
 
+use answer::Refused;
 use promises::Inspected;
-use rule_check::{Checked, check};
+use rule_check::check;
 use sections::zero;
 
 // Checks a rule file and says how large the rule is, or why it is none. Scratch ends as zeros, but where it is too short.
@@ -12,7 +13,7 @@ pub fn inspect(rule: &[u8], scratch: &mut [u8]) -> Inspected
     ensures { InspectPromise rule.now scratch.old scratch.new result }
 {
     match check(rule, 1, scratch) {
-        Checked::Rule(shape) => {
+        Ok(shape) => {
             zero(scratch);
             Inspected::Rule {
                 elements: shape.elements,
@@ -20,11 +21,11 @@ pub fn inspect(rule: &[u8], scratch: &mut [u8]) -> Inspected
                 marks: shape.marks,
             }
         }
-        Checked::Refused {
+        Err(Refused {
             refusal,
             input,
             place,
-        } => Inspected::Refused {
+        }) => Inspected::Refused {
             refusal,
             input,
             place,

@@ -1,4 +1,10 @@
 -- What each way through a keep and a return promises. Assumes nothing.
+
+use Rattle.answer.specs.declared.Fault.{Fault}
+use Rattle.answer.proofs.Parts.{fault_by}
+use Rattle.std.specs.Prelude.{Result, Ok, Err}
+use Rattle.answer.specs.declared.Refused.{Refused}
+use Rattle.answer.proofs.Parts.{refused_by}
 use Prim.Native.Nat.{ℕ, ◌+◌, ◌*◌, ◌≤◌, ◌<◌}
 use mathlib.Core.Path.{◌≡◌, refl, subst}
 use mathlib.Core.Logic.{inl, inr, ⊎_elim}
@@ -13,10 +19,6 @@ use Rattle.formats.specs.RuleFile.{elements_of}
 use Rattle.formats.proofs.Buffers.{buffer_short, buffer_long}
 use Rattle.formats.proofs.GoodRule.{called_good}
 use Rattle.rule_layout.specs.declared.Shape.{Shape}
-use Rattle.rule_marks.specs.declared.Fault.{Fault}
-use Rattle.rule_marks.specs.declared.Fault.TheVariants.{Nothing, Refused as Fault-refused}
-use Rattle.rule_check.specs.declared.Checked.{Checked}
-use Rattle.rule_check.specs.declared.Checked.TheVariants.{Rule, Refused as Checked-refused}
 use Rattle.rule_check.specs.Answers.{CheckPromise}
 use Rattle.rule_check.proofs.Left.{short_left, long_left}
 use Rattle.rule_check.proofs.Calls.{zeros_left, checked_rule, checked_refused, checked_length}
@@ -27,8 +29,6 @@ use Rattle.promises.specs.Points.{names_count, points_size, point_at, kept_point
 use Rattle.promises.proofs.Points.{keep_named, return_named}
 use Rattle.monitor_state.proofs.Numbers.{not_stray}
 use Rattle.monitor_point_checks.specs.PointChecks.{keep_faults, return_faults, PointFault}
-use Rattle.keep_and_return_call.specs.declared.Begun.{Begun}
-use Rattle.keep_and_return_call.specs.declared.Begun.TheVariants.{Elements, Refused}
 use Rattle.keep_and_return_call.specs.Begun.{first_checks, BegunAnswer, BegunPromise}
 
 -- what a keep that stores knows: the name's bytes are there, and the values fit in them
@@ -40,19 +40,19 @@ pub record Keepable (f : Monitor) (name : ℕ) (points : List ℕ) : Type 0 wher
 
 module _ (bytes points entry : List ℕ) where
   -- the points are too short
-  pub begun_short : length points < points_size → BegunPromise bytes points entry entry (Refused BufferTooShort 1 0)
+  pub begun_short : length points < points_size → BegunPromise bytes points entry entry (Err (refused_by BufferTooShort 1 0))
   begun_short h = record { says = buffer_short h; scratch = short_left points_size points entry h }
 
-  module _ (mid : List ℕ) (answer : Checked) (long : points_size ≤ length points) (known : CheckPromise 1 bytes entry mid answer) where
+  module _ (mid : List ℕ) (answer : Result Shape Refused) (long : points_size ≤ length points) (known : CheckPromise 1 bytes entry mid answer) where
     -- the rule is refused
-    pub begun_refused : {r : Refusal} {i place : ℕ} → answer ≡ Checked-refused r i place → BegunPromise bytes points entry mid (Refused r i place)
+    pub begun_refused : {r : Refusal} {i place : ℕ} → answer ≡ Err (refused_by r i place) → BegunPromise bytes points entry mid (Err (refused_by r i place))
     begun_refused e =
         let p = checked_refused 1 bytes entry mid answer known e in
         record { says = buffer_long long p.refusal; scratch = long_left points_size points entry long p.scratch }
 
     -- it has passed, and scratch is zeros
-    pub begun_elements : {shape : Shape} {exit : List ℕ} → answer ≡ Rule shape → exit ≡ replicate (length mid) 0
-        → BegunPromise bytes points entry exit (Elements shape.elements)
+    pub begun_elements : {shape : Shape} {exit : List ℕ} → answer ≡ Ok shape → exit ≡ replicate (length mid) 0
+        → BegunPromise bytes points entry exit (Ok shape.elements)
     begun_elements {exit = exit} e z =
         let rule = checked_rule 1 bytes entry mid answer known e in
         record {
@@ -61,7 +61,7 @@ module _ (bytes points entry : List ℕ) where
         }
 
 -- the beginning passed
-module _ (bytes points entry mid : List ℕ) (answer : Begun) (first : BegunPromise bytes points entry mid answer) {n : ℕ} (e : answer ≡ Elements n) where
+module _ (bytes points entry mid : List ℕ) (answer : Result ℕ Refused) (first : BegunPromise bytes points entry mid answer) {n : ℕ} (e : answer ≡ Ok n) where
   has_begun : FirstFailure (first_checks bytes points entry) passed × (n ≡ elements_of bytes)
   has_begun = subst (BegunAnswer bytes points entry) e first.says
 
@@ -70,9 +70,9 @@ module _ (bytes points entry mid : List ℕ) (answer : Begun) (first : BegunProm
       let not : length points < points_size → ⊥ = λ h. (passes_head has_begun.0).nowhere 0 (record { short = h; is_place = refl }) in
       omega arith
 
-module _ (bytes : List ℕ) (f : Monitor) (name : ℕ) (points entry mid : List ℕ) (answer : Begun) (first : BegunPromise bytes points entry mid answer) where
+module _ (bytes : List ℕ) (f : Monitor) (name : ℕ) (points entry mid : List ℕ) (answer : Result ℕ Refused) (first : BegunPromise bytes points entry mid answer) where
   -- it refused
-  module _ {r : Refusal} {i place : ℕ} (e : answer ≡ Refused r i place) where
+  module _ {r : Refusal} {i place : ℕ} (e : answer ≡ Err (refused_by r i place)) where
     begin_refused : FirstFailure (first_checks bytes points entry) (refused r i place)
     begin_refused = subst (BegunAnswer bytes points entry) e first.says
 
@@ -83,16 +83,16 @@ module _ (bytes : List ℕ) (f : Monitor) (name : ℕ) (points entry mid : List 
     return_refused = record { refusal = refused_before _ _ begin_refused; monitor = refl; scratch = first.scratch }
 
   -- it passed
-  module _ {n : ℕ} (e : answer ≡ Elements n) where
+  module _ {n : ℕ} (e : answer ≡ Ok n) where
     begun : FirstFailure (first_checks bytes points entry) passed × (n ≡ elements_of bytes)
     begun = has_begun bytes points entry mid answer first e
 
-    module _ (fault : Fault) (said : PointFault (keep_faults n f name points) fault) where
+    module _ (fault : Result (Unit {0}) Fault) (said : PointFault (keep_faults n f name points) fault) where
       keep_said : PointFault (keep_faults (elements_of bytes) f name points) fault
       keep_said = subst (λ (n : ℕ). PointFault (keep_faults n f name points) fault) begun.1 said
 
       -- the name or a value is refused
-      pub keep_fault : {r : Refusal} {place : ℕ} → fault ≡ Fault-refused r place → KeepPromise bytes f name points points entry mid (Moved-refused f r 1 place)
+      pub keep_fault : {r : Refusal} {place : ℕ} → fault ≡ Err (fault_by r place) → KeepPromise bytes f name points points entry mid (Moved-refused f r 1 place)
       keep_fault k = record {
         refusal = passed_before _ _ begun.0 (subst (PointFault (keep_faults (elements_of bytes) f name points)) k keep_said);
         monitor = refl;
@@ -100,7 +100,7 @@ module _ (bytes : List ℕ) (f : Monitor) (name : ℕ) (points entry mid : List 
         scratch = first.scratch;
       }
 
-      module _ (k : fault ≡ Nothing) where
+      module _ (k : fault ≡ (Ok tt)) where
         values_passed : FirstFailure (keep_faults (elements_of bytes) f name points) passed
         values_passed = subst (PointFault (keep_faults (elements_of bytes) f name points)) k keep_said
 
@@ -126,18 +126,18 @@ module _ (bytes : List ℕ) (f : Monitor) (name : ℕ) (points entry mid : List 
         unfolding kept_points
         keep_stored = record { refusal = keep_passed; monitor = refl; points = refl; scratch = first.scratch }
 
-    module _ (fault : Fault) (said : PointFault (return_faults n f name points) fault) where
+    module _ (fault : Result (Unit {0}) Fault) (said : PointFault (return_faults n f name points) fault) where
       return_said : PointFault (return_faults (elements_of bytes) f name points) fault
       return_said = subst (λ (n : ℕ). PointFault (return_faults n f name points) fault) begun.1 said
 
-      pub return_fault : {r : Refusal} {place : ℕ} → fault ≡ Fault-refused r place → ReturnPromise bytes f name points entry mid (Moved-refused f r 1 place)
+      pub return_fault : {r : Refusal} {place : ℕ} → fault ≡ Err (fault_by r place) → ReturnPromise bytes f name points entry mid (Moved-refused f r 1 place)
       return_fault k = record {
         refusal = passed_before _ _ begun.0 (subst (PointFault (return_faults (elements_of bytes) f name points)) k return_said);
         monitor = refl;
         scratch = first.scratch;
       }
 
-      module _ (k : fault ≡ Nothing) where
+      module _ (k : fault ≡ (Ok tt)) where
         return_passed : FirstFailure (return_checks bytes f name points entry) passed
         return_passed = passed_before _ _ begun.0 (subst (PointFault (return_faults (elements_of bytes) f name points)) k return_said)
 

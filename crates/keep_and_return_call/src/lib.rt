@@ -5,51 +5,27 @@
 ghost use Rattle.promises.specs.Points.{KeepPromise, ReturnPromise};
 ghost use Rattle.keep_and_return_call.specs.Begun.{BegunPromise};
 
-use answer::Refusal;
+use answer::{Fault, Refusal, Refused};
 use monitor_point_checks::{keep_fault, return_fault};
 use promises::{Monitor, Moved, POINTS_SIZE};
-use rule_check::{Checked, check};
-use rule_marks::Fault;
+use rule_check::check;
 use sections::zero;
 
-// How many elements the rule has; or the refusal of the points' length, or of the rule.
-#[derive(Drop)]
-enum Begun {
-    Elements(usize),
-    Refused {
-        refusal: Refusal,
-        input: usize,
-        place: usize,
-    },
-}
-
-// What both calls begin with. Scratch ends as zeros, but where a buffer is too short.
-fn begin(rule: &[u8], points: &[u8], scratch: &mut [u8]) -> Begun
+// What both calls begin with: how many elements the rule has, or the refusal of the points' length, or of the rule. Scratch ends as zeros,
+// but where a buffer is too short.
+fn begin(rule: &[u8], points: &[u8], scratch: &mut [u8]) -> Result<usize, Refused>
     ensures { BegunPromise rule.now points.now scratch.old scratch.new result }
 {
     if points.len() < POINTS_SIZE {
-        return Begun::Refused {
+        return Err(Refused {
             refusal: Refusal::BufferTooShort,
             input: 1,
             place: 0,
-        };
+        });
     }
-    let shape = match check(rule, 1, scratch) {
-        Checked::Rule(shape) => shape,
-        Checked::Refused {
-            refusal,
-            input,
-            place,
-        } => {
-            return Begun::Refused {
-                refusal,
-                input,
-                place,
-            };
-        }
-    };
+    let shape = check(rule, 1, scratch)?;
     zero(scratch);
-    Begun::Elements(shape.elements)
+    Ok(shape.elements)
 }
 
 // Keeps the monitor under a name, in place of what the name held.
@@ -57,12 +33,12 @@ pub fn keep(rule: &[u8], m: Monitor, name: usize, points: &mut [u8], scratch: &m
     ensures { KeepPromise rule.now m name points.old points.new scratch.old scratch.new result }
 {
     let n = match begin(rule, points, scratch) {
-        Begun::Elements(n) => n,
-        Begun::Refused {
+        Ok(n) => n,
+        Err(Refused {
             refusal,
             input,
             place,
-        } => {
+        }) => {
             return Moved::Refused {
                 monitor: m,
                 refusal,
@@ -72,8 +48,8 @@ pub fn keep(rule: &[u8], m: Monitor, name: usize, points: &mut [u8], scratch: &m
         }
     };
     match keep_fault(n, m, name, points) {
-        Fault::Nothing => {}
-        Fault::Refused { refusal, place } => {
+        Ok(()) => {}
+        Err(Fault { refusal, place }) => {
             return Moved::Refused {
                 monitor: m,
                 refusal,
@@ -95,12 +71,12 @@ pub fn return_to(rule: &[u8], m: Monitor, name: usize, points: &[u8], scratch: &
     ensures { ReturnPromise rule.now m name points.now scratch.old scratch.new result }
 {
     let n = match begin(rule, points, scratch) {
-        Begun::Elements(n) => n,
-        Begun::Refused {
+        Ok(n) => n,
+        Err(Refused {
             refusal,
             input,
             place,
-        } => {
+        }) => {
             return Moved::Refused {
                 monitor: m,
                 refusal,
@@ -110,8 +86,8 @@ pub fn return_to(rule: &[u8], m: Monitor, name: usize, points: &[u8], scratch: &
         }
     };
     match return_fault(n, m, name, points) {
-        Fault::Nothing => {}
-        Fault::Refused { refusal, place } => {
+        Ok(()) => {}
+        Err(Fault { refusal, place }) => {
             return Moved::Refused {
                 monitor: m,
                 refusal,

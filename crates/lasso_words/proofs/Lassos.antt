@@ -1,4 +1,5 @@
 -- What each way through the checks of two words shows. Assumes nothing.
+use Rattle.std.specs.Prelude.{Option, Some, None}
 use Prim.Native.Nat.{ℕ, ◌≤◌, ◌<◌}
 use mathlib.Core.Path.{◌≡◌, refl, subst}
 use mathlib.Core.Logic.{◌⊎◌, inr, ⊎_elim}
@@ -9,8 +10,6 @@ use lib.ListN.{length, get_or}
 use Rattle.answer.specs.declared.Refusal.TheVariants.{UnknownLetter, WordLength}
 use Rattle.answer.specs.Checks.{Check, refused, FirstFailure}
 use Rattle.answer.proofs.Order.{first_passes, first_fails, none_left}
-use Rattle.section_bounds.specs.declared.Found.{Found}
-use Rattle.section_bounds.specs.declared.Found.TheVariants.{At, Nothing}
 use Rattle.section_bounds.specs.Answers.{FoundOut}
 use Rattle.formats.proofs.Sections.{FirstOut}
 use Rattle.formats.specs.WordChecks.{shortest_start, shortest_cycle, longest_word, LengthOutAt, UnknownLetterAt, lasso_checks}
@@ -25,8 +24,8 @@ length_passes : {shortest : ℕ} {w : List ℕ} → GoodLength shortest w → (p
 length_passes g place o = ⊎_elim (λ l. omega (arith, g.some)) (λ l. omega (arith, g.short)) o.outside
 
 -- the search for a letter that is not below k, from the first letter on
-module _ (k : ℕ) (w : List ℕ) (answer : Found) (known : FoundOut w 0 (length w) (λ i. 0) (λ i. k) answer) where
-  pub foreign_at : {i : ℕ} → answer ≡ At i → UnknownLetterAt k w i
+module _ (k : ℕ) (w : List ℕ) (answer : Option ℕ) (known : FoundOut w 0 (length w) (λ i. 0) (λ i. k) answer) where
+  pub foreign_at : {i : ℕ} → answer ≡ Some i → UnknownLetterAt k w i
   foreign_at {i} e = go (subst (FoundOut w 0 (length w) (λ i. 0) (λ i. k)) e known)
     where
       go : FirstOut w 0 (length w) (λ i. 0) (λ i. k) i → UnknownLetterAt k w i
@@ -36,7 +35,7 @@ module _ (k : ℕ) (w : List ℕ) (answer : Found) (known : FoundOut w 0 (length
         first = λ j h. subst (λ (x : ℕ). get_or w x 0 < k) (zero-add j) (o.first j h).below;
       }
 
-  pub letters_below : answer ≡ Nothing → (i : ℕ) → i < length w → get_or w i 0 < k
+  pub letters_below : answer ≡ None → (i : ℕ) → i < length w → get_or w i 0 < k
   letters_below e i h = subst (λ (x : ℕ). get_or w x 0 < k) (zero-add i) ((subst (FoundOut w 0 (length w) (λ i. 0) (λ i. k)) e known).each i h).below
 
 letters_pass : {k : ℕ} {w : List ℕ} → ((i : ℕ) → i < length w → get_or w i 0 < k) → (place : ℕ) → UnknownLetterAt k w place → ⊥

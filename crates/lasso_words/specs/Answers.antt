@@ -1,8 +1,7 @@
 -- What the answers of this crate's functions say. Assumes nothing.
-use Rattle.std.specs.Prelude.{ℕ, ◌≤◌, ◌<◌, List, length, get_or}
+use Rattle.std.specs.Prelude.{ℕ, ◌≤◌, ◌<◌, List, length, get_or, Result, Ok, Err}
+use Rattle.answer.specs.declared.Refused.{Refused}
 use Rattle.answer.specs.Checks.{passed, refused, FirstFailure}
-use Rattle.lasso_words.specs.declared.LassoFault.{LassoFault}
-use Rattle.lasso_words.specs.declared.LassoFault.TheVariants.{Nothing, Refused}
 use Rattle.formats.specs.WordChecks.{shortest_start, shortest_cycle, longest_word, lasso_checks}
 
 -- a word that the calls take: its length in the range, from `shortest` letters on, its letters below k
@@ -17,6 +16,6 @@ pub record GoodLasso (k : ℕ) (u v : List ℕ) : Type 0 where
   pub cycle : GoodWord shortest_cycle k v
   pub refusal : FirstFailure (lasso_checks k u v) passed
 
-abbrev pub LassoAnswer : ℕ → List ℕ → List ℕ → LassoFault → Type 0
-LassoAnswer k u v Nothing = GoodLasso k u v
-LassoAnswer k u v (Refused refusal input place) = FirstFailure (lasso_checks k u v) (refused refusal input place)
+abbrev pub LassoAnswer : ℕ → List ℕ → List ℕ → Result (Unit {0}) Refused → Type 0
+LassoAnswer k u v (Ok done) = GoodLasso k u v
+LassoAnswer k u v (Err r) = FirstFailure (lasso_checks k u v) (refused r.refusal r.input r.place)

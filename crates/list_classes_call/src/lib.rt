@@ -10,10 +10,10 @@ ghost use Rattle.formats.specs.Table.{morphism_at};
 ghost use Rattle.promises.specs.Classes.{classes_size, ClassesWritten, ListPromise};
 ghost use Rattle.mark_class_numbers.specs.Cells.{CellCounts};
 
-use answer::Refusal;
+use answer::{Refusal, Refused};
 use mark_class_numbers::{begin, load, lower_row};
 use promises::{CLASSES_SIZE, Listed, NO_CLASS};
-use rule_check::{Checked, check};
+use rule_check::check;
 use rule_marks::linked;
 use sections::zero;
 
@@ -68,12 +68,12 @@ pub fn list_classes(rule: &[u8], out: &mut [u8], scratch: &mut [u8]) -> Listed
         };
     }
     let shape = match check(rule, 1, scratch) {
-        Checked::Rule(shape) => shape,
-        Checked::Refused {
+        Ok(shape) => shape,
+        Err(Refused {
             refusal,
             input,
             place,
-        } => {
+        }) => {
             return Listed::Refused {
                 refusal,
                 input,

@@ -17,9 +17,7 @@ pub fn load(out: &[u8], at: usize) -> usize
     requires { at + 1 < length out.now }
     ensures { Loaded out.now at result }
 {
-    let low = out[at] as usize;
-    let top = out[at + 1] as usize;
-    low + 256 * top
+    u16::from_le_bytes([out[at], out[at + 1]]) as usize
 }
 
 // Writes a two-byte number at a place, low byte first.
@@ -28,8 +26,9 @@ pub fn store(out: &mut [u8], at: usize, number: usize)
     requires number_bound { number < 65536 }
     ensures { Stored out.old out.new at number }
 {
-    out[at] = (number % 256) as u8;
-    out[at + 1] = (number / 256 % 256) as u8;
+    let [low, high] = (number as u16).to_le_bytes();
+    out[at] = low;
+    out[at + 1] = high;
 }
 
 // A linked pair is conjugate to itself; a pair that is not linked has no class.

@@ -106,6 +106,7 @@ fn within(scratch: &[u8], count: usize) -> bool
     requires { (count ≤ mark_table_size) × (tables_end ≤ length scratch.now) }
     ensures { WithinAnswer scratch.now count result }
 {
+    // One index for both tables: an iterator over each of them is no plainer.
     for i in 0..count {
         if scratch[i] < scratch[SECOND_BASE + i] {
             return false;

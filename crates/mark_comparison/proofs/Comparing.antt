@@ -19,7 +19,7 @@ use Rattle.mark_spelling.proofs.Entries.{spell_place}
 use Rattle.mark_search.specs.Search.{EscapeNeeds, EscapedAt}
 use Rattle.mark_grade_search.specs.GradeSearch.{GradeEscapedAt, GradeEscapeAnswer, GradeEscaped}
 use Rattle.mark_grade_search.specs.declared.GradeEscape.{GradeEscape}
-use Rattle.mark_grade_search.specs.declared.GradeEscape.TheVariants.{At, Nothing as No-escape}
+use Rattle.std.specs.Prelude.{Option, Some, None}
 use Rattle.mark_cycles.specs.Cycles.{CycleNeeds, CycleWritten}
 use Rattle.mark_cycles.proofs.Spelled.{cycle_place, spelled_escapes, ended_short}
 use Rattle.mark_comparison.specs.Comparison.{StartNeeds, StartWritten, CompareNeeds, answered_included, answered_apart, Compared}
@@ -49,13 +49,13 @@ module _ {m : Morphism} {entry : List ℕ} (place : CompareNeeds m entry) where
     room = place.room;
   }
 
-  module _ {mid : List ℕ} {answer : GradeEscape} (r : GradeEscaped m 0 second_base entry mid answer) where
-    said : {answered : GradeEscape} → answer ≡ answered → (F S : Marking) → MarkingAt m.size F entry 0 → MarkingAt m.size S entry second_base
+  module _ {mid : List ℕ} {answer : Option GradeEscape} (r : GradeEscaped m 0 second_base entry mid answer) where
+    said : {answered : Option GradeEscape} → answer ≡ answered → (F S : Marking) → MarkingAt m.size F entry 0 → MarkingAt m.size S entry second_base
         → GradeEscapeAnswer m F S mid answered
     said e F S t t' = subst (GradeEscapeAnswer m F S mid) e (r.says F S t t')
 
     -- no cycle escapes, at any grade
-    pub compared_within : {end : List ℕ} (u v : List ℕ) → answer ≡ No-escape → end ≡ replicate (length mid) 0 → Compared m u u v v entry end Is-included
+    pub compared_within : {end : List ℕ} (u v : List ℕ) → answer ≡ None → end ≡ replicate (length mid) 0 → Compared m u u v v entry end Is-included
     compared_within u v e z = record {
       answers = λ F S k k' t t'. record {
         included = record {
@@ -69,7 +69,16 @@ module _ {m : Morphism} {entry : List ℕ} (place : CompareNeeds m entry) where
       scratch = z ∙ ap (λ (x : ℕ). replicate x 0) r.same_length;
     }
 
-    module _ {g s i : ℕ} (e : answer ≡ At g s i) where
+    module _ {found : GradeEscape} (e : answer ≡ Some found) where
+      abbrev g : ℕ
+      g = found.grade
+
+      abbrev s : ℕ
+      s = found.escape.start
+
+      abbrev i : ℕ
+      i = found.escape.entry
+
       escaped : (F S : Marking) → MarkingAt m.size F entry 0 → MarkingAt m.size S entry second_base → GradeEscapedAt m F S mid g s i
       escaped F S t t' = said e F S t t'
 

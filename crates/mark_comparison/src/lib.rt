@@ -8,7 +8,7 @@ ghost use Rattle.formats.specs.Table.{morphism_at};
 ghost use Rattle.mark_comparison.specs.Comparison.{StartNeeds, StartWritten, CompareNeeds, Compared};
 
 use mark_cycles::write_cycle;
-use mark_grade_search::{GradeEscape, highest_escape};
+use mark_grade_search::highest_escape;
 use mark_spelling::write_first_word;
 use promises::Inclusion;
 use rule_reach::reach;
@@ -41,17 +41,13 @@ pub fn compare(
     ensures { Compared (morphism_at rule.now n k) u.old u.new v.old v.new scratch.old scratch.new result }
 {
     match highest_escape(rule, n, k, scratch, 0, SECOND_BASE) {
-        GradeEscape::Nothing => {
+        None => {
             zero(scratch);
             Inclusion::Included
         }
-        GradeEscape::At {
-            grade: _,
-            start,
-            entry,
-        } => {
-            let u_letters = write_start(rule, n, k, start, u);
-            let v_letters = write_cycle(scratch, n, entry, v);
+        Some(found) => {
+            let u_letters = write_start(rule, n, k, found.escape.start, u);
+            let v_letters = write_cycle(scratch, n, found.escape.entry, v);
             zero(scratch);
             Inclusion::NotIncluded {
                 u: u_letters,

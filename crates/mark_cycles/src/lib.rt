@@ -14,9 +14,9 @@ fn parent(scratch: &[u8], i: usize) -> usize
     requires { (scratch_size ≤ length scratch.now) × (i < 4225) }
     ensures { result ≡ parent_at scratch.now i }
 {
-    let low = scratch[PARENTS_LOW_BASE + i] as usize;
-    let high = scratch[PARENTS_HIGH_BASE + i] as usize;
-    low + 256 * high
+    let low = scratch[PARENTS_LOW_BASE + i];
+    let high = scratch[PARENTS_HIGH_BASE + i];
+    u16::from_le_bytes([low, high]) as usize
 }
 
 // Writes the cycle of an entry to the front of a buffer, and answers how many letters it has.
@@ -26,6 +26,7 @@ pub fn write_cycle(scratch: &[u8], n: usize, entry: usize, out: &mut [u8]) -> us
 {
     let mut i = entry;
     let mut letters = 0;
+    // The entries are followed one to another, so no range or iterator has them.
     while scratch[BACKS_BASE + i] as usize != n {
         out[letters] = scratch[LETTERS_BASE + i];
         letters += 1;

@@ -1,5 +1,8 @@
 -- The search at one grade after the other, from the highest down. Assumes nothing.
-use Rattle.std.proofs.Common.{◌≡◌, ℕ, ◌+◌, ◌*◌, ◌%◌, ◌^◌, ◌<◌, ◌≤◌, ◌≢◌, ◌⊎◌, List, length, get_or, refl, ◌∙◌, subst, inl, inr, ⊎_elim, le_refl, arith, below_more}
+use Rattle.std.proofs.Common.{◌≡◌, ℕ, ◌+◌, ◌*◌, ◌%◌, ◌^◌, ◌<◌, ◌≤◌, ◌≢◌, ◌⊎◌, List, length, get_or, refl, ◌∙◌, subst, inl, inr, ⊎_elim, le_refl, arith, below_more, Option, Some, None, zero, suc, nat_lt}
+use borrow.Author.Tests.{lt-ltb}
+use Rattle.std.specs.Bool.{then_some}
+use Rattle.std.specs.Option.{MatchOption}
 use Rattle.finite.proofs.Numbers.{le_or_lt}
 use Rattle.theory.specs.Rules.{Morphism, Marking, level}
 use Rattle.theory.proofs.Escapes.{Escapes}
@@ -7,9 +10,7 @@ use Rattle.scratch.specs.Map.{marks_from, MarkingAt, search_end, tables_end}
 use Rattle.scratch.proofs.Markings.{marking_kept}
 use Rattle.mark_search.specs.Search.{EscapeNeeds, EscapeAnswer, Escaped}
 use Rattle.mark_search.specs.declared.Escape.{Escape}
-use Rattle.mark_search.specs.declared.Escape.TheVariants.{At as Escape-at, Nothing as No-escape}
 use Rattle.mark_grade_search.specs.GradeSearch.{HighestBelow, GradeEscaped}
-use Rattle.mark_grade_search.specs.declared.GradeEscape.TheVariants.{At, Nothing}
 use Rattle.mark_grade_search.proofs.Skips.{skipped_grade, none_above}
 
 -- less the grade and modulo 256, a mark below the grade stands above those that are not, as far as it is high
@@ -38,6 +39,12 @@ module _ {bytes : List ℕ} {first below : ℕ} where
     less = e.0;
     none_between = λ j l k. omega (arith, b.none_above j (omega arith) k, e.1);
   }
+
+-- a highest mark of 0 is none
+pub highest_some : {bytes : List ℕ} {first count below : ℕ} (r : ℕ) {found : Option ℕ} → found ≡ then_some (nat_lt 0 r) r → HighestBelow bytes first count below r
+    → MatchOption found (HighestBelow bytes first count below 0) (λ grade. HighestBelow bytes first count below grade × (0 < grade))
+highest_some zero e h = rw e h
+highest_some (suc r) e h = rw (e, lt-ltb 0 (suc r) (omega arith)) (h, omega arith)
 
 -- no cycle escapes at the grades from `above` on
 pub record SearchedAbove (m : Morphism) (first second above : ℕ) (entry now : List ℕ) : Type 0 where
@@ -74,15 +81,6 @@ module _ {m : Morphism} {first second : ℕ} {entry : List ℕ} (small : m.size 
       room = omega (arith, place.room, k.same_length);
     }
 
-    -- every grade was searched
-    pub escaped_all : above ≤ 1 → GradeEscaped m first second entry now Nothing
-    escaped_all h = record {
-      same_length = k.same_length;
-      says = λ F S t t' low g some. k.none F S low t t' g (omega arith);
-      marks = k.marks;
-      behind = k.behind;
-    }
-
     first_stands : {F : Marking} → MarkingAt m.size F entry first → MarkingAt m.size F now first
     first_stands t = marking_kept first small (λ i g h. k.marks i (omega (arith, place.first_base))) t
 
@@ -107,7 +105,7 @@ module _ {m : Morphism} {first second : ℕ} {entry : List ℕ} (small : m.size 
           go (inr l) = k.none F S low t t' above (le_refl above) s hs v (skipped_grade place.lawful F S g above s (omega arith) (λ e he. past F t g s e hs he h) x)
 
       -- the first marking has no lower grade
-      pub escaped_none : grade ≡ 0 → GradeEscaped m first second entry now Nothing
+      pub escaped_none : grade ≡ 0 → GradeEscaped m first second entry now None
       escaped_none z = record {
         same_length = k.same_length;
         says = λ F S t t' low g some. none_past F S low t t' g (omega arith);
@@ -115,15 +113,15 @@ module _ {m : Morphism} {first second : ℕ} {entry : List ℕ} (small : m.size 
         behind = k.behind;
       }
 
-      module _ {exit : List ℕ} {answer : Escape} (some : grade ≡ 0 → ⊥) (r : Escaped m grade first second now exit answer) where
+      module _ {exit : List ℕ} {answer : Option Escape} (some : grade ≡ 0 → ⊥) (r : Escaped m grade first second now exit answer) where
         positive : 1 ≤ grade
         positive =
             let z : grade ≢ 0 = some in
             omega arith
 
         -- the search at the grade ends at an entry
-        pub escaped_at : {s i : ℕ} → answer ≡ Escape-at s i → GradeEscaped m first second entry exit (At grade s i)
-        escaped_at {s} {i} e = record {
+        pub escaped_at : {found : Escape} → answer ≡ Some found → GradeEscaped m first second entry exit (Some (record { grade = grade; escape = found }))
+        escaped_at {found} e = record {
           same_length = r.same_length ∙ k.same_length;
           says = λ F S t t'. record {
             some = positive;
@@ -135,7 +133,7 @@ module _ {m : Morphism} {first second : ℕ} {entry : List ℕ} (small : m.size 
         }
 
         -- or it does not
-        pub searched_next : answer ≡ No-escape → SearchedAbove m first second grade entry exit
+        pub searched_next : answer ≡ None → SearchedAbove m first second grade entry exit
         searched_next e = record {
           some = positive;
           few = omega (arith, b.less, k.few);

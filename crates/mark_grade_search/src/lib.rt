@@ -2,14 +2,13 @@
 // first marking has is not searched, for a cycle that escapes there escapes at the next higher one.
 #![tactic(auto)]
 
-ghost use Rattle.std.specs.Prelude.{◌≡◌, ◌+◌, ◌<◌, ◌≤◌, length};
+ghost use Rattle.std.specs.Prelude.{◌≡◌, ◌+◌, ◌<◌, ◌≤◌, length, MatchOption};
 ghost use Rattle.formats.proofs.Tables.{Table};
 ghost use Rattle.formats.specs.Table.{morphism_at};
 ghost use Rattle.mark_search.specs.Search.{EscapeNeeds};
 ghost use Rattle.mark_grade_search.specs.GradeSearch.{HighestBelow, GradeEscaped};
 
 use mark_search::{Escape, first_escape};
-use section_bounds::greater;
 
 // The mark below a grade that stands as `shifted`: less the grade, and modulo 256.
 fn shifted_back(shifted: u8, below: u8) -> u8
@@ -19,30 +18,27 @@ fn shifted_back(shifted: u8, below: u8) -> u8
     shifted - (255 - below) - 1
 }
 
-// The highest mark below a grade, among some bytes from `first` on; 0 for none. Shifted, the marks below the grade stand in their order
+// The highest mark below a grade and above 0, among some bytes from `first` on. Shifted, the marks below the grade stand in their order
 // above all others, so that it is a greatest byte, which the compiler finds many bytes at a time: it does not where the loop compares
 // each mark with the grade.
-fn highest_below(scratch: &[u8], count: usize, first: usize, below: u8) -> u8
+fn highest_below(scratch: &[u8], count: usize, first: usize, below: u8) -> Option<u8>
     requires { (0 < below) × (first + count ≤ length scratch.now) }
-    ensures { HighestBelow scratch.now first count below result }
+    ensures { MatchOption result (HighestBelow scratch.now first count below 0) (λ grade. HighestBelow scratch.now first count below grade × (0 < grade)) }
 {
     let mut top = std::num::wrapping_sub_u8(0, below);
-    for i in 0..count {
-        let shifted = std::num::wrapping_sub_u8(scratch[first + i], below);
-        top = greater(top, shifted);
+    for mark in &scratch[first..first + count] {
+        let shifted = std::num::wrapping_sub_u8(*mark, below);
+        top = top.max(shifted);
     }
-    shifted_back(top, below)
+    let highest = shifted_back(top, below);
+    (0 < highest).then_some(highest)
 }
 
-// The highest grade at which a cycle escapes, its start value, and the entry that ended the search.
-#[derive(Drop)]
-pub enum GradeEscape {
-    At {
-        grade: u8,
-        start: usize,
-        entry: usize,
-    },
-    Nothing,
+// The highest grade at which a cycle escapes, and what the search found there.
+#[derive(Clone, Copy)]
+pub struct GradeEscape {
+    pub grade: u8,
+    pub escape: Escape,
 }
 
 // Compares the marking whose table begins at `first` with the one whose table begins at `second` at each grade that the first has. It
@@ -54,28 +50,17 @@ pub fn highest_escape(
     scratch: &mut [u8],
     first: usize,
     second: usize,
-) -> GradeEscape
+) -> Option<GradeEscape>
     requires table { Table rule.now n k }
     requires escape_needs { EscapeNeeds (morphism_at rule.now n k) first second scratch.old }
     ensures { GradeEscaped (morphism_at rule.now n k) first second scratch.old scratch.new result }
 {
     let mut above = 4u8;
-    while 1 < above {
-        let grade = highest_below(scratch, n * 64, first, above);
-        if grade == 0 {
-            return GradeEscape::Nothing;
-        }
-        match first_escape(rule, n, k, scratch, first, second, grade) {
-            Escape::At { start, entry } => {
-                return GradeEscape::At {
-                    grade,
-                    start,
-                    entry,
-                };
-            }
-            Escape::Nothing => {}
+    while let Some(grade) = highest_below(scratch, n * 64, first, above) {
+        if let Some(escape) = first_escape(rule, n, k, scratch, first, second, grade) {
+            return Some(GradeEscape { grade, escape });
         }
         above = grade;
     }
-    GradeEscape::Nothing
+    None
 }

@@ -23,7 +23,7 @@ use Rattle.conjugacy_moves.proofs.FirstMoves.{first_left, first_left_least, firs
 use Rattle.conjugacy_moves.proofs.Tables.{rep_linked, kept_rep}
 use Rattle.scratch.specs.Map.{marks_from}
 use Rattle.scratch.proofs.Markings.{front_mark}
-use Rattle.mark_moves.specs.Agreeing.{ConjugatesDiffer, AgreeAnswer, FirstWay, ColumnsAgree, MoveTo, StartAgrees, MoveAgrees, LetterAgrees, LettersAgree, CycleAgrees}
+use Rattle.mark_moves.specs.Agreeing.{ConjugatesDiffer, AgreeAnswer, Way, ColumnsAgree, MoveTo, StartAgrees, MoveAgrees, LetterAgrees, LettersAgree, CycleAgrees}
 
 -- an answer that was given
 module _ {m : Morphism} {marks : Marking} {P : Type 0} where
@@ -76,17 +76,17 @@ module _ {m : Morphism} where
   first_same {e} i p = subst (LeftEquivalent m e) (sym p) (same_left_sym (first_left_same i))
 
 -- the ways through the code for one letter's element g with y = e·g: e stands in the row of y, and the move leads to z·y; or it does not, and there is none
-module _ {m : Morphism} {e g y z : ℕ} (is_y : y ≡ m.product e g) (w : FirstWay m y e z) where
-  pub first_way_move : {f : ℕ} → z < m.size → f ≡ m.product z y → AnyWay m e g f
+module _ {m : Morphism} {e g y : ℕ} (is_y : y ≡ m.product e g) where
+  pub first_way_move : {z f : ℕ} → Way m y e z → f ≡ m.product z y → AnyWay m e g f
   unfolding turned
-  first_way_move h p = record {
+  first_way_move {z} w p = record {
     way = z;
-    returns = record { inside = h; back = ap (λ (a : ℕ). m.product a z) (sym is_y) ∙ w.leads h };
+    returns = record { inside = w.inside; back = ap (λ (a : ℕ). m.product a z) (sym is_y) ∙ w.leads };
     cycle = ap (m.product z) (sym is_y) ∙ sym p;
   }
 
-  pub letter_none : {marks : Marking} → m.size ≤ z → LetterAgrees m marks e g
-  letter_none h = record { some_way = λ x b. absurd ((w.none h).each x b.inside (ap (λ (a : ℕ). m.product a x) is_y ∙ b.back)) }
+  pub letter_none : {marks : Marking} → EachBelow (λ x. m.product y x ≡ e → ⊥) m.size → LetterAgrees m marks e g
+  letter_none none = record { some_way = λ x b. absurd (none.each x b.inside (ap (λ (a : ℕ). m.product a x) is_y ∙ b.back)) }
 
 pub letter_moves : {m : Morphism} {marks : Marking} {e g f : ℕ} → AnyWay m e g f → MoveAgrees m marks e g f → LetterAgrees m marks e g
 letter_moves {f = f} w k = record { some_way = λ z b. (f, w, k) }

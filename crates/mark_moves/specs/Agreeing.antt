@@ -1,6 +1,6 @@
 -- What marks are asked so that they are constant along the moves between linked pairs: for each idempotent one comparison with the first of its left
 -- class, and for that one a comparison for each letter. Assumes nothing.
-use Rattle.std.specs.Prelude.{ℕ, ◌≤◌, ◌<◌, ◌≡◌, Bool, true, false, List, length}
+use Rattle.std.specs.Prelude.{ℕ, ◌≤◌, ◌<◌, ◌≡◌, Bool, true, false, List, length, Option, MatchOption}
 use Rattle.finite.specs.Each.{EachBelow}
 use Rattle.theory.specs.Rules.{Morphism, Lawful, Marking}
 use Rattle.theory.specs.Pairs.{Idempotent, Linked, Conjugate}
@@ -30,10 +30,14 @@ pub record AgreeAnswer (m : Morphism) (marks : Marking) (Agree : Type 0) (answer
   pub agree : answer ≡ true → Agree
   pub differ : answer ≡ false → ConjugatesDiffer m marks
 
--- z is the first element with y·z = e, or the size where there is none
-pub record FirstWay (m : Morphism) (y e z : ℕ) : Type 0 where
-  pub leads : z < m.size → m.product y z ≡ e
-  pub none : m.size ≤ z → EachBelow (λ x. m.product y x ≡ e → ⊥) m.size
+-- z is an element with y·z = e
+pub record Way (m : Morphism) (y e z : ℕ) : Type 0 where
+  pub inside : z < m.size
+  pub leads : m.product y z ≡ e
+
+-- an element z with y·z = e, or there is none
+abbrev pub FirstWay : Morphism → ℕ → ℕ → Option ℕ → Type 0
+FirstWay m y e found = MatchOption found (EachBelow (λ x. m.product y x ≡ e → ⊥) m.size) (Way m y e)
 
 -- the marks of (s, e) and (s, f) are the same, for every s
 pub record ColumnsAgree (m : Morphism) (marks : Marking) (e f : ℕ) : Type 0 where

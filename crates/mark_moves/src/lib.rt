@@ -49,19 +49,20 @@ pub fn first_left(rule: &[u8], n: usize, k: usize, e: usize) -> usize
     e
 }
 
-// The first z with y·z = e, or n.
-pub fn first_way(rule: &[u8], n: usize, k: usize, y: usize, e: usize) -> usize
+// The first z with y·z = e.
+pub fn first_way(rule: &[u8], n: usize, k: usize, y: usize, e: usize) -> Option<usize>
     requires table { Table rule.now n k }
     requires y_lt_n { y < n }
     ensures { FirstWay (morphism_at rule.now n k) y e result }
 {
+    // A loop, for with `find` on the range the contract was not proved.
     for z in 0..n {
         let back = product(rule, n, y, z);
         if back == e {
-            return z;
+            return Some(z);
         }
     }
-    n
+    None
 }
 
 // Whether (s, e) and (s, f) have the same mark for every s, where e and f are idempotents of one left class. Where (s, e) is not linked neither is (s, f),
@@ -72,6 +73,7 @@ fn columns_agree(rule: &[u8], n: usize, k: usize, scratch: &[u8], e: usize, f: u
     requires left_equivalent { LeftEquivalent (morphism_at rule.now n k) e f }
     ensures { AgreeAnswer (morphism_at rule.now n k) (marks_from scratch.now 0) (ColumnsAgree (morphism_at rule.now n k) (marks_from scratch.now 0) e f) result }
 {
+    // By the start s, as the contract speaks of it: rows of 64 bytes are no plainer.
     for s in 0..n {
         if scratch[s * 64 + e] != scratch[s * 64 + f] {
             return false;
@@ -143,10 +145,9 @@ fn letter_agrees(rule: &[u8], n: usize, k: usize, scratch: &[u8], e: usize, g: u
     if y == e {
         return true;
     }
-    let z = first_way(rule, n, k, y, e);
-    if n <= z {
+    let Some(z) = first_way(rule, n, k, y, e) else {
         return true;
-    }
+    };
     let f = product(rule, n, z, y);
     move_agrees(rule, n, k, scratch, e, g, f)
 }

@@ -17,7 +17,7 @@ use Rattle.conjugacy_moves.specs.Moves.{LeftEquivalent, turned, AnyWay}
 use Rattle.conjugacy_moves.proofs.Returns.{returns_conjugate}
 use Rattle.conjugacy_moves.proofs.Rows.{stays_returns, stays_turned}
 use Rattle.conjugacy_moves.proofs.FirstMoves.{first_left}
-use Rattle.mark_moves.specs.Agreeing.{FirstWay, MoveTo}
+use Rattle.mark_moves.specs.Agreeing.{MoveTo}
 use Rattle.mark_raising.specs.Tables.{place, first_table, second_table, highest_mark, Kept}
 use Rattle.mark_raising.specs.Raising.{Raised, RaiseAnswer, StartSettled, MoveSettled, LetterSettled, LettersSettled, CycleSettled}
 use Rattle.mark_raising.proofs.Tables.{place_same, kept_none, kept_both, kept_first}
@@ -129,8 +129,8 @@ letter_stays {m} {e} {g} {bytes} law i hg p = record {
         let q : m.product s g ≡ s = cc (law.associative s e g hs i.inside hg) in
         omega (arith, ap (λ (t : ℕ). second_table bytes t e) q)
 
-pub letter_none : {m : Morphism} {e g y z : ℕ} {bytes : List ℕ} → y ≡ m.product e g → FirstWay m y e z → m.size ≤ z → LetterSettled m e g bytes
-letter_none {m} is_y w h = record { some_way = λ x b. absurd ((w.none h).each x b.inside (ap (λ (a : ℕ). m.product a x) is_y ∙ b.back)) }
+pub letter_none : {m : Morphism} {e g y : ℕ} {bytes : List ℕ} → y ≡ m.product e g → EachBelow (λ x. m.product y x ≡ e → ⊥) m.size → LetterSettled m e g bytes
+letter_none {m} is_y none = record { some_way = λ x b. absurd (none.each x b.inside (ap (λ (a : ℕ). m.product a x) is_y ∙ b.back)) }
 
 pub letter_moves : {m : Morphism} {e g f : ℕ} {bytes : List ℕ} → AnyWay m e g f → MoveSettled m e g f bytes → LetterSettled m e g bytes
 letter_moves {f = f} w k = record { some_way = λ z b. (f, w, k) }

@@ -89,10 +89,9 @@ fn raise_letter(
     if y == e {
         return raised;
     }
-    let z = first_way(rule, n, k, y, e);
-    if n <= z {
+    let Some(z) = first_way(rule, n, k, y, e) else {
         return raised;
-    }
+    };
     let f = product(rule, n, z, y);
     raise_move(rule, n, k, scratch, e, g, f, raised)
 }

@@ -13,11 +13,9 @@ use Rattle.scratch.specs.Map.{MarkingAt, tables_end, states_base, first_preimage
 use Rattle.scratch.specs.Preimages.{PreimagesRoom, PreimagesListed}
 use Rattle.mark_search_list.specs.Queue.{seen_at, Kept}
 use Rattle.mark_search_run.specs.Search.{SearchNeeds, Searched}
-use Rattle.mark_search_run.specs.declared.Ended.{Ended}
-use Rattle.mark_search_run.specs.declared.Ended.TheVariants.{At, Nothing}
+use Rattle.std.specs.Prelude.{Option, Some, None}
 use Rattle.mark_search.specs.Search.{AllNeeds, EscapeNeeds, Escaped}
 use Rattle.mark_search.specs.declared.Escape.{Escape}
-use Rattle.mark_search.specs.declared.Escape.TheVariants.{At as Escape-at, Nothing as No-escape}
 use Rattle.scratch.proofs.Markings.{marking_kept}
 use Rattle.scratch.proofs.Unchanged.{unchanged_none, unchanged_both}
 use Rattle.mark_search_letters.proofs.Taking.{preimages_kept}
@@ -53,10 +51,10 @@ module _ {m : Morphism} (least : ℕ) {first second : ℕ} {entry : List ℕ} (s
       second_stands = marking_kept second small (λ i g h. k.kept.before i (omega (arith, place.second_in_base))) t'
 
     -- the search at s ends at an entry
-    pub escaped_at : {exit : List ℕ} {answer : Ended} {i : ℕ} → s < m.size → Searched m least first second s now exit answer → answer ≡ At i
-        → Escaped m least first second entry exit (Escape-at s i)
+    pub escaped_at : {exit : List ℕ} {answer : Option ℕ} {i : ℕ} → s < m.size → Searched m least first second s now exit answer → answer ≡ Some i
+        → Escaped m least first second entry exit (Some (record { start = s; entry = i }))
     escaped_at {exit} {i = i} h r e =
-        let d : Searched m least first second s now exit (At i) = subst (Searched m least first second s now exit) e r in
+        let d : Searched m least first second s now exit (Some i) = subst (Searched m least first second s now exit) e r in
         let w = unchanged_both k.kept d.kept in
         record {
           same_length = w.same_length;
@@ -66,10 +64,10 @@ module _ {m : Morphism} (least : ℕ) {first second : ℕ} {entry : List ℕ} (s
         }
 
     -- or it does not
-    pub searched_next : {exit : List ℕ} {answer : Ended} → Searched m least first second s now exit answer → answer ≡ Nothing
+    pub searched_next : {exit : List ℕ} {answer : Option ℕ} → Searched m least first second s now exit answer → answer ≡ None
         → SearchedTo m least first second (s + 1) entry exit
     searched_next {exit} r e =
-        let d : Searched m least first second s now exit Nothing = subst (Searched m least first second s now exit) e r in
+        let d : Searched m least first second s now exit None = subst (Searched m least first second s now exit) e r in
         record {
           kept = unchanged_both k.kept d.kept;
           seen = d.seen;
@@ -82,7 +80,7 @@ module _ {m : Morphism} (least : ℕ) {first second : ℕ} {entry : List ℕ} (s
         go F S t t' u v d (inr l) x = k.none F S t t' u l v x
 
     -- no start value has a cycle that escapes
-    pub escaped_none : m.size ≤ s → Escaped m least first second entry now No-escape
+    pub escaped_none : m.size ≤ s → Escaped m least first second entry now None
     escaped_none h = record {
       same_length = k.kept.same_length;
       says = λ F S t t' u l. k.none F S t t' u (omega arith);
@@ -108,7 +106,7 @@ module _ {m : Morphism} {first second : ℕ} {entry blank : List ℕ} (small : m
       unseen = λ c h. omega (arith, l.kept.before (49152 + c) (omega arith), z.zeros (49152 + c) (omega arith) (omega arith));
     }
 
-    pub escaped_listed : {least : ℕ} {exit : List ℕ} {answer : Escape} → Escaped m least first second mid exit answer → Escaped m least first second entry exit answer
+    pub escaped_listed : {least : ℕ} {exit : List ℕ} {answer : Option Escape} → Escaped m least first second mid exit answer → Escaped m least first second entry exit answer
     escaped_listed r = record {
       same_length = r.same_length ∙ l.kept.same_length ∙ z.outside.same_length;
       says = λ F S t t'. r.says F S (moved first place.first_base t) (moved second place.second_in_base t');

@@ -1,5 +1,5 @@
 -- What the search answers. `first` and `second` are the bytes where the two tables of marks begin. Assumes nothing.
-use Rattle.std.specs.Prelude.{ℕ, ◌≤◌, ◌<◌, ◌≡◌, List, length, get_or}
+use Rattle.std.specs.Prelude.{ℕ, ◌≤◌, ◌<◌, ◌≡◌, List, length, get_or, Option, Some, None}
 use Rattle.theory.specs.Rules.{Morphism, Lawful, Marking, Pairs, level}
 use Rattle.theory.proofs.Escapes.{Escapes}
 use Rattle.scratch.specs.Map.{MarkingAt, search_end, second_base, tables_end}
@@ -7,7 +7,6 @@ use Rattle.scratch.specs.Preimages.{Preimages}
 use Rattle.mark_search_list.specs.Queue.{seen_at}
 use Rattle.mark_search_run.specs.Search.{EndedAt}
 use Rattle.mark_search.specs.declared.Escape.{Escape}
-use Rattle.mark_search.specs.declared.Escape.TheVariants.{At as Escape-at, Nothing as No-escape}
 use Rattle.formats.specs.RuleChecks.{scratch_size}
 
 -- tables of marks and the lists of preimages, and no state found yet
@@ -32,13 +31,13 @@ pub record EscapedAt (m : Morphism) (P P' : Pairs) (s : ℕ) (scratch : List ℕ
   pub ended : EndedAt m P P' s scratch i
 
 -- a start value with a cycle that escapes, and the entry that ends its search; or there is none
-abbrev pub EscapeAnswer : Morphism → Pairs → Pairs → List ℕ → Escape → Type 0
-EscapeAnswer m P P' scratch (Escape-at s i) = EscapedAt m P P' s scratch i
-EscapeAnswer m P P' scratch No-escape = (s : ℕ) → s < m.size → (v : List ℕ) → Escapes m P P' s v → ⊥
+abbrev pub EscapeAnswer : Morphism → Pairs → Pairs → List ℕ → Option Escape → Type 0
+EscapeAnswer m P P' scratch (Some e) = EscapedAt m P P' e.start scratch e.entry
+EscapeAnswer m P P' scratch None = (s : ℕ) → s < m.size → (v : List ℕ) → Escapes m P P' s v → ⊥
 
 -- the answer for any markings that stand in the tables, at the least grade; the tables of marks and the bytes behind the lists of preimages
 -- are as they were
-pub record Escaped (m : Morphism) (least first second : ℕ) (entry exit : List ℕ) (answer : Escape) : Type 0 where
+pub record Escaped (m : Morphism) (least first second : ℕ) (entry exit : List ℕ) (answer : Option Escape) : Type 0 where
   pub same_length : length exit ≡ length entry
   pub says : (F S : Marking) → MarkingAt m.size F entry first → MarkingAt m.size S entry second → EscapeAnswer m (level least F) (level least S) exit answer
   pub marks : (i : ℕ) → i < tables_end → get_or exit i 0 ≡ get_or entry i 0

@@ -12,15 +12,15 @@ ghost use Rattle.formats.specs.Table.{morphism_at};
 ghost use Rattle.mark_search.specs.Search.{AllNeeds, EscapeNeeds, Escaped};
 
 use mark_preimages::list_preimages;
-use mark_search_run::{Ended, search_from};
+use mark_search_run::search_from;
 use scratch::{NEXT_PREIMAGES_BASE, STATES_BASE};
 use sections::zero_part;
 
 // A start value with a cycle that escapes, and the entry that ended its search.
-#[derive(Drop)]
-pub enum Escape {
-    At { start: usize, entry: usize },
-    Nothing,
+#[derive(Clone, Copy)]
+pub struct Escape {
+    pub start: usize,
+    pub entry: usize,
 }
 
 // Searches at one start value after the other.
@@ -32,20 +32,17 @@ fn search_all(
     first: usize,
     second: usize,
     least: u8,
-) -> Escape
+) -> Option<Escape>
     requires table { Table rule.now n k }
     requires all_needs { AllNeeds (morphism_at rule.now n k) first second scratch.old }
     ensures { Escaped (morphism_at rule.now n k) least first second scratch.old scratch.new result }
 {
     for s in 0..n {
-        match search_from(rule, n, k, scratch, first, second, least, s) {
-            Ended::At(entry) => {
-                return Escape::At { start: s, entry };
-            }
-            Ended::Nothing => {}
+        if let Some(entry) = search_from(rule, n, k, scratch, first, second, least, s) {
+            return Some(Escape { start: s, entry });
         }
     }
-    Escape::Nothing
+    None
 }
 
 // Compares the marking whose table begins at `first` with the one whose table begins at `second`, both at a least grade: a start value
@@ -59,7 +56,7 @@ pub fn first_escape(
     first: usize,
     second: usize,
     least: u8,
-) -> Escape
+) -> Option<Escape>
     requires table { Table rule.now n k }
     requires escape_needs { EscapeNeeds (morphism_at rule.now n k) first second scratch.old }
     ensures { Escaped (morphism_at rule.now n k) least first second scratch.old scratch.new result }

@@ -45,6 +45,7 @@ pub fn take_letter(
     let back = back_with(rule, n, k, a, y);
     let mut total = count;
     let mut rest = scratch[FIRST_PREIMAGES_BASE + (a * 65 + x)] as usize;
+    // The values are followed one to another in scratch, so no range or iterator has them.
     while 0 < rest {
         let c = rest - 1;
         total = add(scratch, n, s, total, c, back, from, a);

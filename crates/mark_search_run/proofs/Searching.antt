@@ -15,8 +15,7 @@ use Rattle.mark_search_begin.specs.Steps.{BeginNeeds, Begun}
 use Rattle.mark_search_letters.specs.Steps.{ExpandNeeds, before_letter, Takes}
 use Rattle.mark_search_visit.specs.Visits.{split_marked, Visited}
 use Rattle.mark_search_run.specs.Search.{Source, a_start, a_step, Tried, Searching, SearchNeeds, RunNeeds, Searched}
-use Rattle.mark_search_run.specs.declared.Ended.{Ended}
-use Rattle.mark_search_run.specs.declared.Ended.TheVariants.{At, Nothing}
+use Rattle.std.specs.Prelude.{Option, Some, None}
 use Rattle.scratch.proofs.Markings.{marking_itself, marking_kept}
 use Rattle.scratch.proofs.Unchanged.{unchanged_none, unchanged_both}
 use Rattle.mark_search_list.proofs.Growth.{grown_trans, state_grown, queue_few}
@@ -70,7 +69,7 @@ module _ {m : Morphism} (least : ℕ) {first second s : ℕ} {entry : List ℕ} 
   place_begun b = record { lawful = place.lawful; start_inside = place.start_inside; first_base = place.first_base; second_in_base = place.second_in_base }
 
   -- what the entries after the beginning find holds of the marks before it
-  pub searched_begun : {now exit : List ℕ} {count : ℕ} {answer : Ended} → Begun m.size s P m.size entry now count → Searched m least first second s now exit answer
+  pub searched_begun : {now exit : List ℕ} {count : ℕ} {answer : Option ℕ} → Begun m.size s P m.size entry now count → Searched m least first second s now exit answer
       → Searched m least first second s entry exit answer
   searched_begun {now} b r = record {
     ends = λ F S t t'. r.ends F S (moved first place.first_base t) (moved second place.second_in_base t');
@@ -166,7 +165,7 @@ module _ {m : Morphism} (least : ℕ) {first second s : ℕ} {entry : List ℕ} 
         })
 
     -- the entry at hand has nothing in front
-    pub searched_ended : at < count → get_or now (8192 + at) 0 ≡ m.size → Searched m least first second s entry now (At at)
+    pub searched_ended : at < count → get_or now (8192 + at) 0 ≡ m.size → Searched m least first second s entry now (Some at)
     unfolding front_at
     searched_ended h e = record {
       ends = λ F S t t'. record {
@@ -180,7 +179,7 @@ module _ {m : Morphism} (least : ℕ) {first second s : ℕ} {entry : List ℕ} 
     }
 
     -- every entry was tried
-    pub searched_none : count ≤ at → Searched m least first second s entry now Nothing
+    pub searched_none : count ≤ at → Searched m least first second s entry now None
     searched_none h = record {
       ends = λ F S t t'. no_escape place.lawful least place.start_inside t t' k.starts (λ p l. k.tried p (omega arith));
       kept = k.grown.kept;

@@ -1,5 +1,5 @@
 -- What the search at one start value answers. `first` and `second` are the bytes where the two tables of marks begin. Assumes nothing.
-use Rattle.std.specs.Prelude.{ℕ, ◌+◌, ◌≤◌, ◌<◌, ◌≡◌, List, length, T}
+use Rattle.std.specs.Prelude.{ℕ, ◌+◌, ◌≤◌, ◌<◌, ◌≡◌, List, length, Option, Some, None, T}
 use Rattle.theory.specs.Rules.{Morphism, Lawful, Marking, Pairs, level}
 use Rattle.theory.proofs.Escapes.{Escapes}
 use Rattle.scratch.specs.Map.{MarkingAt, second_base}
@@ -7,8 +7,6 @@ use Rattle.scratch.specs.Preimages.{after_letter, Preimages}
 use Rattle.mark_search_list.specs.Queue.{front_at, back_at, letter_at, parent_at, seen_at, Queue, HasState, Kept, Grown}
 use Rattle.mark_search_letters.specs.Steps.{before_letter, Takes}
 use Rattle.mark_search_visit.specs.Visits.{split_marked}
-use Rattle.mark_search_run.specs.declared.Ended.{Ended}
-use Rattle.mark_search_run.specs.declared.Ended.TheVariants.{At, Nothing}
 use Rattle.formats.specs.RuleChecks.{scratch_size}
 
 -- where an entry comes from: it is a cycle value that P pairs with s, or it is found from an earlier entry whose split P' has not
@@ -65,12 +63,12 @@ pub record RunNeeds (m : Morphism) (first second s : ℕ) : Type 0 where
   pub second_in_base : second ≤ second_base
 
 -- a cycle that escapes ends the search at an entry; where none does, nothing ends it
-abbrev pub Ends : Morphism → Pairs → Pairs → ℕ → List ℕ → Ended → Type 0
-Ends m P P' s scratch (At i) = EndedAt m P P' s scratch i
-Ends m P P' s scratch Nothing = (v : List ℕ) → Escapes m P P' s v → ⊥
+abbrev pub Ends : Morphism → Pairs → Pairs → ℕ → List ℕ → Option ℕ → Type 0
+Ends m P P' s scratch (Some i) = EndedAt m P P' s scratch i
+Ends m P P' s scratch None = (v : List ℕ) → Escapes m P P' s v → ⊥
 
 -- for any markings that stand in the tables, at the least grade
-pub record Searched (m : Morphism) (least first second s : ℕ) (entry exit : List ℕ) (answer : Ended) : Type 0 where
+pub record Searched (m : Morphism) (least first second s : ℕ) (entry exit : List ℕ) (answer : Option ℕ) : Type 0 where
   pub ends : (F S : Marking) → MarkingAt m.size F entry first → MarkingAt m.size S entry second → Ends m (level least F) (level least S) s exit answer
   pub kept : Kept entry exit
   pub seen : (c : ℕ) → c < 4225 → seen_at exit c ≤ s + 1

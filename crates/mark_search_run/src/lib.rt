@@ -12,14 +12,7 @@ use mark_search_begin::begin;
 use mark_search_visit::visit;
 use scratch::FRONTS_BASE;
 
-// The entry that ends a search.
-#[derive(Drop)]
-pub enum Ended {
-    At(usize),
-    Nothing,
-}
-
-// Goes through the entries from the first on, and those that are added.
+// Goes through the entries from the first on, and those that are added: the entry that ends the search.
 fn run(
     rule: &[u8],
     n: usize,
@@ -30,7 +23,7 @@ fn run(
     least: u8,
     s: usize,
     begun: usize,
-) -> Ended
+) -> Option<usize>
     requires table { Table rule.now n k }
     requires run_needs { RunNeeds (morphism_at rule.now n k) first second s }
     requires searching { Searching (morphism_at rule.now n k) (level least (marks_from scratch.old first)) (level least (marks_from scratch.old second)) s scratch.old scratch.old begun 0 }
@@ -38,18 +31,19 @@ fn run(
 {
     let mut count = begun;
     let mut at = 0;
+    // No range, for `visit` adds entries while they are gone through.
     while at < count {
         let x = scratch[FRONTS_BASE + at] as usize;
         if x == n {
-            return Ended::At(at);
+            return Some(at);
         }
         count = visit(rule, n, k, scratch, second, least, s, count, at);
         at += 1;
     }
-    Ended::Nothing
+    None
 }
 
-// Searches for a cycle that escapes at the start value s.
+// Searches for a cycle that escapes at the start value s: the entry that ends the search.
 pub fn search_from(
     rule: &[u8],
     n: usize,
@@ -59,7 +53,7 @@ pub fn search_from(
     second: usize,
     least: u8,
     s: usize,
-) -> Ended
+) -> Option<usize>
     requires table { Table rule.now n k }
     requires search_needs { SearchNeeds (morphism_at rule.now n k) first second s scratch.old }
     ensures { Searched (morphism_at rule.now n k) least first second s scratch.old scratch.new result }

@@ -1,12 +1,12 @@
 -- The entries of a worklist that a search of words left: which entry and which letter an entry was found by, how its word is
--- made of theirs, and how far a walk from entry to entry has come that counts the letters. Assumes nothing.
+-- made of theirs. Assumes nothing.
 use Prim.Native.Nat.{ℕ, zero, suc, ◌+◌, ◌-◌, ◌≤◌, ◌<◌}
-use mathlib.Core.Path.{◌≡◌, ap}
+use mathlib.Core.Path.{◌≡◌}
 use mathlib.Core.List.{List, []}
 use native.Mathlib.Omega.{arith}
 use native.Mathlib.Numerals.{sub-one}
 use lib.ListN.{length, get_or}
-use Rattle.finite.proofs.Shortlex.{snoc, length_snoc}
+use Rattle.finite.proofs.Shortlex.{snoc}
 use Rattle.finite.proofs.FirstWords.{word_zero, word_step_lem, word_short}
 use Rattle.rule_reach.specs.Reach.{parent_at, letter_at, place_at, WordOrder}
 use Rattle.rule_reach.proofs.Words.{word_at}
@@ -45,34 +45,6 @@ module _ {queue : List ℕ} {at : ℕ} (p : EntryNeeds queue at) where
             parent_place = record { size = p.size; words = p.words; within = omega arith };
             spelled = word_step_lem p.words.order.order (suc i) h (omega arith);
           })
-
--- so many letters lead from entry `place` to entry `at`
-pub record LettersCounted (queue : List ℕ) (at place letters : ℕ) : Type 0 where
-  pub here : EntryNeeds queue place
-  pub counts : letters + length (word_at queue place) ≡ length (word_at queue at)
-
-module _ {queue : List ℕ} {at : ℕ} where
-  -- no letter was passed
-  pub counted_none : EntryNeeds queue at → LettersCounted queue at at 0
-  counted_none p = record { here = p; counts = omega arith }
-
-  -- one letter more
-  pub counted_more : {place letters : ℕ} → LettersCounted queue at place letters → 0 < place
-      → LettersCounted queue at (get_or queue (64 + (place - 1)) 0) (letters + 1)
-  counted_more {place} {letters} c h =
-      let s = entry_step c.here h in
-      record {
-        here = s.parent_place;
-        counts = omega (arith, c.counts, ap length s.spelled, length_snoc (word_at queue (get_or queue (64 + (place - 1)) 0)) (get_or queue (128 + (place - 1)) 0));
-      }
-
-  -- the letters fit a machine word
-  pub counted_small : {place letters : ℕ} → EntryNeeds queue at → LettersCounted queue at place letters → letters ≤ 64
-  counted_small p c = omega (arith, c.counts, entry_short p, entry_small p)
-
-  -- all letters were passed
-  pub counted_all : {place letters : ℕ} → LettersCounted queue at place letters → place ≤ 0 → letters ≡ length (word_at queue at)
-  counted_all {place} c h = omega (arith, c.counts, ap length (entry_first c.here (let e : place ≡ 0 = omega arith in e)))
 
 module _ {queue : List ℕ} {n s : ℕ} {out : List ℕ} (p : SpellNeeds queue n s out) where
   -- the entry of an element that was found

@@ -14,7 +14,7 @@ use Rattle.formats.specs.Table.{morphism_at}
 use Rattle.formats.specs.RuleFile.{elements_of, morphism_of, marking_of}
 use Rattle.rule_layout.specs.declared.Shape.{Shape}
 use Rattle.rule_layout.specs.Answers.{IsShape}
-use Rattle.rule_check.specs.declared.Checked.TheVariants.{Rule}
+use Rattle.std.specs.Prelude.{Ok}
 use Rattle.rule_check.specs.Answers.{CheckPromise}
 use Rattle.formats.specs.Calls.{after_call}
 use Rattle.formats.proofs.GoodRule.{graded_marks, GoodRule, scratch_long, called_good}
@@ -45,7 +45,7 @@ module _ {bytes : List ℕ} {shape : Shape} (good : GoodRule bytes) (is : IsShap
     room = room;
   }
 
-module _ (input : ℕ) (bytes entry : List ℕ) {shape : Shape} {mid : List ℕ} (p : CheckPromise input bytes entry mid (Rule shape)) where
+module _ (input : ℕ) (bytes entry : List ℕ) {shape : Shape} {mid : List ℕ} (p : CheckPromise input bytes entry mid (Ok shape)) where
   good : GoodRule bytes
   good = called_good input bytes entry p.refusal
 

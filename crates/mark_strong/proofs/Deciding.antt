@@ -1,7 +1,7 @@
 -- What the closure and the search say of strength. Assumes nothing.
 use Prim.Native.Nat.{ℕ, ◌≤◌, ◌<◌}
-use mathlib.Core.Path.{◌≡◌, sym, ap, ◌∙◌, subst}
-use mathlib.Core.Bool.{Bool, true, false}
+use mathlib.Core.Path.{◌≡◌, refl, sym, ap, ◌∙◌, subst}
+use mathlib.Core.Bool.{Bool, true}
 use mathlib.Core.List.{List}
 use native.Mathlib.Omega.{arith}
 use lib.ListN.{length}
@@ -22,7 +22,8 @@ use Rattle.mark_closure.proofs.Agreement.{graded_agrees, marking_strong_agrees, 
 use Rattle.mark_search.specs.Search.{EscapeNeeds, EscapedAt}
 use Rattle.mark_grade_search.specs.GradeSearch.{GradeEscapedAt, GradeEscapeAnswer, GradeEscaped}
 use Rattle.mark_grade_search.specs.declared.GradeEscape.{GradeEscape}
-use Rattle.mark_grade_search.specs.declared.GradeEscape.TheVariants.{At, Nothing}
+use Rattle.std.specs.Prelude.{Option, Some, None, is_some, not}
+use borrow.Author.Tests.{not-true, not-false}
 use Rattle.scratch.proofs.Markings.{marking_itself, level_at, marking_kept}
 use Rattle.mark_cycles.proofs.Spelled.{ended_escapes}
 use Rattle.mark_strong.specs.Deciding.{DecideNeeds, StrongIf, Decided}
@@ -64,7 +65,7 @@ module _ {m : Morphism} {entry blank : List ℕ} (small : m.size ≤ 64) (place 
       room = omega (arith, place.room, a.laid.same_length, z.outside.same_length);
     }
 
-    module _ {exit : List ℕ} {answer : GradeEscape} (r : GradeEscaped m second_base 0 mid exit answer) where
+    module _ {exit : List ℕ} {answer : Option GradeEscape} (r : GradeEscaped m second_base 0 mid exit answer) where
       after_search : {b : Bool} → ((marks : Marking) → GradedMarks m marks → MarkingAt m.size marks entry 0 → StrongIf m marks b) → Decided m entry exit b
       after_search v = record {
         same_length = r.same_length ∙ a.laid.same_length ∙ z.outside.same_length;
@@ -75,13 +76,13 @@ module _ {m : Morphism} {entry blank : List ℕ} (small : m.size ≤ 64) (place 
       }
 
       module _ (marks : Marking) (k : GradedMarks m marks) (t : MarkingAt m.size marks entry 0) where
-        said : {answered : GradeEscape} → answer ≡ answered → GradeEscapeAnswer m (closure_grade m marks) marks exit answered
+        said : {answered : Option GradeEscape} → answer ≡ answered → GradeEscapeAnswer m (closure_grade m marks) marks exit answered
         said e =
             subst (GradeEscapeAnswer m (closure_grade m marks) marks exit) e
             (r.says (closure_grade m marks) marks (second_stands marks k t) (marking_kept 0 small (λ i g h. a.laid.before i h) (stands_blank marks t)))
 
         -- no cycle of the closure escapes, at any grade
-        no_escape_strong : answer ≡ Nothing → StrongMarking m marks
+        no_escape_strong : answer ≡ None → StrongMarking m marks
         no_escape_strong e = levels_strong place.lawful k within
           where
             within : (g : ℕ) → 1 ≤ g → g ≤ 3 → Strong m (level g marks)
@@ -93,8 +94,11 @@ module _ {m : Morphism} {entry blank : List ℕ} (small : m.size ≤ 64) (place 
                 (said e (λ s f hs hf. closure_grade_small m marks s f) g some)))
 
         -- one does
-        escape_weak : {g s i : ℕ} → answer ≡ At g s i → StrongMarking m marks → ⊥
-        escape_weak {g} {s} {i} e strong =
+        escape_weak : {found : GradeEscape} → answer ≡ Some found → StrongMarking m marks → ⊥
+        escape_weak {found} e strong =
+            let g = found.grade in
+            let s = found.escape.start in
+            let i = found.escape.entry in
             let d : GradeEscapedAt m (closure_grade m marks) marks exit g s i = said e in
             let x : EscapedAt m (closure_test m (level g marks)) (level g marks) s exit i =
             subst (λ (P : Pairs). EscapedAt m P (level g marks) s exit i) (closure_levels place.lawful k g d.some d.small) d.escaped in
@@ -103,11 +107,12 @@ module _ {m : Morphism} {entry blank : List ℕ} (small : m.size ≤ 64) (place 
             (ended_escapes place.lawful x.ended) in
             w.refused_second ((strong_included place.lawful l place.reached (strong.at_each g d.some)).accepted_too _ _ w.lasso w.accepted_first)
 
-      pub decided_strong : answer ≡ Nothing → Decided m entry exit true
-      decided_strong e = after_search (λ marks k t. no_escape_strong marks k t e)
-
-      pub decided_weak : {g s i : ℕ} → answer ≡ At g s i → Decided m entry exit false
-      decided_weak e = after_search (λ marks k t. escape_weak marks k t e)
+      pub decided_searched : {b : Bool} → is_some answer ≡ not b → Decided m entry exit b
+      decided_searched {b} q = after_search (λ marks k t. go marks k t answer refl)
+        where
+          go : (marks : Marking) → GradedMarks m marks → MarkingAt m.size marks entry 0 → (a : Option GradeEscape) → answer ≡ a → StrongIf m marks b
+          go marks k t None e = subst (StrongIf m marks) (sym (not-false b (sym q ∙ ap is_some e))) (no_escape_strong marks k t e)
+          go marks k t (Some found) e = subst (StrongIf m marks) (sym (not-true b (sym q ∙ ap is_some e))) (escape_weak marks k t e)
 
 -- marks that stand in another table too can be decided there
 pub needs_moved : {m : Morphism} {base to : ℕ} {entry now : List ℕ} → DecideNeeds m base entry → length now ≡ length entry

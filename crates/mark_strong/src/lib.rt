@@ -7,7 +7,7 @@ ghost use Rattle.formats.specs.Table.{morphism_at};
 ghost use Rattle.mark_strong.specs.Deciding.{DecideNeeds, Decided};
 
 use mark_closure::close;
-use mark_grade_search::{GradeEscape, highest_escape};
+use mark_grade_search::highest_escape;
 use scratch::{SECOND_BASE, TABLES_END};
 use sections::zero_part;
 
@@ -22,12 +22,5 @@ pub fn decide(rule: &[u8], n: usize, k: usize, scratch: &mut [u8]) -> bool
     if closed {
         return true;
     }
-    match highest_escape(rule, n, k, scratch, SECOND_BASE, 0) {
-        GradeEscape::At {
-            grade: _,
-            start: _,
-            entry: _,
-        } => false,
-        GradeEscape::Nothing => true,
-    }
+    highest_escape(rule, n, k, scratch, SECOND_BASE, 0).is_none()
 }

@@ -1,4 +1,8 @@
 -- What each way through the call for membership promises. Assumes nothing.
+use Rattle.std.specs.Prelude.{Result}
+use Rattle.answer.specs.declared.Refused.{Refused}
+use Rattle.std.specs.Prelude.{Ok, Err}
+use Rattle.answer.proofs.Parts.{refused_by}
 use Prim.Native.Nat.{ℕ, ◌≤◌, ◌<◌}
 use mathlib.Core.Path.{◌≡◌, refl, sym, ◌∙◌, subst}
 use mathlib.Core.List.{List, [], ◌∷◌}
@@ -21,13 +25,10 @@ use Rattle.formats.specs.Table.{morphism_at}
 use Rattle.formats.specs.RuleFile.{letters_of, marking_of}
 use Rattle.formats.specs.RuleChecks.{scratch_size}
 use Rattle.rule_layout.specs.declared.Shape.{Shape}
-use Rattle.rule_check.specs.declared.Checked.TheVariants.{Rule, Refused as Checked-refused}
 use Rattle.rule_check.specs.Answers.{CheckPromise}
 use Rattle.formats.specs.Calls.{after_call}
 use Rattle.formats.proofs.GoodRule.{graded_marks, GoodRule, scratch_long, called_good}
 use Rattle.rule_check.proofs.Calls.{zeros_left, checked_length, shape_morphism, shape_table}
-use Rattle.lasso_words.specs.declared.LassoFault.{LassoFault}
-use Rattle.lasso_words.specs.declared.LassoFault.TheVariants.{Nothing, Refused as Lasso-refused}
 use Rattle.formats.specs.WordChecks.{shortest_start, shortest_cycle, lasso_checks}
 use Rattle.lasso_words.specs.Answers.{GoodWord, GoodLasso, LassoAnswer}
 use Rattle.lasso_cuts.specs.WordValues.{CallWord}
@@ -35,15 +36,15 @@ use Rattle.scratch.specs.Map.{marks_from, MarkingAt}
 use Rattle.scratch.proofs.Markings.{front_mark}
 use Rattle.lasso_powers.specs.Raising.{Raised}
 use Rattle.lasso_cuts.proofs.Accepted.{graded_told}
-use Rattle.promises.specs.declared.LassoVerdict.TheVariants.{Decided, Refused}
+use Rattle.promises.specs.declared.LassoVerdict.TheVariants.{Decided, Refused as Not-decided}
 use Rattle.promises.specs.Member.{MemberPromise}
 
 -- the words' answer, known by its case
-module _ (k : ℕ) (u v : List ℕ) (answer : LassoFault) (known : LassoAnswer k u v answer) where
-  pub words_good : answer ≡ Nothing → GoodLasso k u v
+module _ (k : ℕ) (u v : List ℕ) (answer : Result (Unit {0}) Refused) (known : LassoAnswer k u v answer) where
+  pub words_good : answer ≡ (Ok tt) → GoodLasso k u v
   words_good e = subst (LassoAnswer k u v) e known
 
-  pub words_refused : {r : Refusal} {i place : ℕ} → answer ≡ Lasso-refused r i place → FirstFailure (lasso_checks k u v) (refused r i place)
+  pub words_refused : {r : Refusal} {i place : ℕ} → answer ≡ Err (refused_by r i place) → FirstFailure (lasso_checks k u v) (refused r i place)
   words_refused e = subst (LassoAnswer k u v) e known
 
 cycle_call : {k : ℕ} {w : List ℕ} → GoodWord shortest_cycle k w → CallWord k w
@@ -71,10 +72,10 @@ start_itself {k} u v h w = subst (CallWord k) (sym (start_of_some u v h)) w
 
 module _ (bytes u v entry : List ℕ) where
   -- the rule is refused
-  pub rule_refused : {exit : List ℕ} {r : Refusal} {i place : ℕ} → CheckPromise 1 bytes entry exit (Checked-refused r i place) → MemberPromise bytes u v entry exit (Refused r i place)
+  pub rule_refused : {exit : List ℕ} {r : Refusal} {i place : ℕ} → CheckPromise 1 bytes entry exit (Err (refused_by r i place)) → MemberPromise bytes u v entry exit (Not-decided r i place)
   rule_refused p = record { refusal = refused_before _ _ p.refusal; answered = tt; scratch = p.scratch }
 
-  module _ {shape : Shape} {mid : List ℕ} (p : CheckPromise 1 bytes entry mid (Rule shape)) where
+  module _ {shape : Shape} {mid : List ℕ} (p : CheckPromise 1 bytes entry mid (Ok shape)) where
     good : GoodRule bytes
     good = called_good 1 bytes entry p.refusal
 
@@ -103,7 +104,7 @@ module _ (bytes u v entry : List ℕ) where
 
     -- a word is refused
     pub word_refused : (exit : List ℕ) {r : Refusal} {i place : ℕ} → FirstFailure (lasso_checks shape.letters u v) (refused r i place) → exit ≡ replicate (length mid) 0
-        → MemberPromise bytes u v entry exit (Refused r i place)
+        → MemberPromise bytes u v entry exit (Not-decided r i place)
     word_refused exit {r} {i} {place} f z = record {
       refusal = passed_before _ _ p.refusal (subst (λ (k : ℕ). FirstFailure (lasso_checks k u v) (refused r i place)) p.scratch.shape_is.letters f);
       answered = tt;

@@ -14,10 +14,11 @@ ghost use Rattle.lasso_powers.specs.Raising.{Raised};
 ghost use Rattle.scratch.specs.Map.{marks_from};
 ghost use Rattle.promises.specs.Member.{MemberPromise};
 
+use answer::Refused;
 use lasso_cuts::{Graded, grade_of};
-use lasso_words::{LassoFault, lasso_fault};
+use lasso_words::lasso_fault;
 use promises::LassoVerdict;
-use rule_check::{Checked, check};
+use rule_check::check;
 use rule_table::idempotent_power;
 use sections::zero;
 
@@ -41,12 +42,12 @@ pub fn member(rule: &[u8], u: &[u8], v: &[u8], scratch: &mut [u8]) -> LassoVerdi
     ensures { MemberPromise rule.now u.now v.now scratch.old scratch.new result }
 {
     let shape = match check(rule, 1, scratch) {
-        Checked::Rule(shape) => shape,
-        Checked::Refused {
+        Ok(shape) => shape,
+        Err(Refused {
             refusal,
             input,
             place,
-        } => {
+        }) => {
             return LassoVerdict::Refused {
                 refusal,
                 input,
@@ -57,12 +58,12 @@ pub fn member(rule: &[u8], u: &[u8], v: &[u8], scratch: &mut [u8]) -> LassoVerdi
     let n = shape.elements;
     let k = shape.letters;
     match lasso_fault(u, v, k) {
-        LassoFault::Nothing => {}
-        LassoFault::Refused {
+        Ok(()) => {}
+        Err(Refused {
             refusal,
             input,
             place,
-        } => {
+        }) => {
             zero(scratch);
             return LassoVerdict::Refused {
                 refusal,

@@ -1,8 +1,8 @@
 -- The checks of the calls on named points that follow the rule's own, and what the functions that try them answer. Assumes nothing.
+use Rattle.std.specs.Prelude.{Result, Ok, Err}
+use Rattle.answer.specs.declared.Fault.{Fault}
 use Rattle.std.specs.Prelude.{ℕ, ◌<◌, Bool, true, false, ◌⊎◌, List, [], ◌∷◌}
 use Rattle.answer.specs.Checks.{Check, passed, refused, FirstFailure}
-use Rattle.rule_marks.specs.declared.Fault.{Fault}
-use Rattle.rule_marks.specs.declared.Fault.TheVariants.{Nothing, Refused}
 use Rattle.promises.specs.declared.Monitor.{Monitor}
 use Rattle.promises.specs.Monitor.{ValueOutOfRange}
 use Rattle.promises.specs.Points.{NeverKept, point_at, name_check, never_kept_check, point_values_check, PointOutOfRange}
@@ -37,9 +37,9 @@ ValuesAnswer n f points true = AnyOutOfRange n f points
 ValuesAnswer n f points false = AnyOutOfRange n f points → ⊥
 
 -- the checks pass, or the first that fails, of input 1
-abbrev pub PointFault : List Check → Fault → Type 0
-PointFault checks Nothing = FirstFailure checks passed
-PointFault checks (Refused refusal place) = FirstFailure checks (refused refusal 1 place)
+abbrev pub PointFault : List Check → Result (Unit {0}) Fault → Type 0
+PointFault checks (Ok done) = FirstFailure checks passed
+PointFault checks (Err fault) = FirstFailure checks (refused fault.refusal 1 fault.place)
 
 -- none of the names tried so far
 pub record NoneBelow (n : ℕ) (points : List ℕ) (names : ℕ) : Type 0 where

@@ -6,10 +6,9 @@ ghost use Rattle.std.specs.Prelude.{◌≤◌, ◌<◌, length};
 ghost use Rattle.promises.specs.Points.{names_count, points_size};
 ghost use Rattle.monitor_point_checks.specs.PointChecks.{keep_faults, return_faults, NameAnswer, PointsAnswer, ValuesAnswer, PointFault};
 
-use answer::Refusal;
+use answer::{Fault, Refusal};
 use monitor_state::out_of_range;
 use promises::{Monitor, NAMES_COUNT};
-use rule_marks::Fault;
 
 // Whether a name was kept with a value that is neither an element nor 64.
 fn name_out_of_range(n: usize, points: &[u8], name: usize) -> bool
@@ -49,47 +48,47 @@ fn values_out_of_range(n: usize, m: Monitor, points: &[u8]) -> bool
 }
 
 // What a keep is refused for, once the rule has passed.
-pub fn keep_fault(n: usize, m: Monitor, name: usize, points: &[u8]) -> Fault
+pub fn keep_fault(n: usize, m: Monitor, name: usize, points: &[u8]) -> Result<(), Fault>
     requires { points_size ≤ length points.now }
     ensures { PointFault (keep_faults n m name points.now) result }
 {
     if NAMES_COUNT <= name {
-        return Fault::Refused {
+        return Err(Fault {
             refusal: Refusal::NameOutOfRange,
             place: 0,
-        };
+        });
     }
     if values_out_of_range(n, m, points) {
-        return Fault::Refused {
+        return Err(Fault {
             refusal: Refusal::EntryOutOfRange,
             place: 0,
-        };
+        });
     }
-    Fault::Nothing
+    Ok(())
 }
 
 // What a return is refused for, once the rule has passed.
-pub fn return_fault(n: usize, m: Monitor, name: usize, points: &[u8]) -> Fault
+pub fn return_fault(n: usize, m: Monitor, name: usize, points: &[u8]) -> Result<(), Fault>
     requires { points_size ≤ length points.now }
     ensures { PointFault (return_faults n m name points.now) result }
 {
     if NAMES_COUNT <= name {
-        return Fault::Refused {
+        return Err(Fault {
             refusal: Refusal::NameOutOfRange,
             place: 0,
-        };
+        });
     }
     if points[3 * name] == 0 {
-        return Fault::Refused {
+        return Err(Fault {
             refusal: Refusal::NameNeverKept,
             place: 0,
-        };
+        });
     }
     if values_out_of_range(n, m, points) {
-        return Fault::Refused {
+        return Err(Fault {
             refusal: Refusal::EntryOutOfRange,
             place: 0,
-        };
+        });
     }
-    Fault::Nothing
+    Ok(())
 }

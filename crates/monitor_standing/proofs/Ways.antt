@@ -1,4 +1,8 @@
 -- What each way through the checks of a strong rule and its monitor shows. Assumes nothing.
+use Rattle.std.specs.Prelude.{Result}
+use Rattle.answer.specs.declared.Refused.{Refused}
+use Rattle.std.specs.Prelude.{Ok, Err}
+use Rattle.answer.proofs.Parts.{refused_by}
 use Prim.Native.Nat.{ℕ}
 use mathlib.Core.Path.{◌≡◌, refl, sym, subst}
 use mathlib.Core.Bool.{Bool, true, false}
@@ -11,7 +15,6 @@ use Rattle.theory.specs.Grades.{LassosGraded}
 use Rattle.formats.specs.Table.{morphism_at}
 use Rattle.formats.specs.RuleFile.{morphism_of, marking_of}
 use Rattle.rule_layout.specs.declared.Shape.{Shape}
-use Rattle.rule_check.specs.declared.Checked.TheVariants.{Rule, Refused as Checked-refused}
 use Rattle.rule_check.specs.Answers.{CheckPromise}
 use Rattle.rule_check.proofs.Calls.{zeros_left, checked_length, shape_morphism}
 use Rattle.mark_strong.specs.Deciding.{StrongIf, Decided}
@@ -25,20 +28,18 @@ use Rattle.monitor_state.specs.Ready.{GoodMonitor, StrayAnswer}
 use Rattle.monitor_state.proofs.Numbers.{good_monitor}
 use Rattle.monitor_judging.proofs.Judging.{look_graded}
 use Rattle.verdict_call.proofs.Values.{start_graded, values_judgeable}
-use Rattle.monitor_standing.specs.declared.Standing.{Standing}
-use Rattle.monitor_standing.specs.declared.Standing.TheVariants.{Rule as Standing-rule, Refused as Not-standing}
 use Rattle.monitor_standing.specs.Standing.{GradeRead, Stands, StandingAnswer}
 
 module _ (input : ℕ) (bytes : List ℕ) (f : Monitor) (entry : List ℕ) where
   -- the rule is refused
-  pub rule_refused : {exit : List ℕ} {r : Refusal} {i place : ℕ} → CheckPromise input bytes entry exit (Checked-refused r i place)
-      → StandingAnswer input bytes f entry exit (Not-standing r i place)
+  pub rule_refused : {exit : List ℕ} {r : Refusal} {i place : ℕ} → CheckPromise input bytes entry exit (Err (refused_by r i place))
+      → StandingAnswer input bytes f entry exit (Err (refused_by r i place))
   rule_refused {r = r} {i = i} {place = place} p = (file_first input bytes f entry r i place p.refusal, p.scratch)
 
-  module _ {shape : Shape} {mid : List ℕ} (p : CheckPromise input bytes entry mid (Rule shape)) where
+  module _ {shape : Shape} {mid : List ℕ} (p : CheckPromise input bytes entry mid (Ok shape)) where
     -- a value of the monitor is stray
     pub monitor_stray : {exit : List ℕ} → StrayAnswer shape.elements f true → exit ≡ replicate (length mid) 0
-        → StandingAnswer input bytes f entry exit (Not-standing EntryOutOfRange input 0)
+        → StandingAnswer input bytes f entry exit (Err (refused_by EntryOutOfRange input 0))
     monitor_stray {exit} s z = (
       values_next input bytes f entry p.refusal (subst (λ (n : ℕ). StrayAnswer n f true) p.scratch.shape_is.elements s),
       zeros_left input bytes entry p.refusal mid exit (checked_length p.scratch) z,
@@ -52,7 +53,7 @@ module _ (input : ℕ) (bytes : List ℕ) (f : Monitor) (entry : List ℕ) where
       said_strength e = subst (StrongIf (morphism_of bytes) (marking_of bytes)) e (decided_file input bytes entry p d)
 
       -- the rule is weak
-      pub rule_weak : {exit : List ℕ} → strong ≡ false → exit ≡ replicate (length after) 0 → StandingAnswer input bytes f entry exit (Not-standing NotStrong input 0)
+      pub rule_weak : {exit : List ℕ} → strong ≡ false → exit ≡ replicate (length after) 0 → StandingAnswer input bytes f entry exit (Err (refused_by NotStrong input 0))
       rule_weak {exit} e z = (weak_next input bytes f entry p.refusal fits (said_strength e), decided_left input bytes entry p d after exit refl z)
 
       -- what is read in the closure is the grade of the file's lassos
@@ -69,7 +70,7 @@ module _ (input : ℕ) (bytes : List ℕ) (f : Monitor) (entry : List ℕ) where
       }
 
       -- nothing is refused
-      pub rule_stands : strong ≡ true → StandingAnswer input bytes f entry after (Standing-rule shape)
+      pub rule_stands : strong ≡ true → StandingAnswer input bytes f entry after (Ok shape)
       rule_stands e = record {
         passes = strong_passes input bytes f entry p.refusal fits (said_strength e);
         shape_is = p.scratch.shape_is;
@@ -82,9 +83,9 @@ module _ (input : ℕ) (bytes : List ℕ) (f : Monitor) (entry : List ℕ) where
       }
 
 -- the answer, known by its case
-module _ (input : ℕ) (bytes : List ℕ) (f : Monitor) (entry exit : List ℕ) (answer : Standing) (known : StandingAnswer input bytes f entry exit answer) where
-  pub said_stands : {shape : Shape} → answer ≡ Standing-rule shape → Stands input bytes f entry exit shape
+module _ (input : ℕ) (bytes : List ℕ) (f : Monitor) (entry exit : List ℕ) (answer : Result Shape Refused) (known : StandingAnswer input bytes f entry exit answer) where
+  pub said_stands : {shape : Shape} → answer ≡ Ok shape → Stands input bytes f entry exit shape
   said_stands e = subst (StandingAnswer input bytes f entry exit) e known
 
-  pub said_refused : {r : Refusal} {i place : ℕ} → answer ≡ Not-standing r i place → StandingAnswer input bytes f entry exit (Not-standing r i place)
+  pub said_refused : {r : Refusal} {i place : ℕ} → answer ≡ Err (refused_by r i place) → StandingAnswer input bytes f entry exit (Err (refused_by r i place))
   said_refused e = subst (StandingAnswer input bytes f entry exit) e known

@@ -1,5 +1,6 @@
 -- A strong rule and a monitor of it that passed their checks, with the closure of the marks in scratch; and what is read there of a monitor. Assumes nothing.
-use Rattle.std.specs.Prelude.{ℕ, ◌≤◌, ◌≡◌, List, length, replicate}
+use Rattle.std.specs.Prelude.{ℕ, ◌≤◌, ◌≡◌, List, length, replicate, Result, Ok, Err}
+use Rattle.answer.specs.declared.Refused.{Refused}
 use Rattle.answer.specs.Checks.{passed, refused, FirstFailure}
 use Rattle.theory.specs.Rules.{Morphism, Lawful}
 use Rattle.theory.specs.Pairs.{LeastExponent}
@@ -16,8 +17,6 @@ use Rattle.promises.specs.Monitor.{no_value}
 use Rattle.promises.specs.Advance.{no_grade, MonitorGrade, strong_monitor_checks}
 use Rattle.monitor_state.specs.Ready.{GoodMonitor}
 use Rattle.verdict_call.specs.Judging.{start_element}
-use Rattle.monitor_standing.specs.declared.Standing.{Standing}
-use Rattle.monitor_standing.specs.declared.Standing.TheVariants.{Rule, Refused}
 
 -- none, or the closure's mark of the pair that the values settle to; where before is none, since stands for it
 pub record GradeRead (m : Morphism) (scratch : List ℕ) (f : Monitor) (grade : ℕ) : Type 0 where
@@ -40,6 +39,6 @@ pub record Stands (input : ℕ) (bytes : List ℕ) (f : Monitor) (entry exit : L
   pub zeros : (after : List ℕ) → after ≡ replicate (length exit) 0 → after ≡ after_call entry
   pub grades : (g : Monitor) (grade : ℕ) → GoodMonitor shape.elements g → GradeRead (morphism_at bytes shape.elements shape.letters) exit g grade → MonitorGrade bytes g grade
 
-abbrev pub StandingAnswer : ℕ → List ℕ → Monitor → List ℕ → List ℕ → Standing → Type 0
-StandingAnswer input bytes f entry exit (Rule shape) = Stands input bytes f entry exit shape
-StandingAnswer input bytes f entry exit (Refused refusal i place) = FirstFailure (strong_monitor_checks input bytes f entry) (refused refusal i place) × (exit ≡ after_call entry)
+abbrev pub StandingAnswer : ℕ → List ℕ → Monitor → List ℕ → List ℕ → Result Shape Refused → Type 0
+StandingAnswer input bytes f entry exit (Ok shape) = Stands input bytes f entry exit shape
+StandingAnswer input bytes f entry exit (Err refusal) = FirstFailure (strong_monitor_checks input bytes f entry) (refused refusal.refusal refusal.input refusal.place) × (exit ≡ after_call entry)

@@ -10,66 +10,44 @@ ghost use Rattle.formats.specs.RuleChecks.{scratch_size};
 ghost use Rattle.monitor_state.specs.Ready.{GoodMonitor};
 ghost use Rattle.monitor_standing.specs.Standing.{GradeRead, TurnsRead, StandingAnswer};
 
-use answer::Refusal;
+use answer::{Refusal, Refused};
 use mark_strong::decide;
 use monitor_judging::{Looked, values_grade};
 use monitor_state::out_of_range;
 use promises::Monitor;
-use rule_check::{Checked, check};
+use rule_check::check;
 use rule_layout::Shape;
 use sections::zero;
 use verdict_call::start_element;
 
-// The counts of a rule that passed, or the refusal.
-#[derive(Drop)]
-pub enum Standing {
-    Rule(Shape),
-    Refused {
-        refusal: Refusal,
-        input: usize,
-        place: usize,
-    },
-}
-
 // Checks a rule, which is the input of the given number, a monitor's values and the rule's strength. Where it is refused scratch ends as zeros, but where it is too
 // short.
-pub fn check_standing(rule: &[u8], input: usize, monitor: Monitor, scratch: &mut [u8]) -> Standing
+pub fn check_standing(
+    rule: &[u8],
+    input: usize,
+    monitor: Monitor,
+    scratch: &mut [u8],
+) -> Result<Shape, Refused>
     ensures { StandingAnswer input rule.now monitor scratch.old scratch.new result }
 {
-    let shape = match check(rule, input, scratch) {
-        Checked::Rule(shape) => shape,
-        Checked::Refused {
-            refusal,
-            input,
-            place,
-        } => {
-            return Standing::Refused {
-                refusal,
-                input,
-                place,
-            };
-        }
-    };
-    let n = shape.elements;
-    let k = shape.letters;
-    if out_of_range(n, monitor) {
+    let shape = check(rule, input, scratch)?;
+    if out_of_range(shape.elements, monitor) {
         zero(scratch);
-        return Standing::Refused {
+        return Err(Refused {
             refusal: Refusal::EntryOutOfRange,
             input,
             place: 0,
-        };
+        });
     }
-    let strong = decide(rule, n, k, scratch);
-    if !strong {
+    if !decide(rule, shape.elements, shape.letters, scratch) {
         zero(scratch);
-        return Standing::Refused {
+        return Err(Refused {
             refusal: Refusal::NotStrong,
             input,
             place: 0,
-        };
+        });
     }
-    Standing::Rule(shape)
+    Ok(shape)
 }
 
 // The grade of a monitor's values by the closure in the second table of marks, and the turns of its since; 4 and 0 where its since is none.

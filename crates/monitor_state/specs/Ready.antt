@@ -1,13 +1,13 @@
 -- A rule that is checked and a monitor whose values are good. Assumes nothing.
-use Rattle.std.specs.Prelude.{ℕ, ◌<◌, ◌≡◌, Bool, true, false, ◌⊎◌, List}
-use Rattle.answer.specs.Checks.{Verdict, passed, refused, FirstFailure}
+use Rattle.std.specs.Prelude.{ℕ, ◌<◌, ◌≡◌, Bool, true, false, ◌⊎◌, List, Result, Ok, Err}
+use Rattle.answer.specs.declared.Refused.{Refused}
+use Rattle.answer.specs.Checks.{FirstFailure, verdict_of}
 use Rattle.theory.specs.Rules.{join}
 use Rattle.formats.specs.Table.{morphism_at}
+use Rattle.rule_layout.specs.declared.Shape.{Shape}
 use Rattle.rule_layout.specs.Answers.{IsShape}
 use Rattle.formats.specs.Calls.{after_call}
 use Rattle.promises.specs.declared.Monitor.{Monitor}
-use Rattle.monitor_state.specs.declared.Ready.{Ready}
-use Rattle.monitor_state.specs.declared.Ready.TheVariants.{Rule, Refused as Not-ready}
 use Rattle.promises.specs.Monitor.{no_value, value_of, number_for, ValueOutOfRange, monitor_checks}
 
 -- an element or none
@@ -31,16 +31,12 @@ abbrev pub StrayAnswer : ℕ → Monitor → Bool → Type 0
 StrayAnswer n f true = ValueOutOfRange n f.before ⊎ ValueOutOfRange n f.since
 StrayAnswer n f false = GoodMonitor n f
 
-abbrev pub ready_verdict : Ready → Verdict
-ready_verdict (Rule shape) = passed
-ready_verdict (Not-ready refusal input place) = refused refusal input place
-
 -- a rule that is ready: its counts
-abbrev pub ReadyShape : List ℕ → Ready → Type 0
-ReadyShape bytes (Rule shape) = IsShape bytes shape
-ReadyShape bytes (Not-ready refusal input place) = Unit {0}
+abbrev pub ReadyShape : List ℕ → Result Shape Refused → Type 0
+ReadyShape bytes (Ok shape) = IsShape bytes shape
+ReadyShape bytes (Err r) = Unit {0}
 
-pub record ReadyPromise (bytes : List ℕ) (f : Monitor) (entry exit : List ℕ) (answer : Ready) : Type 0 where
-  pub refusal : FirstFailure (monitor_checks bytes f entry) (ready_verdict answer)
+pub record ReadyPromise (bytes : List ℕ) (f : Monitor) (entry exit : List ℕ) (answer : Result Shape Refused) : Type 0 where
+  pub refusal : FirstFailure (monitor_checks bytes f entry) (verdict_of answer)
   pub shape : ReadyShape bytes answer
   pub scratch : exit ≡ after_call entry

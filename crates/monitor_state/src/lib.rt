@@ -6,9 +6,9 @@ ghost use Rattle.std.specs.Prelude.{◌≡◌};
 ghost use Rattle.formats.proofs.Tables.{Table};
 ghost use Rattle.monitor_state.specs.Ready.{GoodNumber, join_at, OutOfRangeAnswer, StrayAnswer, ReadyPromise};
 
-use answer::Refusal;
+use answer::{Refusal, Refused};
 use promises::Monitor;
-use rule_check::{Checked, check};
+use rule_check::check;
 use rule_layout::Shape;
 use rule_table::product;
 use sections::zero;
@@ -30,51 +30,23 @@ pub fn number_out_of_range(n: usize, s: usize) -> bool
 pub fn out_of_range(n: usize, m: Monitor) -> bool
     ensures { StrayAnswer n m result }
 {
-    let before = m.before;
-    let since = m.since;
-    if number_out_of_range(n, before) {
-        return true;
-    }
-    number_out_of_range(n, since)
+    number_out_of_range(n, m.before) || number_out_of_range(n, m.since)
 }
 
-// A rule that is checked, with scratch zeros again, and the monitor's values are good.
-#[derive(Drop)]
-pub enum Ready {
-    Rule(Shape),
-    Refused {
-        refusal: Refusal,
-        input: usize,
-        place: usize,
-    },
-}
-
-pub fn prepare(rule: &[u8], m: Monitor, scratch: &mut [u8]) -> Ready
+// A rule that is checked, with scratch zeros again, where the monitor's values are good.
+pub fn prepare(rule: &[u8], m: Monitor, scratch: &mut [u8]) -> Result<Shape, Refused>
     ensures { ReadyPromise rule.now m scratch.old scratch.new result }
 {
-    let shape = match check(rule, 1, scratch) {
-        Checked::Rule(shape) => shape,
-        Checked::Refused {
-            refusal,
-            input,
-            place,
-        } => {
-            return Ready::Refused {
-                refusal,
-                input,
-                place,
-            };
-        }
-    };
+    let shape = check(rule, 1, scratch)?;
     zero(scratch);
     if out_of_range(shape.elements, m) {
-        return Ready::Refused {
+        return Err(Refused {
             refusal: Refusal::EntryOutOfRange,
             input: 1,
             place: 0,
-        };
+        });
     }
-    Ready::Rule(shape)
+    Ok(shape)
 }
 
 // The product of two values, each an element or 64 for none.

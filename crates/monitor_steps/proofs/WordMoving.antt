@@ -1,4 +1,5 @@
 -- What a word of events makes of a monitor by a checked table, and its checks. Assumes nothing.
+use Rattle.std.specs.Prelude.{Option, Some, None}
 use Prim.Native.Nat.{ℕ, zero, suc, ◌+◌, ◌≤◌, ◌<◌}
 use mathlib.Core.Path.{◌≡◌, refl, sym, ap, ◌∙◌}
 use mathlib.Core.Logic.{inl}
@@ -12,8 +13,6 @@ use Rattle.theory.specs.Words.{Over}
 use Rattle.theory.proofs.Words.{over_at, over_from}
 use Rattle.formats.proofs.Tables.{Table}
 use Rattle.formats.specs.Table.{morphism_at, image_at, product_at}
-use Rattle.section_bounds.specs.declared.Found.{Found}
-use Rattle.section_bounds.specs.declared.Found.TheVariants.{At, Nothing}
 use Rattle.section_bounds.specs.Answers.{FoundOut}
 use Rattle.lasso_words.proofs.Lassos.{foreign_at, letters_below}
 use Rattle.promises.specs.declared.Monitor.{Monitor}
@@ -32,11 +31,11 @@ module _ (k : ℕ) (w : List ℕ) where
   pub log_long : longest_log < length w → (input : ℕ) → FirstFailure (log_checks input k w) (refused WordLength input 0)
   log_long h input = first_fails (record { refusal = WordLength; input = input; Fails = LogTooLongAt w }) (record { above = h; is_place = refl })
 
-  module _ (short : length w ≤ longest_log) (answer : Found) (known : FoundOut w 0 (length w) (λ i. 0) (λ i. k) answer) where
-    pub log_found : {i : ℕ} → answer ≡ At i → (input : ℕ) → FirstFailure (log_checks input k w) (refused UnknownLetter input i)
+  module _ (short : length w ≤ longest_log) (answer : Option ℕ) (known : FoundOut w 0 (length w) (λ i. 0) (λ i. k) answer) where
+    pub log_found : {i : ℕ} → answer ≡ Some i → (input : ℕ) → FirstFailure (log_checks input k w) (refused UnknownLetter input i)
     log_found e input = log_foreign input k w short (foreign_at k w answer known e)
 
-    pub log_good : answer ≡ Nothing → GoodLog k w
+    pub log_good : answer ≡ None → GoodLog k w
     log_good e = record { short = short; over = over_from k w (letters_below k w answer known e) }
 
 -- the letters from a place on are that one and those behind it

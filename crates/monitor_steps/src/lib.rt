@@ -10,12 +10,11 @@ ghost use Rattle.promises.specs.Advance.{after_step, ForeignStep};
 ghost use Rattle.monitor_state.specs.Ready.{GoodMonitor};
 ghost use Rattle.monitor_steps.specs.Steps.{Along, LogAnswer};
 
-use answer::Refusal;
+use answer::{Fault, Refusal};
 use monitor_state::join;
 use promises::{LONGEST_LOG, Monitor, Step};
-use rule_marks::Fault;
 use rule_table::{image, product};
-use section_bounds::{Found, first_out};
+use section_bounds::first_out;
 
 // The monitor after a step that is not foreign.
 pub fn moved(rule: &[u8], n: usize, k: usize, monitor: Monitor, step: Step) -> Monitor
@@ -47,21 +46,21 @@ pub fn moved(rule: &[u8], n: usize, k: usize, monitor: Monitor, step: Step) -> M
 }
 
 // The first check of a word of events that fails: its length, and then its letters.
-pub fn log_fault(word: &[u8], k: usize) -> Fault
+pub fn log_fault(word: &[u8], k: usize) -> Result<(), Fault>
     ensures { LogAnswer k word.now result }
 {
     if LONGEST_LOG < word.len() {
-        return Fault::Refused {
+        return Err(Fault {
             refusal: Refusal::WordLength,
             place: 0,
-        };
+        });
     }
     match first_out(word, 0, word.len(), k) {
-        Found::At(i) => Fault::Refused {
+        Some(i) => Err(Fault {
             refusal: Refusal::UnknownLetter,
             place: i,
-        },
-        Found::Nothing => Fault::Nothing,
+        }),
+        None => Ok(()),
     }
 }
 

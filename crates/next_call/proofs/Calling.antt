@@ -1,4 +1,7 @@
 -- What the call promises, from what the check of the rule, the verdict on its strength and the writing of the rule of `next` promise. Assumes nothing.
+use Rattle.std.specs.Prelude.{Ok, Err}
+use Rattle.answer.proofs.Parts.{refused_by}
+use Rattle.std.proofs.Common.{Option, Some, None}
 use Prim.Native.Nat.{ℕ, ◌≤◌, ◌<◌}
 use native.Mathlib.Omega.{arith}
 use mathlib.Core.Path.{◌≡◌, refl, sym, subst}
@@ -22,7 +25,6 @@ use Rattle.formats.proofs.Buffers.{buffer_short}
 use Rattle.formats.proofs.GoodRule.{graded_marks, GoodRule, called_good}
 use Rattle.formats.proofs.ReadBack.{written_rule}
 use Rattle.rule_layout.specs.declared.Shape.{Shape}
-use Rattle.rule_check.specs.declared.Checked.TheVariants.{Rule as Checked-rule, Refused as Checked-refused}
 use Rattle.rule_check.specs.Answers.{CheckPromise}
 use Rattle.rule_check.proofs.Left.{short_left, long_left}
 use Rattle.rule_check.proofs.Calls.{shape_morphism}
@@ -30,8 +32,6 @@ use Rattle.mark_strong.specs.Deciding.{StrongIf, Decided}
 use Rattle.mark_strong.proofs.Calling.{checked_lawful, decided_file, decided_strong, closure_stands, decided_room, decided_left}
 use Rattle.reduce_first_round.specs.Map.{outcome_of}
 use Rattle.reduce_first_round.proofs.OutcomeBytes.{outcome_grading}
-use Rattle.next_rule.specs.declared.NextFile.{NextFile}
-use Rattle.next_rule.specs.declared.NextFile.TheVariants.{Rule as Is-file, TooMany}
 use Rattle.next_rule.specs.Writing.{NextNeeds, NextRuleWritten, NextWritten}
 use Rattle.promises.specs.declared.Written.{Written}
 use Rattle.promises.specs.declared.Written.TheVariants.{Refused}
@@ -46,7 +46,7 @@ out_short bytes out scratch h = record { refusal = buffer_short h; answered = re
 
 module _ (bytes out entry : List ℕ) (out_long : rule_size ≤ length out) where
   -- the check's refusal is handed on
-  pub next_refused : {mid : List ℕ} {r : Refusal} {input place : ℕ} → CheckPromise 1 bytes entry mid (Checked-refused r input place) → NextPromise bytes out out entry mid (Refused r input place)
+  pub next_refused : {mid : List ℕ} {r : Refusal} {input place : ℕ} → CheckPromise 1 bytes entry mid (Err (refused_by r input place)) → NextPromise bytes out out entry mid (Refused r input place)
   next_refused {r = r} {input} {place} p = record {
     refusal = file_first bytes out entry out_long r input place p.refusal;
     answered = refl;
@@ -54,7 +54,7 @@ module _ (bytes out entry : List ℕ) (out_long : rule_size ≤ length out) wher
   }
 
   -- of a checked rule
-  module _ {shape : Shape} {mid decided : List ℕ} {answer : Bool} (p : CheckPromise 1 bytes entry mid (Checked-rule shape))
+  module _ {shape : Shape} {mid decided : List ℕ} {answer : Bool} (p : CheckPromise 1 bytes entry mid (Ok shape))
       (d : Decided (morphism_at bytes shape.elements shape.letters) mid decided answer) where
     good : GoodRule bytes
     good = called_good 1 bytes entry p.refusal
@@ -124,22 +124,22 @@ module _ (bytes out entry : List ℕ) (out_long : rule_size ≤ length out) wher
         few_classes more = let h = (more_tails w.lawful w.classes 64).0 more in omega (arith, w.few)
 
       -- the rule was written, or there are too many classes
-      pub next_strong : {exit after : List ℕ} (file : NextFile) → NextWritten (morphism_at bytes shape.elements shape.letters) decided exit out after file
+      pub next_strong : {exit after : List ℕ} (file : Option ℕ) → NextWritten (morphism_at bytes shape.elements shape.letters) decided exit out after file
           → (end : List ℕ) → end ≡ replicate (length exit) 0 → NextPromise bytes out after entry end (formed_of file)
-      next_strong {exit} {after} (Is-file length-of) w end z =
+      next_strong {exit} {after} (Some length-of) w end z =
           let w' : NextRuleWritten (morphism_of bytes) decided out after length-of = subst (λ (m : Morphism). NextRuleWritten m decided out after length-of) same w.says in
           record {
             refusal = none_fails bytes out entry out_long p.refusal strong (few_classes w');
             answered = written_as w';
             scratch = long_left rule_size out entry out_long (decided_left 1 bytes entry p d exit end w.same_length z);
           }
-      next_strong {exit} {after} TooMany w end z = record {
+      next_strong {exit} {after} None w end z = record {
         refusal = classes_last bytes out entry out_long p.refusal strong (subst (λ (m : Morphism). MoreNextClasses m 64) same w.says.more);
         answered = w.says.kept;
         scratch = long_left rule_size out entry out_long (decided_left 1 bytes entry p d exit end w.same_length z);
       }
 
       -- as the answer says it
-      pub next_said : {exit after : List ℕ} (file : NextFile) → NextWritten (morphism_at bytes shape.elements shape.letters) decided exit out after file
+      pub next_said : {exit after : List ℕ} (file : Option ℕ) → NextWritten (morphism_at bytes shape.elements shape.letters) decided exit out after file
           → (end : List ℕ) → end ≡ replicate (length exit) 0 → {said : Written} → said ≡ formed_of file → NextPromise bytes out after entry end said
       next_said {exit} {after} file w end z s = subst (NextPromise bytes out after entry end) (sym s) (next_strong file w end z)

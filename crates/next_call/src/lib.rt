@@ -6,21 +6,21 @@ ghost use Rattle.std.specs.Prelude.{◌≡◌};
 ghost use Rattle.next_call.specs.Answers.{formed_of};
 ghost use Rattle.temporal_promises.specs.Next.{NextPromise};
 
-use answer::Refusal;
+use answer::{Refusal, Refused};
 use formats::RULE_SIZE;
 use mark_strong::decide;
-use next_rule::{NextFile, write_next};
+use next_rule::write_next;
 use promises::Written;
-use rule_check::{Checked, check};
+use rule_check::check;
 use sections::zero;
 
 // What was written as an answer of the call.
-fn formed(file: NextFile) -> Written
+fn formed(file: Option<usize>) -> Written
     ensures { result ≡ formed_of file }
 {
     match file {
-        NextFile::Rule(length) => Written::Rule(length),
-        NextFile::TooMany => Written::Refused {
+        Some(length) => Written::Rule(length),
+        None => Written::Refused {
             refusal: Refusal::TooManyClasses,
             input: 1,
             place: 0,
@@ -40,12 +40,12 @@ pub fn next(rule: &[u8], out: &mut [u8], scratch: &mut [u8]) -> Written
         };
     }
     let shape = match check(rule, 1, scratch) {
-        Checked::Rule(shape) => shape,
-        Checked::Refused {
+        Ok(shape) => shape,
+        Err(Refused {
             refusal,
             input,
             place,
-        } => {
+        }) => {
             return Written::Refused {
                 refusal,
                 input,

@@ -1,4 +1,5 @@
 -- A class is looked up and added unless it is there. Assumes nothing.
+use Rattle.std.proofs.Common.{Some, None}
 use Prim.Native.Nat.{ℕ, ◌+◌, ◌≤◌, ◌<◌}
 use native.Mathlib.Omega.{arith}
 use native.Mathlib.Decide.{ℕ_discrete}
@@ -13,8 +14,7 @@ use Rattle.scratch.specs.Bytes.{UnchangedOutside}
 use Rattle.scratch.proofs.Unchanged.{unchanged_none, unchanged_both, unchanged_set, unchanged_wider}
 use Rattle.word_steps.specs.Records.{RecordNeeds, StepRecorded}
 use Rattle.next_list.specs.Pairs.{tail_at, whole_at}
-use Rattle.next_list.specs.Adding.{HasPair, FoundPair, AddNeeds, ListKept, known, added, Added}
-use Rattle.next_list.specs.declared.ClassCount.TheVariants.{Listed, TooMany}
+use Rattle.next_list.specs.Adding.{HasPair, NoPair, PairThere, AddNeeds, ListKept, known, added, Added}
 
 -- ---- the search in the list
 
@@ -28,8 +28,8 @@ module _ {scratch : List ℕ} {count tail whole : ℕ} where
   unfound_start = record { within = omega arith; none = λ j h. absurd (omega arith) }
 
   module _ {i : ℕ} (u : Unfound scratch count tail whole i) (h : i < count) {r : Bool} (t : Tells (HasPair scratch i tail whole) r) where
-    pub found_here : r ≡ true → FoundPair scratch count tail whole i
-    found_here e = record { here = λ l. t.holds e; nowhere = λ l. absurd (omega arith) }
+    pub found_here : r ≡ true → PairThere scratch count tail whole i
+    found_here e = record { below = h; same = t.holds e }
 
     pub unfound_more : r ≡ false → Unfound scratch count tail whole (i + 1)
     unfound_more e = record { within = omega arith; none = λ j l p. go j l (ℕ_discrete j i) p }
@@ -38,8 +38,8 @@ module _ {scratch : List ℕ} {count tail whole : ℕ} where
         go j l (yes d) p = t.fails e (subst (λ (a : ℕ). HasPair scratch a tail whole) d p)
         go j l (no d) p = let d' : j ≢ i = d in u.none j (omega arith) p
 
-  pub unfound_all : {i : ℕ} → Unfound scratch count tail whole i → count ≤ i → FoundPair scratch count tail whole count
-  unfound_all u h = record { here = λ l. absurd (omega arith); nowhere = λ l. record { none = λ j b. u.none j (omega arith) } }
+  pub unfound_all : {i : ℕ} → Unfound scratch count tail whole i → count ≤ i → NoPair scratch count tail whole
+  unfound_all u h = record { none = λ j b. u.none j (omega arith) }
 
 -- ---- the addition
 
@@ -52,26 +52,28 @@ recorded_kept hp hx hn r = record {
 }
 
 module _ {entry : List ℕ} {count p x tail whole : ℕ} (n : AddNeeds entry count p x tail whole) where
-  module _ {at : ℕ} (f : FoundPair entry count tail whole at) where
-    pub known_place : at < count → RecordNeeds entry p x at count
-    known_place h =
+  module _ {at : ℕ} (f : PairThere entry count tail whole at) where
+    pub known_place : RecordNeeds entry p x at count
+    known_place =
         let few = n.few in
         let there = n.entry_there in
+        let below = f.below in
         record { entry_small = omega arith; letter_small = n.letter_small; number_small = omega arith; next_small = few; room = n.room }
 
-    pub add_known : {exit : List ℕ} → at < count → StepRecorded entry exit p x at count → Added entry exit count p x tail whole (Listed count)
-    add_known h r =
+    pub add_known : {exit : List ℕ} → StepRecorded entry exit p x at count → Added entry exit count p x tail whole (Some count)
+    add_known r =
         let few = n.few in
         let there = n.entry_there in
         record {
           kept = recorded_kept (omega arith) n.letter_small few r;
-          says = known refl (record { number = at; below = h; same = f.here h; recorded = r });
+          says = known refl (record { number = at; below = f.below; same = f.same; recorded = r });
         }
 
-    pub add_full : count ≤ at → 64 ≤ count → Added entry entry count p x tail whole TooMany
-    add_full h full = let few = n.few in record { kept = unchanged_none _ _ entry; says = record { full = omega arith; new = f.nowhere h } }
+  module _ (new : NoPair entry count tail whole) where
+    pub add_full : 64 ≤ count → Added entry entry count p x tail whole None
+    add_full full = let few = n.few in record { kept = unchanged_none _ _ entry; says = record { full = omega arith; new = new } }
 
-    module _ (h : count ≤ at) (place : count < 64) where
+    module _ (place : count < 64) where
       abbrev one : List ℕ
       one = set entry (28672 + count) tail
 
@@ -89,7 +91,7 @@ module _ {entry : List ℕ} {count p x tail whole : ℕ} (n : AddNeeds entry cou
           let there = n.entry_there in
           record { entry_small = omega arith; letter_small = n.letter_small; number_small = place; next_small = omega arith; room = simp length-set n.room }
 
-      pub add_new : {exit : List ℕ} → StepRecorded (set (set entry (28672 + count) tail) (28736 + count) whole) exit p x count count → Added entry exit count p x tail whole (Listed (count + 1))
+      pub add_new : {exit : List ℕ} → StepRecorded (set (set entry (28672 + count) tail) (28736 + count) whole) exit p x count count → Added entry exit count p x tail whole (Some (count + 1))
       add_new {exit} r =
           let there = n.entry_there in
           let kept = recorded_kept (omega arith) n.letter_small (omega arith) r in
@@ -99,7 +101,7 @@ module _ {entry : List ℕ} {count p x tail whole : ℕ} (n : AddNeeds entry cou
             kept = unchanged_both (unchanged_wider (omega arith) (omega arith) two_kept) kept;
             says = added refl (record {
               place = place;
-              new = f.nowhere h;
+              new = new;
               mid = two;
               records = record { same = λ i l g. two_kept.before i (omega arith) };
               recorded = r;

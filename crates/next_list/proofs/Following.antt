@@ -1,4 +1,5 @@
 -- A letter followed from an entry: the list goes on with the class that it leads to, or there are more than 64. Assumes nothing.
+use Rattle.std.proofs.Common.{Option, Some, None}
 use Prim.Native.Nat.{ℕ, suc, ◌+◌, ◌-◌, ◌≤◌, ◌<◌}
 use native.Mathlib.Omega.{arith}
 use native.Mathlib.Decide.{ℕ_discrete}
@@ -15,8 +16,6 @@ use Rattle.word_steps.specs.Records.{word_at}
 use Rattle.word_steps.proofs.Words.{word_empty, word_is}
 use Rattle.word_steps.proofs.Searching.{search_rooted, search_kept, word_kept, word_recorded, search_known, search_new, word_new, search_full}
 use Rattle.next_list.specs.declared.Pair.{Pair}
-use Rattle.next_list.specs.declared.ClassCount.{ClassCount}
-use Rattle.next_list.specs.declared.ClassCount.TheVariants.{Listed, TooMany}
 use Rattle.next_list.specs.Pairs.{tail_at, whole_at, ValueNeeds, ValueBehind, Listing, PairBehind}
 use Rattle.next_list.specs.Adding.{HasPair, AddNeeds, StepKnown, StepNew, AddedTo, known, added, Full, Added}
 use Rattle.next_list.specs.Following.{Grown, Followed}
@@ -133,6 +132,6 @@ module _ {m : Morphism} (law : Lawful m) {entry : List ℕ} {count p x : ℕ} (l
       subst (MoreWords m.letters (SameNextClass m)) f.full (search_full (tail_congruence law) l.search inside letter (λ i h. other_class h (f.new.none i h))) in
       record { word = w.word; over = λ i h. (w.words i h).over; some = λ i h. (w.words i h).some; apart = w.apart }
 
-  pub followed_pair : {exit : List ℕ} (answer : ClassCount) → Added entry exit count p x pair.tail pair.whole answer → Followed m entry exit count p x answer
-  followed_pair (Listed total) a = record { kept = a.kept; says = added_grown a.kept.same_length a.says }
-  followed_pair TooMany a = record { kept = a.kept; says = full_more a.says }
+  pub followed_pair : {exit : List ℕ} (answer : Option ℕ) → Added entry exit count p x pair.tail pair.whole answer → Followed m entry exit count p x answer
+  followed_pair (Some total) a = record { kept = a.kept; says = added_grown a.kept.same_length a.says }
+  followed_pair None a = record { kept = a.kept; says = full_more a.says }

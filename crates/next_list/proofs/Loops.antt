@@ -1,4 +1,5 @@
 -- The loops over the letters of an entry and over the entries. Assumes nothing.
+use Rattle.std.proofs.Common.{Option, Some, None}
 use Prim.Native.Nat.{ℕ, ◌+◌, ◌≤◌, ◌<◌}
 use native.Mathlib.Omega.{arith}
 use mathlib.Core.Path.{◌≡◌, subst}
@@ -9,8 +10,6 @@ use Rattle.temporal.specs.Nexts.{MoreNextClasses}
 use Rattle.scratch.proofs.Unchanged.{unchanged_none, unchanged_both}
 use Rattle.formats.specs.RuleChecks.{scratch_size}
 use Rattle.word_steps.proofs.Searching.{search_start, search_next, search_end_lem}
-use Rattle.next_list.specs.declared.ClassCount.{ClassCount}
-use Rattle.next_list.specs.declared.ClassCount.TheVariants.{Listed, TooMany}
 use Rattle.next_list.specs.Pairs.{Listing}
 use Rattle.next_list.specs.Adding.{ListKept}
 use Rattle.next_list.specs.Following.{Grown, GrownAnswer, Followed, EntryFollowed, NextListed}
@@ -36,8 +35,8 @@ module _ {m : Morphism} {entry now : List ℕ} {count p total x : ℕ} (f : Foll
   pub following_inside : p ≤ total
   following_inside = omega (arith, f.inside, f.grown.more)
 
-  module _ {exit : List ℕ} {answer : ClassCount} (s : Followed m now exit total p x answer) where
-    pub following_next : {c : ℕ} → answer ≡ Listed c → x < m.letters → Following m entry count p exit c (x + 1)
+  module _ {exit : List ℕ} {answer : Option ℕ} (s : Followed m now exit total p x answer) where
+    pub following_next : {c : ℕ} → answer ≡ Some c → x < m.letters → Following m entry count p exit c (x + 1)
     following_next {c} e h =
         let g : Grown m exit total p (x + 1) c = subst (GrownAnswer m exit total p (x + 1)) e s.says in
         record {
@@ -47,12 +46,12 @@ module _ {m : Morphism} {entry now : List ℕ} {count p total x : ℕ} (f : Foll
           within = omega arith;
         }
 
-    pub following_full : answer ≡ TooMany → EntryFollowed m entry exit count p TooMany
+    pub following_full : answer ≡ None → EntryFollowed m entry exit count p None
     following_full e =
         let more : MoreNextClasses m 64 = subst (GrownAnswer m exit total p (x + 1)) e s.says in
         record { kept = unchanged_both f.kept s.kept; says = more }
 
-  pub following_done : m.letters ≤ x → EntryFollowed m entry now count p (Listed total)
+  pub following_done : m.letters ≤ x → EntryFollowed m entry now count p (Some total)
   following_done h =
       let e : x ≡ m.letters = omega (arith, f.within) in
       record { kept = f.kept; says = subst (λ (y : ℕ). Grown m now count p y total) e f.grown }
@@ -74,8 +73,8 @@ module _ {m : Morphism} {entry now : List ℕ} {count p : ℕ} (f : Entries m en
   pub entries_few : count ≤ 64
   entries_few = f.listing.search.few
 
-  module _ {exit : List ℕ} {answer : ClassCount} (s : EntryFollowed m now exit count p answer) where
-    pub entries_next : {c : ℕ} → answer ≡ Listed c → Entries m entry exit c (p + 1)
+  module _ {exit : List ℕ} {answer : Option ℕ} (s : EntryFollowed m now exit count p answer) where
+    pub entries_next : {c : ℕ} → answer ≡ Some c → Entries m entry exit c (p + 1)
     entries_next {c} e =
         let g : Grown m exit count p m.letters c = subst (GrownAnswer m exit count p m.letters) e s.says in
         record {
@@ -83,10 +82,10 @@ module _ {m : Morphism} {entry now : List ℕ} {count p : ℕ} (f : Entries m en
           listing = record { search = search_next g.listing.search (omega arith); pairs = g.listing.pairs; room = g.listing.room };
         }
 
-    pub entries_full : answer ≡ TooMany → NextListed m entry exit TooMany
+    pub entries_full : answer ≡ None → NextListed m entry exit None
     entries_full e =
         let more : MoreNextClasses m 64 = subst (GrownAnswer m exit count p m.letters) e s.says in
         record { kept = unchanged_both f.kept s.kept; says = more }
 
-  pub entries_done : count < p → NextListed m entry now (Listed count)
+  pub entries_done : count < p → NextListed m entry now (Some count)
   entries_done h = record { kept = f.kept; says = record { search = search_end_lem f.listing.search h; pairs = f.listing.pairs; room = f.listing.room } }

@@ -1,12 +1,10 @@
 -- What is asked for and what is done where a class is added to the list. Assumes nothing.
-use Rattle.std.specs.Prelude.{ℕ, ◌+◌, ◌≤◌, ◌<◌, ◌≡◌, List, length}
+use Rattle.std.specs.Prelude.{ℕ, ◌+◌, ◌≤◌, ◌<◌, ◌≡◌, List, length, Option, Some, None}
 use Rattle.scratch.specs.Bytes.{UnchangedOutside}
 use Rattle.scratch.specs.Map.{steps_base, next_end}
 use Rattle.formats.specs.RuleChecks.{scratch_size}
 use Rattle.word_steps.specs.Records.{StepRecorded, RecordsKept}
 use Rattle.next_list.specs.Pairs.{tail_at, whole_at}
-use Rattle.next_list.specs.declared.ClassCount.{ClassCount}
-use Rattle.next_list.specs.declared.ClassCount.TheVariants.{Listed, TooMany}
 
 -- class i has the two values
 pub record HasPair (scratch : List ℕ) (i tail whole : ℕ) : Type 0 where
@@ -17,10 +15,15 @@ pub record HasPair (scratch : List ℕ) (i tail whole : ℕ) : Type 0 where
 pub record NoPair (scratch : List ℕ) (count tail whole : ℕ) : Type 0 where
   pub none : (i : ℕ) → i < count → HasPair scratch i tail whole → ⊥
 
--- class r has the two values, or r is count and none has
-pub record FoundPair (scratch : List ℕ) (count tail whole r : ℕ) : Type 0 where
-  pub here : r < count → HasPair scratch r tail whole
-  pub nowhere : count ≤ r → NoPair scratch count tail whole
+-- class r has the two values
+pub record PairThere (scratch : List ℕ) (count tail whole r : ℕ) : Type 0 where
+  pub below : r < count
+  pub same : HasPair scratch r tail whole
+
+-- or none has
+abbrev pub FoundPair : List ℕ → ℕ → ℕ → ℕ → Option ℕ → Type 0
+FoundPair scratch count tail whole (Some r) = PairThere scratch count tail whole r
+FoundPair scratch count tail whole None = NoPair scratch count tail whole
 
 -- numbers that fit, and room
 pub record AddNeeds (scratch : List ℕ) (count p x tail whole : ℕ) : Type 0 where
@@ -64,10 +67,10 @@ pub record Full (entry : List ℕ) (count tail whole : ℕ) : Type 0 where
   pub full : count ≡ 64
   pub new : NoPair entry count tail whole
 
-abbrev pub AddAnswer : List ℕ → List ℕ → ℕ → ℕ → ℕ → ℕ → ℕ → ClassCount → Type 0
-AddAnswer entry exit count p x tail whole (Listed total) = AddedTo entry exit count p x tail whole total
-AddAnswer entry exit count p x tail whole TooMany = Full entry count tail whole
+abbrev pub AddAnswer : List ℕ → List ℕ → ℕ → ℕ → ℕ → ℕ → ℕ → Option ℕ → Type 0
+AddAnswer entry exit count p x tail whole (Some total) = AddedTo entry exit count p x tail whole total
+AddAnswer entry exit count p x tail whole None = Full entry count tail whole
 
-pub record Added (entry exit : List ℕ) (count p x tail whole : ℕ) (answer : ClassCount) : Type 0 where
+pub record Added (entry exit : List ℕ) (count p x tail whole : ℕ) (answer : Option ℕ) : Type 0 where
   pub kept : ListKept entry exit
   pub says : AddAnswer entry exit count p x tail whole answer

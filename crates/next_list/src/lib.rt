@@ -18,18 +18,11 @@ use rule_table::{image, product};
 use scratch::{NEXT_TAILS_BASE, NEXT_WHOLES_BASE};
 use word_steps::record_step;
 
-// The two values of a word.
+// The two values of a word, the first 64 for none: so the byte in scratch has it, and `value_of` in the contract reads it.
 #[derive(Drop)]
 pub struct Pair {
     pub tail: usize,
     pub whole: usize,
-}
-
-// How many classes there are, or that there are more than 64.
-#[derive(Drop)]
-pub enum ClassCount {
-    Listed(usize),
-    TooMany,
 }
 
 // The value of a word with a letter behind it, from that of the word, 64 for none, and the letter's element.
@@ -81,29 +74,24 @@ fn same_pair(scratch: &[u8], i: usize, tail: usize, whole: usize) -> bool
     requires { (i < 64) × (scratch_size ≤ length scratch.now) }
     ensures { Tells (HasPair scratch.now i tail whole) result }
 {
-    if scratch[NEXT_TAILS_BASE + i] as usize != tail {
-        return false;
-    }
-    if scratch[NEXT_WHOLES_BASE + i] as usize != whole {
-        return false;
-    }
-    true
+    scratch[NEXT_TAILS_BASE + i] as usize == tail && scratch[NEXT_WHOLES_BASE + i] as usize == whole
 }
 
-// The number of the class with two values, or how many classes there are where none has them.
-fn find_pair(scratch: &[u8], count: usize, tail: usize, whole: usize) -> usize
+// The number of the class with two values, or none where no class has them.
+fn find_pair(scratch: &[u8], count: usize, tail: usize, whole: usize) -> Option<usize>
     requires { (count ≤ 64) × (scratch_size ≤ length scratch.now) }
     ensures { FoundPair scratch.now count tail whole result }
 {
     for i in 0..count {
         if same_pair(scratch, i, tail, whole) {
-            return i;
+            return Some(i);
         }
     }
-    count
+    None
 }
 
-// Adds the class with two values, unless it is there, and records the step that led to it.
+// Adds the class with two values, unless it is there, and records the step that led to it: how many classes there are then, or none where
+// there are more than 64.
 fn add_pair(
     scratch: &mut [u8],
     count: usize,
@@ -111,22 +99,21 @@ fn add_pair(
     letter: usize,
     tail: usize,
     whole: usize,
-) -> ClassCount
+) -> Option<usize>
     requires { AddNeeds scratch.old count from letter tail whole }
     ensures { Added scratch.old scratch.new count from letter tail whole result }
 {
-    let at = find_pair(scratch, count, tail, whole);
-    if at < count {
+    if let Some(at) = find_pair(scratch, count, tail, whole) {
         record_step(scratch, from, letter, at, count);
-        return ClassCount::Listed(count);
+        return Some(count);
     }
     if 64 <= count {
-        return ClassCount::TooMany;
+        return None;
     }
     scratch[NEXT_TAILS_BASE + count] = tail as u8;
     scratch[NEXT_WHOLES_BASE + count] = whole as u8;
     record_step(scratch, from, letter, count, count);
-    ClassCount::Listed(count + 1)
+    Some(count + 1)
 }
 
 // Follows one letter from an entry.
@@ -138,7 +125,7 @@ fn follow_letter(
     count: usize,
     from: usize,
     letter: usize,
-) -> ClassCount
+) -> Option<usize>
     requires table { Table rule.now n k }
     requires lawful { Lawful (morphism_at rule.now n k) }
     requires listing { Listing (morphism_at rule.now n k) scratch.old count from letter }
@@ -157,7 +144,7 @@ fn follow_entry(
     scratch: &mut [u8],
     count: usize,
     from: usize,
-) -> ClassCount
+) -> Option<usize>
     requires table { Table rule.now n k }
     requires lawful { Lawful (morphism_at rule.now n k) }
     requires listing { Listing (morphism_at rule.now n k) scratch.old count from 0 }
@@ -166,19 +153,13 @@ fn follow_entry(
 {
     let mut total = count;
     for letter in 0..k {
-        let next = match follow_letter(rule, n, k, scratch, total, from, letter) {
-            ClassCount::Listed(c) => c,
-            ClassCount::TooMany => {
-                return ClassCount::TooMany;
-            }
-        };
-        total = next;
+        total = follow_letter(rule, n, k, scratch, total, from, letter)?;
     }
-    ClassCount::Listed(total)
+    Some(total)
 }
 
-// The classes of all non-empty words, each once, in the order of their first words, or that there are more than 64.
-pub fn list_next(rule: &[u8], n: usize, k: usize, scratch: &mut [u8]) -> ClassCount
+// The classes of all non-empty words, each once, in the order of their first words: how many they are, or none where there are more than 64.
+pub fn list_next(rule: &[u8], n: usize, k: usize, scratch: &mut [u8]) -> Option<usize>
     requires table { Table rule.now n k }
     requires lawful { Lawful (morphism_at rule.now n k) }
     requires scratch_size_in_bounds { scratch_size ≤ length scratch.old }
@@ -186,15 +167,10 @@ pub fn list_next(rule: &[u8], n: usize, k: usize, scratch: &mut [u8]) -> ClassCo
 {
     let mut count = 0;
     let mut from = 0;
+    // A while: the list grows on the way, so that no range has its entries beforehand.
     while from <= count {
-        let next = match follow_entry(rule, n, k, scratch, count, from) {
-            ClassCount::Listed(c) => c,
-            ClassCount::TooMany => {
-                return ClassCount::TooMany;
-            }
-        };
-        count = next;
+        count = follow_entry(rule, n, k, scratch, count, from)?;
         from += 1;
     }
-    ClassCount::Listed(count)
+    Some(count)
 }

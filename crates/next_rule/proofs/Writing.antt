@@ -1,4 +1,5 @@
 -- The rule of `next` from its parts: the outcomes, the list of the classes, their grades, and what was written. Assumes nothing.
+use Rattle.std.proofs.Common.{Option, Some, None}
 use Prim.Native.Nat.{ℕ, suc, ◌+◌, ◌*◌, ◌≤◌, ◌<◌}
 use native.Mathlib.Omega.{arith}
 use mathlib.Core.Path.{◌≡◌, refl, sym, ap, subst, ◌∙◌}
@@ -26,12 +27,9 @@ use Rattle.word_steps.proofs.Searching.{search_rooted, search_kept, word_kept}
 use Rattle.word_table.specs.Laying.{laid_rule}
 use Rattle.word_table.proofs.Tables.{search_needs, search_some, search_table, search_lawful, search_numbered}
 use Rattle.word_rule.specs.Writing.{WordsNeeds, WordsWritten}
-use Rattle.next_list.specs.declared.ClassCount.{ClassCount}
-use Rattle.next_list.specs.declared.ClassCount.TheVariants.{Listed, TooMany as Too-many}
 use Rattle.next_list.specs.Pairs.{tail_at, whole_at, Listing}
 use Rattle.next_list.specs.Following.{ListAnswer, NextListed}
 use Rattle.next_list.proofs.Values.{value_none, value_is, whole_inside, tail_known}
-use Rattle.next_rule.specs.declared.NextFile.TheVariants.{Rule as Is-rule, TooMany}
 use Rattle.next_rule.specs.Writing.{PairsSmall, next_grade, NextNeeds, NextWritten}
 use Rattle.next_rule.proofs.Grades.{tail_same}
 
@@ -44,11 +42,11 @@ module _ {m : Morphism} (small : m.size ≤ 64) {entry out : List ℕ} (p : Next
   pub list_room : 65536 ≤ length a
   list_room = rw o.kept.same_length p.room
 
-  module _ {b : List ℕ} {answer : ClassCount} (l : NextListed m a b answer) where
-    pub next_full : answer ≡ Too-many → NextWritten m entry b out out TooMany
+  module _ {b : List ℕ} {answer : Option ℕ} (l : NextListed m a b answer) where
+    pub next_full : answer ≡ None → NextWritten m entry b out out None
     next_full e = record { same_length = l.kept.same_length ∙ o.kept.same_length; says = record { more = subst (ListAnswer m b) e l.says; kept = refl } }
 
-    module _ {count : ℕ} (e : answer ≡ Listed count) where
+    module _ {count : ℕ} (e : answer ≡ Some count) where
       listing : Listing m b count count m.letters
       listing = subst (ListAnswer m b) e l.says
 
@@ -126,7 +124,7 @@ module _ {m : Morphism} (small : m.size ≤ 64) {entry out : List ℕ} (p : Next
             of_others = w.marked.of_others;
           }
 
-          pub next_written : NextWritten m entry exit out after (Is-rule end)
+          pub next_written : NextWritten m entry exit out after (Some end)
           next_written = record {
             same_length = w.same_length ∙ grades_kept.same_length ∙ l.kept.same_length ∙ o.kept.same_length;
             says = record {

@@ -1,5 +1,5 @@
 -- What is asked for and what is written of the rule of `next`. Assumes nothing.
-use Rattle.std.specs.Prelude.{ℕ, ◌≤◌, ◌<◌, ◌≡◌, List, length}
+use Rattle.std.specs.Prelude.{ℕ, ◌≤◌, ◌<◌, ◌≡◌, List, length, Option, Some, None}
 use Rattle.theory.specs.Rules.{Morphism, Lawful, Marking, Value}
 use Rattle.temporal.specs.Nexts.{NextClassesOf, next_outcome, MoreNextClasses}
 use Rattle.minimality.proofs.Saturation.{MarksOutcomes}
@@ -10,8 +10,6 @@ use Rattle.formats.specs.Front.{AtFront}
 use Rattle.promises.specs.Monitor.{value_of}
 use Rattle.reduce_first_round.specs.Map.{outcome_of, outcome_at}
 use Rattle.next_list.specs.Pairs.{tail_at, whole_at}
-use Rattle.next_rule.specs.declared.NextFile.{NextFile}
-use Rattle.next_rule.specs.declared.NextFile.TheVariants.{Rule as Is-rule, TooMany}
 
 -- the values of count classes are numbers of a table, and there is room
 pub record PairsSmall (count : ℕ) (scratch : List ℕ) : Type 0 where
@@ -50,10 +48,10 @@ pub record TooManyNext (m : Morphism) (before after : List ℕ) : Type 0 where
   pub more : MoreNextClasses m 64
   pub kept : after ≡ before
 
-abbrev pub NextFileAnswer : Morphism → List ℕ → List ℕ → List ℕ → NextFile → Type 0
-NextFileAnswer m entry before after (Is-rule end) = NextRuleWritten m entry before after end
-NextFileAnswer m entry before after TooMany = TooManyNext m before after
+abbrev pub NextFileAnswer : Morphism → List ℕ → List ℕ → List ℕ → Option ℕ → Type 0
+NextFileAnswer m entry before after (Some end) = NextRuleWritten m entry before after end
+NextFileAnswer m entry before after None = TooManyNext m before after
 
-pub record NextWritten (m : Morphism) (entry exit before after : List ℕ) (answer : NextFile) : Type 0 where
+pub record NextWritten (m : Morphism) (entry exit before after : List ℕ) (answer : Option ℕ) : Type 0 where
   pub same_length : length exit ≡ length entry
   pub says : NextFileAnswer m entry before after answer

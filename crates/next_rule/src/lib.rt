@@ -9,17 +9,10 @@ ghost use Rattle.scratch.specs.Map.{laid_marks_base};
 ghost use Rattle.scratch.specs.Rows.{RowFilled, RowsFilled};
 ghost use Rattle.next_rule.specs.Writing.{PairsSmall, next_grade, NextNeeds, NextWritten};
 
-use next_list::{ClassCount, list_next};
+use next_list::list_next;
 use reduce_first_round::{outcome_at, outcomes};
 use scratch::{LAID_MARKS_BASE, NEXT_TAILS_BASE, NEXT_WHOLES_BASE};
 use word_rule::write_words;
-
-// The number of bytes that were written, or that there are more than 64 classes.
-#[derive(Drop)]
-pub enum NextFile {
-    Rule(usize),
-    TooMany,
-}
 
 // The grade of the lassos whose start is of class s and whose cycle is of class e, without their first letters.
 fn next_grade(scratch: &[u8], count: usize, s: usize, e: usize) -> u8
@@ -41,6 +34,7 @@ fn grade_row(scratch: &mut [u8], count: usize, s: usize)
     requires s_lt_count { s < count }
     ensures { RowFilled (λ e byte. byte ≡ next_grade scratch.old s e) (laid_marks_base + s * 64) count scratch.old scratch.new }
 {
+    // By index: each byte is worked out from the slice that it is written to.
     for e in 0..count {
         let grade = next_grade(scratch, count, s, e);
         scratch[LAID_MARKS_BASE + (s * 64 + e)] = grade;
@@ -57,19 +51,21 @@ fn lay_grades(scratch: &mut [u8], count: usize)
     }
 }
 
-// Writes the rule of `next`, from the closure of a strong rule's marks in scratch, or finds too many classes.
-pub fn write_next(rule: &[u8], n: usize, k: usize, scratch: &mut [u8], out: &mut [u8]) -> NextFile
+// Writes the rule of `next`, from the closure of a strong rule's marks in scratch: how many bytes it takes, or none where there are more
+// than 64 classes.
+pub fn write_next(
+    rule: &[u8],
+    n: usize,
+    k: usize,
+    scratch: &mut [u8],
+    out: &mut [u8],
+) -> Option<usize>
     requires table { Table rule.now n k }
     requires next_needs { NextNeeds (morphism_at rule.now n k) scratch.old out.old }
     ensures { NextWritten (morphism_at rule.now n k) scratch.old scratch.new out.old out.new result }
 {
     outcomes(rule, n, k, scratch);
-    let count = match list_next(rule, n, k, scratch) {
-        ClassCount::Listed(c) => c,
-        ClassCount::TooMany => {
-            return NextFile::TooMany;
-        }
-    };
+    let count = list_next(rule, n, k, scratch)?;
     lay_grades(scratch, count);
-    NextFile::Rule(write_words(scratch, count, k, out))
+    Some(write_words(scratch, count, k, out))
 }

@@ -2,7 +2,7 @@
 #![tactic(auto)]
 
 ghost use Rattle.std.specs.Prelude.{◌≡◌};
-ghost use Rattle.packing_counts.specs.Counts.{pack_inspected, pack_listed, pack_written, bit, pack_partition, pack_successors, pack_stretch};
+ghost use Rattle.packing_counts.specs.Counts.{pack_inspected, pack_listed, pack_written, pack_partition, pack_successors, pack_stretch};
 
 use packing::{pack_fields, pack_refusal};
 use promises::{Inspected, Listed, Partition, StretchPlace, SuccessorList, Written};
@@ -54,22 +54,12 @@ pub fn pack_written(answer: Written) -> u64
     }
 }
 
-// 1 for yes.
-fn bit_of(b: bool) -> usize
-    ensures { result ≡ bit b }
-{
-    if b {
-        return 1;
-    }
-    0
-}
-
-// The rounds done, and whether they are finished.
+// The rounds done, and 1 where they are finished.
 pub fn pack_partition(answer: Partition) -> u64
     ensures { result ≡ pack_partition answer }
 {
     match answer {
-        Partition::Blocks { rounds, finished } => pack_fields(rounds, bit_of(finished), 0),
+        Partition::Blocks { rounds, finished } => pack_fields(rounds, usize::from(finished), 0),
         Partition::Refused {
             refusal,
             input,

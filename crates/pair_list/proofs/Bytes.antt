@@ -1,4 +1,5 @@
 -- The bytes of the list of pairs: what five stores leave. Assumes nothing.
+use Rattle.std.proofs.Common.{Some, None}
 use Prim.Native.Nat.{ℕ, ◌+◌, ◌*◌, ◌≤◌, ◌<◌}
 use mathlib.Core.Path.{refl}
 use mathlib.Core.List.{List}
@@ -8,7 +9,6 @@ use Rattle.finite.proofs.Stores.{done, put, stores, Apart, here, later, stores_l
 use Rattle.formats.specs.RuleChecks.{scratch_size}
 use Rattle.scratch.specs.Map.{pair_numbers_base, pair_lefts_base, pair_rights_base, pair_parents_base, pair_letters_base}
 use Rattle.scratch.proofs.Unchanged.{unchanged_none}
-use Rattle.pair_list.specs.declared.PairCount.TheVariants.{Listed, TooMany}
 use Rattle.pair_list.specs.Pairs.{number_at, Kept}
 use Rattle.pair_list.specs.Steps.{AddNeeds, Stored, placed_old, placed_new, Added}
 
@@ -45,18 +45,18 @@ stored_kept e hc hs ht = record {
 
 module _ {l : List ℕ} {count s t from letter : ℕ} where
   -- the pair has a number, and nothing is stored
-  pub add_there : 0 < get_or l (pair_numbers_base + (s * 64 + t)) 0 → Added l l count s t from letter (Listed count)
+  pub add_there : 0 < get_or l (pair_numbers_base + (s * 64 + t)) 0 → Added l l count s t from letter (Some count)
   unfolding number_at
   add_there h = record { kept = unchanged_none _ _ _; says = placed_old h refl refl }
 
   module _ (place : AddNeeds l count s t from letter) (none-there : get_or l (pair_numbers_base + (s * 64 + t)) 0 ≤ 0) where
     -- it has none, and there is no place for it
-    pub add_full : 64 ≤ count → Added l l count s t from letter TooMany
+    pub add_full : 64 ≤ count → Added l l count s t from letter None
     unfolding number_at
     add_full h = record { kept = unchanged_none _ _ _; says = record { full = omega (arith, place.few); new = omega arith } }
 
     -- it has none, and it gets the next place
-    pub add_new : count < 64 → Added l (stored_at l count s t from letter) count s t from letter (Listed (count + 1))
+    pub add_new : count < 64 → Added l (stored_at l count s t from letter) count s t from letter (Some (count + 1))
     unfolding number_at
     add_new h =
         let e = stored l count s t from letter place.room h place.left_small place.right_small in

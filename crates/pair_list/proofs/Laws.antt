@@ -1,5 +1,6 @@
 -- The laws of the search of pairs in scratch: how it starts, what its functions may ask at a pair (entry, letter), that it goes on by the
 -- pair found there or has found too many, and what it leaves at the end. Assumes nothing.
+use Rattle.std.proofs.Common.{Option, Some, None}
 use Prim.Native.Nat.{ℕ, suc, ◌+◌, ◌*◌, ◌≤◌, ◌<◌}
 use mathlib.Core.Path.{◌≡◌, refl, sym, subst}
 use mathlib.Core.Logic.{◌⊎◌, inl, inr, ⊎_elim}
@@ -17,8 +18,6 @@ use Rattle.scratch.proofs.Unchanged.{unchanged_none, unchanged_both}
 use Rattle.rule_reach.specs.Reach.{word_step}
 use Rattle.rule_reach.specs.Steps.{step_at, StepNeeds}
 use Rattle.rule_reach.proofs.Order.{order_start, order_old, order_new, order_next, order_done, LeadingWord, leading_step, ordered_word}
-use Rattle.pair_list.specs.declared.PairCount.{PairCount}
-use Rattle.pair_list.specs.declared.PairCount.TheVariants.{Listed, TooMany}
 use Rattle.pair_list.specs.Pairs.{left_at, right_at, value_at, entry_at, number_at, pair_step, Numbered, TwoTables, Empty, PairList, PairsAnswer, Kept}
 use Rattle.pair_list.specs.Steps.{AddNeeds, Placed, placed_old, placed_new, Full, Added}
 use Rattle.pair_list.specs.Searching.{Searching, Trying, TryAnswer, Tried, ExpandAnswer, Expanded}
@@ -156,9 +155,9 @@ module _ {first : List ℕ} {n₁ : ℕ} {second : List ℕ} {n₂ k : ℕ} (tab
         }
 
       -- what the step answers
-      pub tried_letter : {exit : List ℕ} (answer : PairCount) → Added scratch exit count s t p a answer → Tried first n₁ second n₂ k scratch exit p a answer
-      tried_letter (Listed total) d = record { kept = d.kept; says = search_add d.says }
-      tried_letter TooMany d = record { kept = d.kept; says = search_full d.says }
+      pub tried_letter : {exit : List ℕ} (answer : Option ℕ) → Added scratch exit count s t p a answer → Tried first n₁ second n₂ k scratch exit p a answer
+      tried_letter (Some total) d = record { kept = d.kept; says = search_add d.says }
+      tried_letter None d = record { kept = d.kept; says = search_full d.says }
 
   -- every letter was tried at the entry
   search_next : {scratch : List ℕ} {count p a : ℕ} → Searching first n₁ second n₂ k scratch count p a → a ≡ k → Searching first n₁ second n₂ k scratch count (p + 1) 0
@@ -207,7 +206,7 @@ module _ {first : List ℕ} {n₁ : ℕ} {second : List ℕ} {n₂ k : ℕ} {ent
 
   module _ {from : ℕ} {scratch : List ℕ} {total letter : ℕ} (x : Expanding first n₁ second n₂ k entry from scratch total letter) where
     -- the next letter was tried
-    pub expanding_next : {exit : List ℕ} {answer : PairCount} {next : ℕ} → letter < k → Tried first n₁ second n₂ k scratch exit from letter answer → answer ≡ Listed next
+    pub expanding_next : {exit : List ℕ} {answer : Option ℕ} {next : ℕ} → letter < k → Tried first n₁ second n₂ k scratch exit from letter answer → answer ≡ Some next
         → Expanding first n₁ second n₂ k entry from exit next (letter + 1)
     expanding_next {exit} h d e = record {
       tables = x.tables;
@@ -217,15 +216,15 @@ module _ {first : List ℕ} {n₁ : ℕ} {second : List ℕ} {n₂ k : ℕ} {ent
     }
 
     -- there are too many pairs
-    pub expanding_full : {exit : List ℕ} {answer : PairCount} → Tried first n₁ second n₂ k scratch exit from letter answer → answer ≡ TooMany
-        → Expanded first n₁ second n₂ k entry exit from TooMany
+    pub expanding_full : {exit : List ℕ} {answer : Option ℕ} → Tried first n₁ second n₂ k scratch exit from letter answer → answer ≡ None
+        → Expanded first n₁ second n₂ k entry exit from None
     expanding_full {exit} d e = record {
       kept = unchanged_both x.kept d.kept;
       says = subst (TryAnswer first n₁ second n₂ k exit from letter) e d.says;
     }
 
     -- all letters were tried
-    pub expanding_done : k ≤ letter → Expanded first n₁ second n₂ k entry scratch from (Listed total)
+    pub expanding_done : k ≤ letter → Expanded first n₁ second n₂ k entry scratch from (Some total)
     expanding_done h = record { kept = x.kept; says = search_next x.tables x.trying.searching (omega (arith, x.up_to)) }
 
   -- no entry was tried
@@ -241,7 +240,7 @@ module _ {first : List ℕ} {n₁ : ℕ} {second : List ℕ} {n₂ k : ℕ} {ent
     listing_few = x.searching.few
 
     -- it was tried
-    pub listing_next : {exit : List ℕ} {answer : PairCount} {next : ℕ} → Expanded first n₁ second n₂ k scratch exit from answer → answer ≡ Listed next
+    pub listing_next : {exit : List ℕ} {answer : Option ℕ} {next : ℕ} → Expanded first n₁ second n₂ k scratch exit from answer → answer ≡ Some next
         → Listing first n₁ second n₂ k entry exit next (from + 1)
     listing_next {exit} d e = record {
       tables = x.tables;
@@ -250,13 +249,13 @@ module _ {first : List ℕ} {n₁ : ℕ} {second : List ℕ} {n₂ k : ℕ} {ent
     }
 
     -- there are too many pairs
-    pub listing_full : {exit : List ℕ} {answer : PairCount} → Expanded first n₁ second n₂ k scratch exit from answer → answer ≡ TooMany
-        → PairsAnswer first n₁ second n₂ k entry exit TooMany
+    pub listing_full : {exit : List ℕ} {answer : Option ℕ} → Expanded first n₁ second n₂ k scratch exit from answer → answer ≡ None
+        → PairsAnswer first n₁ second n₂ k entry exit None
     listing_full {exit} d e = record {
       kept = unchanged_both x.kept d.kept;
       says = subst (ExpandAnswer first n₁ second n₂ k exit from) e d.says;
     }
 
     -- all entries were tried
-    pub listing_done : 1 ≤ k → count < from → PairsAnswer first n₁ second n₂ k entry scratch (Listed count)
+    pub listing_done : 1 ≤ k → count < from → PairsAnswer first n₁ second n₂ k entry scratch (Some count)
     listing_done some h = record { kept = x.kept; says = search_done x.tables x.searching some h }

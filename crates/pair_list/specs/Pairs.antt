@@ -1,5 +1,5 @@
 -- The list of pairs of values as it stands in scratch, and what the search of words in two tables leaves there. Assumes nothing.
-use Rattle.std.specs.Prelude.{ℕ, zero, suc, ◌+◌, ◌*◌, ◌≤◌, ◌<◌, ◌≡◌, List, length, get_or}
+use Rattle.std.specs.Prelude.{ℕ, zero, suc, ◌+◌, ◌*◌, ◌≤◌, ◌<◌, ◌≡◌, List, length, get_or, Option, Some, None}
 use Rattle.finite.proofs.FirstWords.{FirstOrder}
 use Rattle.theory.specs.Rules.{Morphism, Lawful, Value, none, element}
 use Rattle.theory.specs.Combined.{MorePairs}
@@ -9,8 +9,6 @@ use Rattle.formats.proofs.Tables.{Table}
 use Rattle.rule_reach.specs.Reach.{word_step}
 use Rattle.scratch.specs.Bytes.{UnchangedOutside}
 use Rattle.scratch.specs.Map.{pair_numbers_base, pair_lefts_base, pair_rights_base, pair_parents_base, pair_letters_base, pairs_end}
-use Rattle.pair_list.specs.declared.PairCount.{PairCount}
-use Rattle.pair_list.specs.declared.PairCount.TheVariants.{Listed, TooMany}
 
 -- the halves of pair i of the list
 abbrev pub left_at : List ℕ → ℕ → ℕ
@@ -81,15 +79,15 @@ pub record PairList (first : List ℕ) (n₁ : ℕ) (second : List ℕ) (n₂ k 
   pub numbers : Numbers scratch count
 
 -- how many there are, or that there are more than 64
-abbrev pub ListAnswer : List ℕ → ℕ → List ℕ → ℕ → ℕ → List ℕ → PairCount → Type 0
-ListAnswer first n₁ second n₂ k exit (Listed count) = PairList first n₁ second n₂ k exit count
-ListAnswer first n₁ second n₂ k exit TooMany = MorePairs (morphism_at first n₁ k) (morphism_at second n₂ k) 64
+abbrev pub ListAnswer : List ℕ → ℕ → List ℕ → ℕ → ℕ → List ℕ → Option ℕ → Type 0
+ListAnswer first n₁ second n₂ k exit (Some count) = PairList first n₁ second n₂ k exit count
+ListAnswer first n₁ second n₂ k exit None = MorePairs (morphism_at first n₁ k) (morphism_at second n₂ k) 64
 
 -- every byte outside the list is as it was
 abbrev pub Kept : List ℕ → List ℕ → Type 0
 Kept entry exit = UnchangedOutside pair_numbers_base pairs_end entry exit
 
 -- the answer, and the bytes outside the list
-pub record PairsAnswer (first : List ℕ) (n₁ : ℕ) (second : List ℕ) (n₂ k : ℕ) (entry exit : List ℕ) (answer : PairCount) : Type 0 where
+pub record PairsAnswer (first : List ℕ) (n₁ : ℕ) (second : List ℕ) (n₂ k : ℕ) (entry exit : List ℕ) (answer : Option ℕ) : Type 0 where
   pub kept : Kept entry exit
   pub says : ListAnswer first n₁ second n₂ k exit answer

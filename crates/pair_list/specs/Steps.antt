@@ -1,9 +1,7 @@
 -- What one step of the search does to the list: the five bytes that a new pair's entry takes. Assumes nothing.
-use Rattle.std.specs.Prelude.{ℕ, ◌+◌, ◌*◌, ◌≤◌, ◌<◌, ◌≡◌, ◌≢◌, List, length, get_or}
+use Rattle.std.specs.Prelude.{ℕ, ◌+◌, ◌*◌, ◌≤◌, ◌<◌, ◌≡◌, ◌≢◌, List, length, get_or, Option, Some, None}
 use Rattle.formats.specs.RuleChecks.{scratch_size}
 use Rattle.scratch.specs.Map.{pair_numbers_base, pair_lefts_base, pair_rights_base, pair_parents_base, pair_letters_base}
-use Rattle.pair_list.specs.declared.PairCount.{PairCount}
-use Rattle.pair_list.specs.declared.PairCount.TheVariants.{Listed, TooMany}
 use Rattle.pair_list.specs.Pairs.{left_at, right_at, number_at, Kept}
 
 -- the list is there, and every number to store fits a byte
@@ -37,11 +35,11 @@ pub record Full (scratch : List ℕ) (count s t : ℕ) : Type 0 where
   pub new : number_at scratch s t ≡ 0
 
 -- the pair was added or is there, or there is no place for it
-abbrev pub AddAnswer : List ℕ → List ℕ → ℕ → ℕ → ℕ → ℕ → ℕ → PairCount → Type 0
-AddAnswer entry exit count s t from letter (Listed total) = Placed entry exit count s t from letter total
-AddAnswer entry exit count s t from letter TooMany = Full entry count s t
+abbrev pub AddAnswer : List ℕ → List ℕ → ℕ → ℕ → ℕ → ℕ → ℕ → Option ℕ → Type 0
+AddAnswer entry exit count s t from letter (Some total) = Placed entry exit count s t from letter total
+AddAnswer entry exit count s t from letter None = Full entry count s t
 
 -- the answer, and the bytes outside the list
-pub record Added (entry exit : List ℕ) (count s t from letter : ℕ) (answer : PairCount) : Type 0 where
+pub record Added (entry exit : List ℕ) (count s t from letter : ℕ) (answer : Option ℕ) : Type 0 where
   pub kept : Kept entry exit
   pub says : AddAnswer entry exit count s t from letter answer

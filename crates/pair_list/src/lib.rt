@@ -16,14 +16,8 @@ use scratch::{
     PAIR_LEFTS_BASE, PAIR_LETTERS_BASE, PAIR_NUMBERS_BASE, PAIR_PARENTS_BASE, PAIR_RIGHTS_BASE,
 };
 
-// How many pairs there are, or that there are more than 64.
-#[derive(Drop)]
-pub enum PairCount {
-    Listed(usize),
-    TooMany,
-}
-
-// Adds a pair that was found from entry `from` by a letter, unless it is there.
+// Adds a pair that was found from entry `from` by a letter, unless it is there: how many pairs there are then, or none where there are
+// more than 64.
 fn add_pair(
     scratch: &mut [u8],
     count: usize,
@@ -31,22 +25,22 @@ fn add_pair(
     t: usize,
     from: usize,
     letter: usize,
-) -> PairCount
+) -> Option<usize>
     requires { AddNeeds scratch.old count s t from letter }
     ensures { Added scratch.old scratch.new count s t from letter result }
 {
     if 0 < scratch[PAIR_NUMBERS_BASE + (s * 64 + t)] {
-        return PairCount::Listed(count);
+        return Some(count);
     }
     if 64 <= count {
-        return PairCount::TooMany;
+        return None;
     }
     scratch[PAIR_LEFTS_BASE + count] = s as u8;
     scratch[PAIR_RIGHTS_BASE + count] = t as u8;
     scratch[PAIR_PARENTS_BASE + count] = from as u8;
     scratch[PAIR_LETTERS_BASE + count] = letter as u8;
     scratch[PAIR_NUMBERS_BASE + (s * 64 + t)] = (count + 1) as u8;
-    PairCount::Listed(count + 1)
+    Some(count + 1)
 }
 
 // Tries a letter at entry `from`: the halves after it are found as in each rule's own worklist, and their pair is added.
@@ -60,7 +54,7 @@ fn try_letter(
     count: usize,
     from: usize,
     letter: usize,
-) -> PairCount
+) -> Option<usize>
     requires two_tables { TwoTables first.now n1 second.now n2 k }
     requires trying { Trying first.now n1 second.now n2 k scratch.old count from letter }
     requires letter_lt_k { letter < k }
@@ -81,25 +75,20 @@ fn expand(
     scratch: &mut [u8],
     count: usize,
     from: usize,
-) -> PairCount
+) -> Option<usize>
     requires two_tables { TwoTables first.now n1 second.now n2 k }
     requires trying { Trying first.now n1 second.now n2 k scratch.old count from 0 }
     ensures { Expanded first.now n1 second.now n2 k scratch.old scratch.new from result }
 {
     let mut total = count;
     for letter in 0..k {
-        let next = match try_letter(first, n1, second, n2, k, scratch, total, from, letter) {
-            PairCount::Listed(c) => c,
-            PairCount::TooMany => {
-                return PairCount::TooMany;
-            }
-        };
-        total = next;
+        total = try_letter(first, n1, second, n2, k, scratch, total, from, letter)?;
     }
-    PairCount::Listed(total)
+    Some(total)
 }
 
-// The pairs of values of all non-empty words, each once, in the order of their first words, or that there are more than 64.
+// The pairs of values of all non-empty words, each once, in the order of their first words: how many they are, or none where there are
+// more than 64.
 pub fn list_pairs(
     first: &[u8],
     n1: usize,
@@ -107,7 +96,7 @@ pub fn list_pairs(
     n2: usize,
     k: usize,
     scratch: &mut [u8],
-) -> PairCount
+) -> Option<usize>
     requires two_tables { TwoTables first.now n1 second.now n2 k }
     requires empty { Empty scratch.old }
     requires le_k { 1 ≤ k }
@@ -115,15 +104,10 @@ pub fn list_pairs(
 {
     let mut count = 0;
     let mut from = 0;
+    // A while: the list grows on the way, so that no range has its entries beforehand.
     while from <= count {
-        let next = match expand(first, n1, second, n2, k, scratch, count, from) {
-            PairCount::Listed(c) => c,
-            PairCount::TooMany => {
-                return PairCount::TooMany;
-            }
-        };
-        count = next;
+        count = expand(first, n1, second, n2, k, scratch, count, from)?;
         from += 1;
     }
-    PairCount::Listed(count)
+    Some(count)
 }

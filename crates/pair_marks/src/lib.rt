@@ -18,27 +18,9 @@ pub fn combine_grades(operation: Operation, a: u8, b: u8) -> u8
     ensures { result ≡ combined_grade operation a b }
 {
     match operation {
-        Operation::Both => {
-            if a < b {
-                return a;
-            }
-            b
-        }
-        Operation::Either => {
-            if a < b {
-                return b;
-            }
-            a
-        }
-        Operation::Without => {
-            if 3 <= b {
-                return 0;
-            }
-            if a < 3 - b {
-                return a;
-            }
-            3 - b
-        }
+        Operation::Both => a.min(b),
+        Operation::Either => a.max(b),
+        Operation::Without => a.min(3u8.saturating_sub(b)),
     }
 }
 
@@ -65,8 +47,7 @@ fn mark_byte(operation: Operation, count: usize, scratch: &[u8], i: usize, j: us
     requires i_lt_count { (i < count) × (j < count) }
     ensures { PairMark operation count scratch.now i j result }
 {
-    let linked = laid_linked(scratch, count, i, j);
-    if !linked {
+    if !laid_linked(scratch, count, i, j) {
         return 0;
     }
     pair_grade(operation, count, scratch, i, j)
@@ -78,6 +59,7 @@ fn marks_row(operation: Operation, count: usize, scratch: &mut [u8], i: usize)
     requires i_lt_count { i < count }
     ensures { RowFilled (PairMark operation count scratch.old i) (laid_marks_base + i * 64) count scratch.old scratch.new }
 {
+    // By index: each byte is worked out from the slice that it is written to.
     for j in 0..count {
         let mark = mark_byte(operation, count, scratch, i, j);
         scratch[LAID_MARKS_BASE + (i * 64 + j)] = mark;

@@ -63,6 +63,7 @@ fn products_row(
     requires i_lt_count { i < count }
     ensures { RowFilled (λ j byte. byte + 1 ≡ pair_product first.now n1 second.now n2 scratch.old i j) (laid_products_base + i * count) count scratch.old scratch.new }
 {
+    // By index: each byte is worked out from the slice that it is written to.
     for j in 0..count {
         let place = pair_product(first, n1, second, n2, k, count, scratch, i, j);
         scratch[LAID_PRODUCTS_BASE + (i * count + j)] = place;
@@ -102,6 +103,7 @@ pub fn lay_images(
     requires pairs_needs { PairsNeeds first.now n1 second.now n2 k count scratch.old }
     ensures { RowFilled (λ x byte. byte + 1 ≡ pair_image first.now n1 second.now n2 scratch.old x) laid_images_base k scratch.old scratch.new }
 {
+    // By index: each byte is worked out from the slice that it is written to.
     for x in 0..k {
         let s = image(first, n1, x);
         let t = image(second, n2, x);

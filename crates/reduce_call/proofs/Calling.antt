@@ -1,5 +1,7 @@
 -- What the call for the reduction promises, from what the check of the rule, the verdict on its strength and the writing of its
 -- reduction promise. Assumes nothing.
+use Rattle.std.specs.Prelude.{Ok, Err}
+use Rattle.answer.proofs.Parts.{refused_by}
 use Prim.Native.Nat.{ℕ, ◌≤◌, ◌<◌}
 use mathlib.Core.Path.{◌≡◌, refl, sym, subst, ◌∙◌}
 use mathlib.Core.Bool.{Bool, true, false}
@@ -16,7 +18,6 @@ use Rattle.formats.specs.RuleFile.{morphism_of, marking_of}
 use Rattle.formats.specs.RuleChecks.{rule_size}
 use Rattle.formats.proofs.Buffers.{buffer_short, buffer_long}
 use Rattle.rule_layout.specs.declared.Shape.{Shape}
-use Rattle.rule_check.specs.declared.Checked.TheVariants.{Rule as Checked-rule, Refused as Checked-refused}
 use Rattle.rule_check.specs.Answers.{CheckPromise}
 use Rattle.formats.specs.Calls.{after_call, scratch_left}
 use Rattle.rule_check.proofs.Left.{short_left, long_left}
@@ -56,7 +57,7 @@ module _ (bytes out map entry : List ℕ) (out_long : rule_size ≤ length out) 
     long_both e = left (long_left map_size map entry map-long e)
 
     -- the check's refusal is handed on
-    pub reduce_refused : {mid : List ℕ} {r : Refusal} {input place : ℕ} → CheckPromise 1 bytes entry mid (Checked-refused r input place)
+    pub reduce_refused : {mid : List ℕ} {r : Refusal} {input place : ℕ} → CheckPromise 1 bytes entry mid (Err (refused_by r input place))
         → ReducePromise bytes out out map map entry mid (Refused r input place)
     reduce_refused {r = r} {input} {place} p = record {
       refusal = file_first bytes out map entry out_long map-long r input place p.refusal;
@@ -65,7 +66,7 @@ module _ (bytes out map entry : List ℕ) (out_long : rule_size ≤ length out) 
     }
 
     -- of a checked rule
-    module _ {shape : Shape} {mid decided : List ℕ} {answer : Bool} (p : CheckPromise 1 bytes entry mid (Checked-rule shape))
+    module _ {shape : Shape} {mid decided : List ℕ} {answer : Bool} (p : CheckPromise 1 bytes entry mid (Ok shape))
         (d : Decided (morphism_at bytes shape.elements shape.letters) mid decided answer) where
       good : GoodRule bytes
       good = called_good 1 bytes entry p.refusal

@@ -6,12 +6,12 @@
 
 ghost use Rattle.promises.specs.Reduce.{ReducePromise};
 
-use answer::Refusal;
+use answer::{Refusal, Refused};
 use formats::RULE_SIZE;
 use mark_strong::decide;
 use promises::{MAP_SIZE, Written};
 use reduce_output::write_reduced;
-use rule_check::{Checked, check};
+use rule_check::check;
 use sections::zero;
 
 // Checks a rule and writes its reduction, with the map of its elements to those of the reduction, or refuses it. Scratch ends as zeros, but
@@ -34,12 +34,12 @@ pub fn reduce(rule: &[u8], out: &mut [u8], map: &mut [u8], scratch: &mut [u8]) -
         };
     }
     let shape = match check(rule, 1, scratch) {
-        Checked::Rule(shape) => shape,
-        Checked::Refused {
+        Ok(shape) => shape,
+        Err(Refused {
             refusal,
             input,
             place,
-        } => {
+        }) => {
             return Written::Refused {
                 refusal,
                 input,

@@ -1,60 +1,64 @@
--- The new blocks compared with those that stand, and taken over, one after the other. Assumes nothing.
-use Prim.Native.Nat.{ℕ, ◌+◌, ◌≤◌, ◌<◌}
-use mathlib.Core.Path.{◌≡◌, ◌∙◌}
-use mathlib.Core.Logic.{◌≢◌}
-use mathlib.Core.Bool.{true, false}
-use mathlib.Core.List.{List}
-use native.Mathlib.Omega.{arith}
+-- The new blocks compared with those that stand. Assumes nothing.
+use Rattle.std.proofs.Common.{◌≡◌, ℕ, ◌+◌, ◌-◌, ◌<◌, ◌≤◌, ◌⊎◌, Bool, true, false, not, List, length, get_or, take, drop, refl, sym, ap, ◌∙◌, inl, inr, arith}
+use Rattle.std.proofs.lemmas.Grind.{common_steps}
+use Rattle.std.proofs.lemmas.List.{ext_get_or}
+use Rattle.std.proofs.lemmas.Slice.Eq.{slice_eq-Decides}
+use Rattle.std.proofs.lemmas.Bool.Decides.{Decides-eqb}
+use Rattle.std.proofs.Math.Dec.{eqb, T}
+use Rattle.std.proofs.Math.Facts.{eqb_no, no_eqb}
+use lib.Pointwise.{pointwise}
 use native.Mathlib.Decide.{ℕ_discrete}
-use lib.ListN.{length, get_or, set}
-use lib.Seq.{get_or-set_same, get_or-set_other}
+use mathlib.Core.Logic.{by_cases}
+use borrow.Author.Tests.{not-true, not-false}
 use Rattle.finite.specs.Tells.{Tells}
-use Rattle.finite.proofs.Tells.{told_yes, told_no}
+use Rattle.finite.proofs.Search.{Found, found_or_none}
 use Rattle.scratch.specs.Map.{blocks_base, next_blocks_base}
-use Rattle.scratch.proofs.Unchanged.{unchanged_none, unchanged_both, unchanged_set}
-use Rattle.formats.specs.RuleChecks.{scratch_size}
-use Rattle.reduce_next_round.specs.Round.{BlockChanges, TakenOver}
+use Rattle.reduce_next_round.specs.Round.{BlockChanges}
 
--- the blocks of the first s elements do not change
-pub record SameBelow (s : ℕ) (l : List ℕ) : Type 0 where
-  pub same : (t : ℕ) → t < s → get_or l (next_blocks_base + t) 0 ≡ get_or l (blocks_base + t) 0
+-- the bytes of a part
+module _ (l : List ℕ) (base c : ℕ) (room : base + c ≤ length l) where
+  part_many : length (take (base + c - base) (drop base l)) ≡ c
+  part_many = grind (arith, common_steps)
 
-module _ {l : List ℕ} where
-  pub same_none : SameBelow 0 l
-  same_none = record { same = λ t h. absurd (omega arith) }
+  part_item : (j : ℕ) → j < c → get_or (take (base + c - base) (drop base l)) j 0 ≡ get_or l (base + j) 0
+  part_item j h = grind (arith, common_steps)
 
-  pub same_more : {s : ℕ} → SameBelow s l → get_or l (next_blocks_base + s) 0 ≡ get_or l (blocks_base + s) 0 → SameBelow (s + 1) l
-  same_more {s} w e = record { same = λ t h. at t h (ℕ_discrete t s) }
+module _ (l : List ℕ) (n from to : ℕ) (from_room : from + n ≤ length l) (to_room : to + n ≤ length l) where
+  abbrev parts_equal : Bool
+  parts_equal = pointwise eqb (take (from + n - from) (drop from l)) (take (to + n - to) (drop to l))
+
+  decided : (parts_equal ≡ true → take (from + n - from) (drop from l) ≡ take (to + n - to) (drop to l))
+      × (take (from + n - from) (drop from l) ≡ take (to + n - to) (drop to l) → parts_equal ≡ true)
+  decided = slice_eq-Decides Decides-eqb (take (from + n - from) (drop from l)) (take (to + n - to) (drop to l)) parts_equal refl
+
+  -- equal parts have the same bytes
+  pub same_bytes : parts_equal ≡ true → (k : ℕ) → k < n → get_or l (from + k) 0 ≡ get_or l (to + k) 0
+  same_bytes e k h =
+      sym (part_item l from n from_room k h) ∙ ap (λ (xs : List ℕ). get_or xs k 0) (decided.0 e) ∙ part_item l to n to_room k h
+
+  -- and parts that are not equal have a byte that differs
+  pub other_byte : parts_equal ≡ false → Found n (λ k. not (eqb (get_or l (from + k) 0) (get_or l (to + k) 0)))
+  other_byte e = go (found_or_none n (λ k. not (eqb (get_or l (from + k) 0) (get_or l (to + k) 0))))
     where
-      at : (t : ℕ) → t < s + 1 → Dec (t ≡ s) → get_or l (next_blocks_base + t) 0 ≡ get_or l (blocks_base + t) 0
-      at t h (yes q) = rw q e
-      at t h (no g) = let d : t ≢ s = g in w.same t (omega arith)
+      go : Found n (λ k. not (eqb (get_or l (from + k) 0) (get_or l (to + k) 0))) ⊎ ((i : ℕ) → i < n → T (not (eqb (get_or l (from + i) 0) (get_or l (to + i) 0))) → ⊥)
+          → Found n (λ k. not (eqb (get_or l (from + k) 0) (get_or l (to + k) 0)))
+      go (inl f) = f
+      go (inr none) =
+          let alike : take (from + n - from) (drop from l) ≡ take (to + n - to) (drop to l) =
+          ext_get_or 0 _ _ (part_many l from n from_room ∙ sym (part_many l to n to_room))
+          (λ k h. let below : k < n = omega (arith, part_many l from n from_room) in
+          part_item l from n from_room k below
+          ∙ by_cases (ℕ_discrete (get_or l (from + k) 0) (get_or l (to + k) 0)) (λ q. q) (λ g. absurd (none k below (no_eqb g)))
+          ∙ sym (part_item l to n to_room k below)) in
+          let equal = decided.1 alike in
+          cc
 
-  pub change_found : {n s : ℕ} → s < n → (get_or l (next_blocks_base + s) 0 ≡ get_or l (blocks_base + s) 0 → ⊥) → Tells (BlockChanges n l) true
-  change_found {s = s} h g = told_yes (record { at = s; below = h; differs = g })
-
-  pub no_change : {n s : ℕ} → n ≤ s → SameBelow s l → Tells (BlockChanges n l) false
-  no_change h w = told_no (λ c. c.differs (w.same c.at (omega (arith, c.below))))
-
--- none taken over
-pub taken_none : (l : List ℕ) → TakenOver 0 l l
-taken_none l = record { blocks = λ s h. absurd (omega arith); kept = unchanged_none blocks_base next_blocks_base l }
-
--- one more
-pub taken_more : {s : ℕ} {entry now : List ℕ} → s < 64 → scratch_size ≤ length now → TakenOver s entry now
-    → TakenOver (s + 1) entry (set now (blocks_base + s) (get_or now (next_blocks_base + s) 0))
-taken_more {s} {entry} {now} hs room w = record {
-  blocks = λ t h. block t h (ℕ_discrete t s);
-  kept = unchanged_both w.kept (unchanged_set now (blocks_base + s) new (omega arith) (omega arith));
+-- whether a block changes
+pub changes_told : {n : ℕ} {l : List ℕ} {answer : Bool} (h : next_blocks_base + n ≤ length l) (g : blocks_base + n ≤ length l)
+    → answer ≡ not (parts_equal l n next_blocks_base blocks_base h g) → Tells (BlockChanges n l) answer
+changes_told {n} {l} {answer} h g e = record {
+  holds = λ q.
+      let f = other_byte l n next_blocks_base blocks_base h g (not-true _ (sym e ∙ q)) in
+      record { at = f.at; below = f.below; differs = eqb_no f.holds };
+  fails = λ q c. c.differs (same_bytes l n next_blocks_base blocks_base h g (not-false _ (sym e ∙ q)) c.at c.below);
 }
-  where
-    new : ℕ
-    new = get_or now (next_blocks_base + s) 0
-
-    block : (t : ℕ) → t < s + 1 → Dec (t ≡ s) → get_or (set now (blocks_base + s) new) (blocks_base + t) 0 ≡ get_or entry (next_blocks_base + t) 0
-    block t h (yes e) = rw e (get_or-set_same now (blocks_base + s) new 0 (omega arith) ∙ w.kept.after (next_blocks_base + s) (omega arith))
-    block t h (no g) = let d : t ≢ s = g in get_or-set_other now (blocks_base + s) (blocks_base + t) new 0 (λ e. omega arith) ∙ w.blocks t (omega arith)
-
--- all
-pub taken_all : {n s : ℕ} {entry now : List ℕ} → n ≤ s → TakenOver s entry now → TakenOver n entry now
-taken_all h w = record { blocks = λ t l. w.blocks t (omega arith); kept = w.kept }

@@ -17,12 +17,7 @@ fn changes(n: usize, scratch: &[u8]) -> bool
     requires scratch_size_in_bounds { scratch_size ≤ length scratch.now }
     ensures { Tells (BlockChanges n scratch.now) result }
 {
-    for s in 0..n {
-        if scratch[NEXT_BLOCKS_BASE + s] != scratch[BLOCKS_BASE + s] {
-            return true;
-        }
-    }
-    false
+    scratch[NEXT_BLOCKS_BASE..NEXT_BLOCKS_BASE + n] != scratch[BLOCKS_BASE..BLOCKS_BASE + n]
 }
 
 // Looks at a further round and does not take it: its blocks are worked out beside those that stand. True if it would change one.
@@ -41,7 +36,5 @@ pub fn take(n: usize, scratch: &mut [u8])
     requires scratch_size_in_bounds { scratch_size ≤ length scratch.old }
     ensures { TakenOver n scratch.old scratch.new }
 {
-    for s in 0..n {
-        scratch[BLOCKS_BASE + s] = scratch[NEXT_BLOCKS_BASE + s];
-    }
+    scratch.copy_within(NEXT_BLOCKS_BASE..NEXT_BLOCKS_BASE + n, BLOCKS_BASE);
 }

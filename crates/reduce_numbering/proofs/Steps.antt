@@ -1,11 +1,12 @@
 -- One entry of the worklist after the other: an element's number is stored, and the leader of a new block. Assumes nothing.
-use Prim.Native.Nat.{ℕ, ◌+◌, ◌≤◌, ◌<◌}
+use Prim.Native.Nat.{ℕ, ◌+◌, ◌-◌, ◌≤◌, ◌<◌}
 use mathlib.Core.Path.{◌≡◌, refl, sym, ap, subst, ◌∙◌}
 use mathlib.Core.Logic.{◌≢◌}
 use mathlib.Core.List.{List}
 use native.Mathlib.Omega.{arith}
 use native.Mathlib.Decide.{ℕ_discrete}
-use lib.ListN.{length, get_or, set, length-set}
+use lib.ListN.{length, get_or, set, take, drop, length-set}
+use Rattle.std.proofs.lemmas.Grind.{common_steps}
 use lib.Seq.{get_or-set_same, get_or-set_other}
 use Rattle.scratch.specs.Map.{blocks_base, leaders_base, leaders_end, numbers_base}
 use Rattle.rule_reach.specs.Reach.{place_at}
@@ -33,6 +34,21 @@ module _ {scratch : List ℕ} {s : ℕ} where
 
   pub sought_none : {c j : ℕ} → c ≤ j → NoneSo scratch s j → Sought scratch c s c
   sought_none h w = record { at_most = omega arith; found = λ l. absurd (omega arith); first = λ j l. w.none j (omega arith) }
+
+-- the bytes of a part, and the entries as the front of the worklist
+module _ (l : List ℕ) (base c : ℕ) (room : base + c ≤ length l) where
+  pub part_many : length (take (base + c - base) (drop base l)) ≡ c
+  part_many = grind (arith, common_steps)
+
+  pub part_item : (j : ℕ) → j < c → get_or (take (base + c - base) (drop base l)) j 0 ≡ get_or l (base + j) 0
+  part_item j h = grind (arith, common_steps)
+
+module _ (queue : List ℕ) (count : ℕ) (room : count ≤ length queue) where
+  pub entries_many : length (take count queue) ≡ count
+  entries_many = grind (arith, common_steps)
+
+  pub entry_item : (i : ℕ) → i < count → get_or (take count queue) i 0 ≡ get_or queue i 0
+  entry_item i h = grind (arith, common_steps)
 
 -- no leader was found: s becomes one
 pub taken_next : {entry exit : List ℕ} {c s j : ℕ} → Sought entry c s j → c ≤ j → exit ≡ set (set entry (numbers_base + s) j) (leaders_base + c) s → Taken entry exit c s (c + 1)

@@ -20,9 +20,8 @@ fn find(scratch: &[u8], c: usize, s: usize) -> usize
     ensures { Sought scratch.now c s result }
 {
     let block = scratch[BLOCKS_BASE + s];
-    for j in 0..c {
-        let leader = scratch[LEADERS_BASE + j] as usize;
-        if scratch[BLOCKS_BASE + leader] == block {
+    for (j, leader) in scratch[LEADERS_BASE..LEADERS_BASE + c].iter().enumerate() {
+        if scratch[BLOCKS_BASE + *leader as usize] == block {
             return j;
         }
     }
@@ -51,9 +50,8 @@ fn number_elements(queue: &[u8], n: usize, count: usize, scratch: &mut [u8]) -> 
     ensures { Numbered queue.now n count result scratch.old scratch.new }
 {
     let mut c = 0;
-    for i in 0..count {
-        let s = queue[i] as usize;
-        c = number_element(scratch, c, s);
+    for s in &queue[..count] {
+        c = number_element(scratch, c, *s as usize);
     }
     c
 }

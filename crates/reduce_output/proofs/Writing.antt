@@ -1,9 +1,9 @@
 -- The blocks that the rounds leave are numbered and written, and their numbers are copied out. Assumes nothing.
-use Prim.Native.Nat.{ℕ, ◌-◌, ◌≤◌, ◌<◌}
-use mathlib.Core.Path.{◌≡◌, sym, ◌∙◌}
-use mathlib.Core.List.{List}
+use Prim.Native.Nat.{ℕ, ◌+◌, ◌-◌, ◌≤◌, ◌<◌}
+use mathlib.Core.Path.{◌≡◌, sym, ap, ◌∙◌}
+use mathlib.Core.List.{List, ◌++◌}
 use native.Mathlib.Omega.{arith}
-use lib.ListN.{length, take, drop, length-drop}
+use lib.ListN.{length, take, drop}
 use Rattle.scratch.specs.Map.{numbers_base}
 use Rattle.theory.specs.Rules.{Morphism}
 use Rattle.reduce_first_round.specs.Map.{outcome_of, outcome_at}
@@ -15,11 +15,9 @@ use Rattle.reduce_first_round.proofs.OutcomeBytes.{outcome_below}
 use Rattle.reduce_numbering.specs.Steps.{leader_at}
 use Rattle.reduce_numbering.specs.Numbering.{NumberedAs, BlocksNumbered}
 use Rattle.formats.specs.RuleChecks.{scratch_size}
-use Rattle.formats.proofs.SectionList.{rest_of}
 use Rattle.reduce_rule.specs.Steps.{QuotientNeeds, QuotientWritten}
 use Rattle.reduce_output.specs.Steps.{ReduceNeeds, ReducedWritten}
-use Rattle.rule_bytes.specs.Writing.{Written, CopyNeeds}
-use Rattle.rule_bytes.proofs.CopiedParts.{part_entry, copied_part}
+use Rattle.rule_bytes.proofs.CopiedParts.{part_entry, part_length}
 use Rattle.promises.specs.Rounds.{most_rounds}
 use Rattle.reduce_output.proofs.Order.{quotient_by_first_words}
 
@@ -36,12 +34,6 @@ module _ {m : Morphism} {entry settled numbered out map : List ℕ} {c : ℕ} {r
   numbered_room : scratch_size ≤ length numbered
   numbered_room = unchanged_room b.kept (unchanged_room r.kept p.room)
 
-  pub copy_place : CopyNeeds (take (length numbered - numbers_base) (drop numbers_base numbered)) m.size map 0
-  copy_place = record {
-    enough = rw (rest_of numbered numbers_base) (omega (arith, small, numbered_room, length-drop numbers_base numbered));
-    room = omega (arith, small, p.map_room);
-  }
-
   pub quotient_place : QuotientNeeds m.size m.letters c numbered out
   quotient_place = record {
     some = b.some;
@@ -53,10 +45,24 @@ module _ {m : Morphism} {entry settled numbered out map : List ℕ} {c : ℕ} {r
   outcomes_stand : (s z : ℕ) → s < m.size → z < m.size → outcome_at numbered s z ≡ outcome_of m entry s z
   outcomes_stand s z hs hz = outcome_below s z (omega arith) (omega arith) (omega arith) b.kept ∙ r.outcomes s z hs hz
 
-  pub reduced_written : {exit after map_after : List ℕ} {end copied : ℕ} → QuotientWritten m c numbered exit out after end
-      → Written map 0 (take m.size (take (length numbered - numbers_base) (drop numbers_base numbered))) map_after copied
-      → ReducedWritten m entry exit out after map map_after end
-  reduced_written w copy = record {
+  -- the numbers of the elements' blocks
+  abbrev numbers_part : List ℕ
+  numbers_part = take m.size (drop numbers_base numbered)
+
+  numbers_many : length numbers_part ≡ m.size
+  numbers_many = part_length numbered numbers_base m.size (omega (arith, small, numbered_room))
+
+  copied : {part : List ℕ} → part ≡ take (numbers_base + m.size - numbers_base) (drop numbers_base numbered)
+      → part ++ drop m.size map ≡ numbers_part ++ drop (length numbers_part) map
+  copied q =
+      let many : numbers_base + m.size - numbers_base ≡ m.size = omega arith in
+      ap (λ (l : List ℕ). l ++ drop m.size map) (q ∙ ap (λ (k : ℕ). take k (drop numbers_base numbered)) many)
+      ∙ ap (λ (k : ℕ). numbers_part ++ drop k map) (sym numbers_many)
+
+  pub reduced_written : {exit after part : List ℕ} {end : ℕ} → QuotientWritten m c numbered exit out after end
+      → part ≡ take (numbers_base + m.size - numbers_base) (drop numbers_base numbered)
+      → ReducedWritten m entry exit out after map (part ++ drop m.size map) end
+  reduced_written w q = record {
     same_length = w.same_length ∙ b.kept.same_length ∙ r.kept.same_length;
     count = c;
     some = b.some;
@@ -64,7 +70,7 @@ module _ {m : Morphism} {entry settled numbered out map : List ℕ} {c : ℕ} {r
     numbering = numbering_of.numbering;
     in_order = quotient_by_first_words p.lawful numbering_of b.in_order;
     written = w.written (outcome_of m entry) numbering_of outcomes_stand;
-    map = take m.size (drop numbers_base numbered);
+    map = numbers_part;
     numbers = λ s h. part_entry numbered numbers_base m.size s h ∙ sym (numbering_of.numbers s);
-    map_written = copied_part numbered numbers_base m.size (omega (arith, numbered_room)) copy;
+    map_written = record { holds = copied q; counts = sym numbers_many };
   }

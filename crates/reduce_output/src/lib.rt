@@ -10,7 +10,6 @@ use promises::MOST_ROUNDS;
 use reduce_numbering::number_blocks;
 use reduce_rounds::refine;
 use reduce_rule::write_quotient;
-use rule_bytes::copy;
 use scratch::NUMBERS_BASE;
 
 // Writes the reduction of a strong rule, from the closure of its marks in scratch, and the number of each element's block.
@@ -28,7 +27,6 @@ pub fn write_reduced(
 {
     refine(rule, n, k, MOST_ROUNDS, scratch);
     let c = number_blocks(rule, n, k, scratch);
-    let numbers = &scratch[NUMBERS_BASE..];
-    copy(numbers, n, map, 0);
+    map[..n].copy_from_slice(&scratch[NUMBERS_BASE..NUMBERS_BASE + n]);
     write_quotient(rule, n, k, c, scratch, out)
 }

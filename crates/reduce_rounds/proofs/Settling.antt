@@ -1,15 +1,16 @@
 -- Rounds until one would change nothing, or a limit is reached, end no later than at the first stable round. Assumes nothing.
 use Prim.Native.Nat.{ℕ, suc, ◌+◌, ◌≤◌, ◌<◌}
 use mathlib.Core.Path.{◌≡◌, refl, sym, subst, ◌∙◌}
-use mathlib.Core.Bool.{Bool, true, false}
+use mathlib.Core.Bool.{Bool, true, false, not}
 use mathlib.Core.Logic.{◌≢◌, by_cases}
 use mathlib.Core.List.{List}
 use native.Mathlib.Omega.{arith}
+use borrow.Author.Tests.{not-true, not-false}
 use native.Mathlib.Decide.{ℕ_discrete}
 use native.Mathlib.Numerals.{add-one}
 use lib.ListN.{get_or}
 use Rattle.finite.specs.Tells.{Tells}
-use Rattle.finite.proofs.Tells.{told_yes, told_no}
+use Rattle.finite.proofs.Tells.{told_yes}
 use Rattle.theory.specs.Rules.{Morphism}
 use Rattle.theory.specs.Rounds.{Together, Stable}
 use Rattle.minimality.proofs.Rounds.{together_sym, together_trans, together_before, same_outcomes_carry}
@@ -129,11 +130,18 @@ module _ {m : Morphism} {start now : List ℕ} {i : ℕ} (w : Running m start no
         running_refined some st within (told_yes (unchanged_is_stable small (w.runs (outcome_of m entry) st.blocks).blocks r e))
         (λ q. absurd (let z : ◌≡◌ {A = ℕ} 0 1 = cc in omega arith))
 
-    -- it would change a block, and the limit is reached
-    pub running_stopped : {entry : List ℕ} {limit : ℕ} → 1 ≤ m.size → Started m entry start → i ≡ limit → answer ≡ true
-        → RoundsRefined m limit entry next (record { rounds = i; finished = false })
-    running_stopped {entry} some st at_limit e =
-        running_refined some st (omega (arith, at_limit)) (told_no (changed_not_stable small (w.runs (outcome_of m entry) st.blocks).blocks r e)) (λ q. at_limit)
+    -- as many rounds as the limit were taken
+    pub running_last : {entry : List ℕ} {limit : ℕ} → 1 ≤ m.size → Started m entry start → i ≡ limit
+        → RoundsRefined m limit entry next (record { rounds = limit; finished = not answer })
+    running_last {entry} {limit} some st at_limit =
+        subst (λ (j : ℕ). RoundsRefined m limit entry next (record { rounds = j; finished = not answer })) at_limit
+        (running_refined some st (omega (arith, at_limit)) told (λ q. at_limit))
+      where
+        told : Tells (Stable m (outcome_of m entry) i) (not answer)
+        told = record {
+          holds = λ q. unchanged_is_stable small (w.runs (outcome_of m entry) st.blocks).blocks r (not-true _ q);
+          fails = λ q. changed_not_stable small (w.runs (outcome_of m entry) st.blocks).blocks r (not-false _ q);
+        }
 
 -- with a limit that the size does not exceed they are finished
 pub refined_finished : {m : Morphism} {limit : ℕ} {entry exit : List ℕ} {r : Refined} → m.size ≤ limit → RoundsRefined m limit entry exit r

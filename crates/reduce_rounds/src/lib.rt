@@ -30,21 +30,18 @@ pub fn refine(rule: &[u8], n: usize, k: usize, limit: usize, scratch: &mut [u8])
 {
     outcomes(rule, n, k, scratch);
     first_blocks(rule, n, k, scratch);
-    let mut rounds = 0;
-    loop {
+    for rounds in 0..limit {
         if !look(rule, n, k, scratch) {
             return Refined {
                 rounds,
                 finished: true,
             };
         }
-        if rounds == limit {
-            return Refined {
-                rounds,
-                finished: false,
-            };
-        }
         take(n, scratch);
-        rounds += 1;
+    }
+    let finished = !look(rule, n, k, scratch);
+    Refined {
+        rounds: limit,
+        finished,
     }
 }

@@ -1,4 +1,6 @@
 -- What the call for the rounds promises, from what the check of the rule, the verdict on its strength and the rounds promise. Assumes nothing.
+use Rattle.std.specs.Prelude.{Ok, Err}
+use Rattle.answer.proofs.Parts.{refused_by}
 use Prim.Native.Nat.{ℕ, ◌+◌, ◌-◌, ◌≤◌, ◌<◌}
 use mathlib.Core.Path.{◌≡◌, refl, sym, subst}
 use mathlib.Core.Bool.{Bool, true, false}
@@ -22,7 +24,6 @@ use Rattle.formats.specs.RuleChecks.{scratch_size}
 use Rattle.formats.specs.RuleFile.{elements_of, morphism_of, marking_of}
 use Rattle.formats.proofs.Buffers.{buffer_short, buffer_long}
 use Rattle.rule_layout.specs.declared.Shape.{Shape}
-use Rattle.rule_check.specs.declared.Checked.TheVariants.{Rule as Checked-rule, Refused as Checked-refused}
 use Rattle.rule_check.specs.Answers.{CheckPromise}
 use Rattle.formats.specs.Calls.{checked_checks}
 use Rattle.rule_check.proofs.Left.{short_left, long_left}
@@ -70,7 +71,7 @@ blocks_short bytes limit blocks scratch h = record {
 
 module _ (bytes : List ℕ) (limit : ℕ) (blocks entry : List ℕ) (long : blocks_size ≤ length blocks) where
   -- the check's refusal is handed on
-  pub rounds_refused : {mid : List ℕ} {r : Refusal} {input place : ℕ} → CheckPromise 1 bytes entry mid (Checked-refused r input place)
+  pub rounds_refused : {mid : List ℕ} {r : Refusal} {input place : ℕ} → CheckPromise 1 bytes entry mid (Err (refused_by r input place))
       → RoundsPromise bytes limit blocks blocks entry mid (Refused r input place)
   rounds_refused p = record {
     refusal = buffer_long long (refused_before (checked_checks 1 bytes entry) (limit_check limit ∷ weak_check 1 bytes ∷ []) p.refusal);
@@ -79,7 +80,7 @@ module _ (bytes : List ℕ) (limit : ℕ) (blocks entry : List ℕ) (long : bloc
   }
 
   -- of a checked rule
-  module _ {shape : Shape} {mid : List ℕ} (p : CheckPromise 1 bytes entry mid (Checked-rule shape)) where
+  module _ {shape : Shape} {mid : List ℕ} (p : CheckPromise 1 bytes entry mid (Ok shape)) where
     -- a limit above 64 is refused
     pub rounds_limit : (end : List ℕ) → end ≡ replicate (length mid) 0 → most_rounds < limit → RoundsPromise bytes limit blocks blocks entry end (Refused LimitOutOfRange 1 0)
     rounds_limit end z h = record {

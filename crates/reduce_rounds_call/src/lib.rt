@@ -10,12 +10,12 @@ ghost use Rattle.formats.specs.RuleChecks.{scratch_size};
 ghost use Rattle.reduce_rounds_call.specs.Steps.{BlocksGiven};
 ghost use Rattle.promises.specs.Rounds.{blocks_size, RoundsPromise};
 
-use answer::Refusal;
+use answer::{Refusal, Refused};
 use mark_strong::decide;
 use promises::{BLOCKS_SIZE, MOST_ROUNDS, Partition};
 use reduce_rounds::{Refined, refine};
 use rule_bytes::copy;
-use rule_check::{Checked, check};
+use rule_check::check;
 use scratch::BLOCKS_BASE;
 use sections::zero;
 
@@ -53,12 +53,12 @@ pub fn reduce_rounds(rule: &[u8], limit: usize, blocks: &mut [u8], scratch: &mut
         };
     }
     let shape = match check(rule, 1, scratch) {
-        Checked::Rule(shape) => shape,
-        Checked::Refused {
+        Ok(shape) => shape,
+        Err(Refused {
             refusal,
             input,
             place,
-        } => {
+        }) => {
             return Partition::Refused {
                 refusal,
                 input,

@@ -3,15 +3,14 @@ use Prim.Native.Nat.{ℕ}
 use mathlib.Core.Path.{◌≡◌, sym, ap, ◌∙◌, subst}
 use mathlib.Core.List.{List}
 use lib.ListN.{length, replicate}
-use Rattle.answer.specs.declared.Refusal.{Refusal}
+use Rattle.std.specs.Prelude.{Result, Ok, Err}
+use Rattle.answer.specs.declared.Refused.{Refused}
 use Rattle.answer.specs.Checks.{passed, FirstFailure}
 use Rattle.formats.proofs.Tables.{Table}
 use Rattle.formats.specs.Table.{morphism_at}
 use Rattle.formats.specs.RuleFile.{elements_of, letters_of, morphism_of}
 use Rattle.rule_layout.specs.declared.Shape.{Shape}
 use Rattle.rule_layout.specs.Answers.{IsShape}
-use Rattle.rule_check.specs.declared.Checked.{Checked}
-use Rattle.rule_check.specs.declared.Checked.TheVariants.{Rule, Refused}
 use Rattle.rule_check.specs.Answers.{CheckPromise, RuleChecked}
 use Rattle.formats.specs.Calls.{checked_checks, after_call}
 use Rattle.rule_check.proofs.Promise.{zeros_after}
@@ -23,11 +22,11 @@ module _ (input : ℕ) (bytes entry : List ℕ) (all : FirstFailure (checked_che
   zeros_left mid exit e z = z ∙ ap (λ (x : ℕ). replicate x 0) e ∙ zeros_after entry (scratch_long input bytes entry all)
 
 -- the check's answer, known by its case
-module _ (input : ℕ) (bytes entry exit : List ℕ) (answer : Checked) (known : CheckPromise input bytes entry exit answer) where
-  pub checked_rule : {shape : Shape} → answer ≡ Rule shape → CheckPromise input bytes entry exit (Rule shape)
+module _ (input : ℕ) (bytes entry exit : List ℕ) (answer : Result Shape Refused) (known : CheckPromise input bytes entry exit answer) where
+  pub checked_rule : {shape : Shape} → answer ≡ Ok shape → CheckPromise input bytes entry exit (Ok shape)
   checked_rule e = subst (CheckPromise input bytes entry exit) e known
 
-  pub checked_refused : {r : Refusal} {i place : ℕ} → answer ≡ Refused r i place → CheckPromise input bytes entry exit (Refused r i place)
+  pub checked_refused : {r : Refused} → answer ≡ Err r → CheckPromise input bytes entry exit (Err r)
   checked_refused e = subst (CheckPromise input bytes entry exit) e known
 
 -- the marks in scratch keep its length

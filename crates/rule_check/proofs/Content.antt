@@ -4,22 +4,22 @@ use mathlib.Core.Path.{◌≡◌, sym, ap, ◌∙◌, subst}
 use mathlib.Core.List.{List}
 use native.Mathlib.Omega.{arith}
 use native.Mathlib.Nat.{mul-le-mul}
-use lib.ListN.{length}
-use Rattle.answer.specs.declared.Refusal.{Refusal}
+use lib.ListN.{length, drop}
+use Rattle.std.specs.Prelude.{Result, Ok, Err}
+use Rattle.answer.specs.declared.Fault.{Fault}
 use Rattle.answer.specs.Checks.{passed, FirstFailure}
 use Rattle.theory.specs.Rules.{Morphism}
 use Rattle.formats.proofs.Tables.{Table}
 use Rattle.formats.specs.Table.{morphism_at}
 use Rattle.formats.specs.Sections.{InRange}
 use Rattle.formats.specs.RuleFile.{elements_of, marks_at, marks_of, rule_end, morphism_of, mark_width, mark_start, mark_cycle, mark_grade, grade_among, marks_in, marking_of}
-use Rattle.formats.specs.RuleChecks.{layout_checks, table_checks, mark_checks}
+use Rattle.formats.specs.RuleChecks.{layout_checks, table_checks, mark_checks, content_checks}
 use Rattle.rule_layout.specs.declared.Shape.{Shape}
 use Rattle.rule_layout.specs.Answers.{LayoutPassed}
 use Rattle.rule_layout.proofs.CountsRead.{shape_marks_at, shape_end}
-use Rattle.rule_marks.specs.declared.Fault.{Fault}
-use Rattle.rule_marks.specs.declared.Fault.TheVariants.{Nothing, Refused}
 use Rattle.rule_marks.specs.Faults.{FaultAnswer, MarksRoom, MarksLaid, MarksAnswer}
 use Rattle.rule_check.specs.Answers.{ContentAnswer, BlankMarks}
+use Rattle.rule_check.proofs.Faults.{marks_decide}
 use Rattle.formats.proofs.SectionsPassed.{size_small, letters_small, marks_small, end_inside, table_of, starts_below, cycles_below, grades_within}
 
 module _ (bytes : List ℕ) (shape : Shape) (p : LayoutPassed bytes shape) where
@@ -83,10 +83,10 @@ module _ (bytes : List ℕ) (shape : Shape) (p : LayoutPassed bytes shape) where
       here P h = subst (λ (x : ℕ). P x n) (sym marks_at_is) (subst (λ (x : ℕ). P (marks_at bytes) x) (sym p.shape_is.elements) h)
 
   -- what is said of the counts that were read is said of the file
-  pub of_table : (answer : Fault) → FaultAnswer (λ input. table_checks input (morphism_at bytes n k)) answer → FaultAnswer (λ input. table_checks input (morphism_of bytes)) answer
+  pub of_table : (answer : Result (Unit {0}) Fault) → FaultAnswer (λ input. table_checks input (morphism_at bytes n k)) answer → FaultAnswer (λ input. table_checks input (morphism_of bytes)) answer
   of_table answer f = subst (λ (m : Morphism). FaultAnswer (λ input. table_checks input m) answer) morphism_is f
 
-  pub of_marks : (answer : Fault) → FaultAnswer (λ input. mark_checks input (morphism_at bytes n k) bytes (1 + n * n + (1 + k)) 0 count) answer
+  pub of_marks : (answer : Result (Unit {0}) Fault) → FaultAnswer (λ input. mark_checks input (morphism_at bytes n k) bytes (1 + n * n + (1 + k)) 0 count) answer
       → FaultAnswer (λ input. mark_checks input (morphism_of bytes) bytes (marks_at bytes) 0 (marks_of bytes)) answer
   of_marks answer f =
       subst (λ (m : Morphism). FaultAnswer (λ input. mark_checks input m bytes (marks_at bytes) 0 (marks_of bytes)) answer) morphism_is
@@ -100,15 +100,18 @@ module _ (bytes : List ℕ) (shape : Shape) (p : LayoutPassed bytes shape) where
       (subst (λ (x : ℕ). MarksLaid (grade_among bytes (marks_at bytes) x) n entry exit) p.shape_is.marks
       (subst (λ (x : ℕ). MarksLaid (grade_among bytes x count) n entry exit) marks_at_is l))
 
--- what going through the marks leaves, known by its case
-module _ (m : Morphism) (bytes : List ℕ) (at count : ℕ) (entry exit : List ℕ) (answer : Fault) (known : MarksAnswer m bytes at count entry exit answer) where
-  pub laid_said : answer ≡ Nothing → MarksLaid (grade_among bytes at count) m.size entry exit
-  laid_said e = subst (MarksAnswer m bytes at count entry exit) e known
+module _ (bytes : List ℕ) (shape : Shape) (p : LayoutPassed bytes shape) where
+  -- after a good table the marks decide
+  pub marks_answer : length (drop (1 + shape.elements * shape.elements + (1 + shape.letters) + (2 + mark_width * shape.marks)) bytes) ≤ 0
+      → ((input : ℕ) → FirstFailure (table_checks input (morphism_at bytes shape.elements shape.letters)) passed) → (answer : Result (Unit {0}) Fault)
+      → FaultAnswer (λ input. mark_checks input (morphism_at bytes shape.elements shape.letters) bytes (1 + shape.elements * shape.elements + (1 + shape.letters)) 0 shape.marks) answer
+      → FaultAnswer (λ input. content_checks input bytes) answer
+  marks_answer h table (Ok u) f = marks_decide bytes (end_is bytes shape p) h (of_table bytes shape p (Ok tt) table) (of_marks bytes shape p (Ok u) f)
+  marks_answer h table (Err r) f = marks_decide bytes (end_is bytes shape p) h (of_table bytes shape p (Ok tt) table) (of_marks bytes shape p (Err r) f)
 
-  pub kept_said : {r : Refusal} {place : ℕ} → answer ≡ Refused r place → length exit ≡ length entry
-  kept_said e = subst (MarksAnswer m bytes at count entry exit) e known
-
--- laid marks serve either answer
-pub laid_answer : (bytes entry exit : List ℕ) (answer : Fault) → MarksLaid (marking_of bytes) (elements_of bytes) entry exit → ContentAnswer bytes entry exit answer
-laid_answer bytes entry exit Nothing l = l
-laid_answer bytes entry exit (Refused r place) l = l.same_length
+  -- and good marks are laid out
+  pub marks_laid : (entry exit : List ℕ) (answer : Result (Unit {0}) Fault)
+      → MarksAnswer (morphism_at bytes shape.elements shape.letters) bytes (1 + shape.elements * shape.elements + (1 + shape.letters)) shape.marks entry exit answer
+      → ContentAnswer bytes entry exit answer
+  marks_laid entry exit (Ok u) l = of_laid bytes shape p l
+  marks_laid entry exit (Err r) l = l

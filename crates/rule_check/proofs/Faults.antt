@@ -5,27 +5,21 @@ use mathlib.Core.List.{List, ◌++◌}
 use mathlib.Core.Bool.{Bool, true}
 use native.Mathlib.Omega.{arith}
 use lib.ListN.{length, drop, replicate, length-drop, length-replicate, get_or-replicate}
-use Rattle.answer.specs.declared.Refusal.{Refusal}
 use Rattle.answer.specs.declared.Refusal.TheVariants.{NotAssociative, Unreachable, TrailingBytes}
-use Rattle.answer.specs.Checks.{Check, Verdict, passed, numbered, refused, FirstFailure}
+use Rattle.answer.specs.Checks.{Verdict, passed, numbered, refused, FirstFailure}
 use Rattle.answer.proofs.Order.{first_passes, first_fails, none_left, refused_before, passed_before}
-use Rattle.section_bounds.specs.declared.Found.{Found}
-use Rattle.section_bounds.specs.declared.Found.TheVariants.{At, Nothing}
+use Rattle.std.specs.Prelude.{Result, Ok, Err}
+use Rattle.answer.specs.declared.Fault.{Fault}
 use Rattle.theory.specs.Rules.{Morphism}
-use Rattle.rule_table.specs.declared.Triple.{Triple}
-use Rattle.rule_table.specs.declared.Triple.TheVariants.{At as Triple-at, Nothing as No-triple}
 use Rattle.formats.specs.Table.{morphism_at}
 use Rattle.formats.specs.TableChecks.{NotAssociativeAt, UnreachedAt}
-use Rattle.rule_table.specs.Answers.{TripleAnswer}
 use Rattle.formats.proofs.Tables.{AllAssociate, all_associate_none, Table, FirstTriple, first_triple_place, table_lawful}
-use Rattle.rule_reach.specs.Reach.{Empty, WordOrder, WithoutAnswer, place_at}
+use Rattle.rule_reach.specs.Reach.{Empty, WordOrder, FirstWithout, NoneWithout, place_at}
 use Rattle.rule_reach.proofs.Words.{first_unreached, none_without_absurd}
 use Rattle.rule_letter_columns.specs.Columns.{AllFound}
 use Rattle.rule_associating.specs.Tests.{AssociatesAnswer}
 use Rattle.formats.specs.RuleFile.{marks_at, marks_of, rule_end, morphism_of}
 use Rattle.formats.specs.RuleChecks.{trailing_check, table_checks, mark_checks, content_checks}
-use Rattle.rule_marks.specs.declared.Fault.{Fault}
-use Rattle.rule_marks.specs.declared.Fault.TheVariants.{Nothing as No-fault, Refused}
 use Rattle.rule_marks.specs.Faults.{FaultAnswer}
 use Rattle.rule_check.specs.Answers.{reach_checks}
 
@@ -34,33 +28,18 @@ pub blank_queue : Empty (replicate 256 0)
 unfolding place_at
 blank_queue = record { room = omega (arith, length-replicate {A = ℕ} 256 0); none_found = λ s h. get_or-replicate 256 (192 + s) 0 0 (omega arith) }
 
--- an answer of checks that is known by its case
-module _ (checks : ℕ → List Check) (answer : Fault) (known : FaultAnswer checks answer) where
-  pub no_fault : answer ≡ No-fault → (input : ℕ) → FirstFailure (checks input) passed
-  no_fault e = subst (FaultAnswer checks) e known
-
-  pub fault_refused : {r : Refusal} {place : ℕ} → answer ≡ Refused r place → (input : ℕ) → FirstFailure (checks input) (refused r input place)
-  fault_refused e = subst (FaultAnswer checks) e known
-
 module _ (bytes : List ℕ) (n k : ℕ) (t : Table bytes n k) (all : AllAssociate (morphism_at bytes n k)) {entry exit : List ℕ} {count : ℕ}
-    (order : WordOrder bytes n k entry exit count) (answer : Found) (known : WithoutAnswer exit n answer) where
+    (order : WordOrder bytes n k entry exit count) where
   -- an element that no word reaches
-  pub fault_unreached : {s : ℕ} → answer ≡ At s → (input : ℕ) → FirstFailure (reach_checks input (morphism_at bytes n k)) (refused Unreachable input s)
-  fault_unreached e input =
+  pub fault_unreached : {s : ℕ} → FirstWithout exit n s → (input : ℕ) → FirstFailure (reach_checks input (morphism_at bytes n k)) (refused Unreachable input s)
+  fault_unreached f input =
       first_fails (record { refusal = Unreachable; input = input; Fails = UnreachedAt (morphism_at bytes n k) })
-      (first_unreached order (table_lawful t all) (subst (WithoutAnswer exit n) e known))
+      (first_unreached order (table_lawful t all) f)
 
   -- every element is reached
-  pub all_reached : answer ≡ Nothing → (input : ℕ) → FirstFailure (reach_checks input (morphism_at bytes n k)) passed
-  all_reached e input =
-      first_passes (record { nowhere = λ place u. none_without_absurd order (table_lawful t all) (subst (WithoutAnswer exit n) e known) u }) none_left
-
-module _ (bytes : List ℕ) (n k : ℕ) (answer : Triple) (known : TripleAnswer bytes n k answer) where
-  pub triple_at : {a b c : ℕ} → answer ≡ Triple-at a b c → FirstTriple (morphism_at bytes n k) a b c
-  triple_at e = subst (TripleAnswer bytes n k) e known
-
-  pub triple_none : answer ≡ No-triple → AllAssociate (morphism_at bytes n k)
-  triple_none e = subst (TripleAnswer bytes n k) e known
+  pub all_reached : NoneWithout exit n → (input : ℕ) → FirstFailure (reach_checks input (morphism_at bytes n k)) passed
+  all_reached f input =
+      first_passes (record { nowhere = λ place u. none_without_absurd order (table_lawful t all) f u }) none_left
 
 -- a triple that does not associate
 pub not_associative : {m : Morphism} {a b c : ℕ} → FirstTriple m a b c → (input : ℕ) → FirstFailure (table_checks input m) (refused NotAssociative input (a * 4096 + b * 64 + c))
@@ -68,9 +47,9 @@ not_associative {m} f input =
     first_fails (record { refusal = NotAssociative; input = input; Fails = NotAssociativeAt m }) (first_triple_place f)
 
 -- after an associative table the reached elements decide
-pub fault_associative : (m : Morphism) (answer : Fault) → AllAssociate m → FaultAnswer (λ input. reach_checks input m) answer → FaultAnswer (λ input. table_checks input m) answer
-fault_associative m No-fault all f = λ input. first_passes (record { nowhere = λ place u. all_associate_none all u }) (f input)
-fault_associative m (Refused r place) all f = λ input. first_passes (record { nowhere = λ place u. all_associate_none all u }) (f input)
+pub fault_associative : (m : Morphism) (answer : Result (Unit {0}) Fault) → AllAssociate m → FaultAnswer (λ input. reach_checks input m) answer → FaultAnswer (λ input. table_checks input m) answer
+fault_associative m (Ok u) all f = λ input. first_passes (record { nowhere = λ place w. all_associate_none all w }) (f input)
+fault_associative m (Err r) all f = λ input. first_passes (record { nowhere = λ place w. all_associate_none all w }) (f input)
 
 -- the checks after the sections
 module _ (bytes : List ℕ) where
@@ -95,20 +74,20 @@ module _ (bytes : List ℕ) where
 
 -- words find every element
 pub all_found : {bytes : List ℕ} {n k : ℕ} {entry exit : List ℕ} {count : ℕ} → 256 ≤ length entry → WordOrder bytes n k entry exit count
-    → (answer : Found) → WithoutAnswer exit n answer → answer ≡ Nothing → AllFound bytes n k exit count
-all_found {n = n} {entry = entry} {exit = exit} room order answer known e = record {
+    → NoneWithout exit n → AllFound bytes n k exit count
+all_found room order f = record {
   room = omega (arith, order.same_length);
   order = order.order;
   few = order.few;
   inside = order.inside;
   places = order.places;
-  have = (subst (WithoutAnswer exit n) e known).have;
+  have = f.have;
 }
 
 -- and tests with letters tell that the table associates: 5 and 6 pass
 pub letters_pass : (bytes : List ℕ) (n k : ℕ) → Table bytes n k → {entry exit : List ℕ} {count : ℕ} → WordOrder bytes n k entry exit count
-    → (answer : Found) → WithoutAnswer exit n answer → answer ≡ Nothing → (r : Bool) → AssociatesAnswer (morphism_at bytes n k) r → r ≡ true
+    → NoneWithout exit n → (r : Bool) → AssociatesAnswer (morphism_at bytes n k) r → r ≡ true
     → (input : ℕ) → FirstFailure (table_checks input (morphism_at bytes n k)) passed
-letters_pass bytes n k t order answer known e r a h input =
+letters_pass bytes n k t order f r a h input =
     let all : AllAssociate (morphism_at bytes n k) = subst (AssociatesAnswer (morphism_at bytes n k)) h a in
-    fault_associative (morphism_at bytes n k) No-fault all (all_reached bytes n k t all order answer known e) input
+    fault_associative (morphism_at bytes n k) (Ok tt) all (all_reached bytes n k t all order f) input

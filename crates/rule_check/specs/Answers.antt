@@ -1,8 +1,10 @@
 -- What the answers of this crate's functions say. Assumes nothing.
-use Rattle.std.specs.Prelude.{ℕ, ◌+◌, ◌*◌, ◌≤◌, ◌<◌, ◌≡◌, List, [], ◌∷◌, length, get_or}
+use Rattle.std.specs.Prelude.{ℕ, ◌+◌, ◌*◌, ◌≤◌, ◌<◌, ◌≡◌, List, [], ◌∷◌, length, get_or, Result, Ok, Err}
 use Rattle.answer.specs.declared.Refusal.TheVariants.{Unreachable}
 use Rattle.formats.specs.TableChecks.{UnreachedAt}
-use Rattle.answer.specs.Checks.{Check, Verdict, passed, refused, FirstFailure}
+use Rattle.answer.specs.declared.Fault.{Fault}
+use Rattle.answer.specs.declared.Refused.{Refused}
+use Rattle.answer.specs.Checks.{Check, FirstFailure, verdict_of}
 use Rattle.theory.specs.Rules.{Morphism}
 use Rattle.formats.specs.RuleFile.{elements_of, marking_of}
 use Rattle.formats.specs.RuleChecks.{rule_checks}
@@ -10,10 +12,6 @@ use Rattle.scratch.specs.Bytes.{UnchangedOutside}
 use Rattle.scratch.specs.Map.{mark_table_size}
 use Rattle.rule_layout.specs.declared.Shape.{Shape}
 use Rattle.rule_layout.specs.Answers.{IsShape}
-use Rattle.rule_marks.specs.declared.Fault.{Fault}
-use Rattle.rule_marks.specs.declared.Fault.TheVariants.{Nothing, Refused}
-use Rattle.rule_check.specs.declared.Checked.{Checked}
-use Rattle.rule_check.specs.declared.Checked.TheVariants.{Rule, Refused as Checked-refused}
 use Rattle.rule_marks.specs.Faults.{MarksLaid}
 use Rattle.formats.specs.Calls.{after_call, checked_checks}
 
@@ -27,14 +25,9 @@ pub record BlankMarks (scratch : List ℕ) : Type 0 where
   pub blank : (i : ℕ) → i < mark_table_size → get_or scratch i 0 ≡ 0
 
 -- good contents lay out the marks of the file; else nothing is said of scratch but its length
-abbrev pub ContentAnswer : List ℕ → List ℕ → List ℕ → Fault → Type 0
-ContentAnswer bytes entry exit Nothing = MarksLaid (marking_of bytes) (elements_of bytes) entry exit
-ContentAnswer bytes entry exit (Refused refusal place) = length exit ≡ length entry
-
--- document 01's number, input and place of an answer: those of its verdict
-abbrev pub verdict_of : Checked → Verdict
-verdict_of (Rule shape) = passed
-verdict_of (Checked-refused refusal input place) = refused refusal input place
+abbrev pub ContentAnswer : List ℕ → List ℕ → List ℕ → Result (Unit {0}) Fault → Type 0
+ContentAnswer bytes entry exit (Ok u) = MarksLaid (marking_of bytes) (elements_of bytes) entry exit
+ContentAnswer bytes entry exit (Err f) = length exit ≡ length entry
 
 -- a checked rule: its counts, and its marks in a table at the front of scratch, that of (s, e) at s·64 + e; what follows the table is
 -- as it was
@@ -44,20 +37,20 @@ pub record RuleChecked (bytes : List ℕ) (shape : Shape) (entry exit : List ℕ
   pub kept : UnchangedOutside 0 mark_table_size entry exit
 
 -- of a refused rule only the length of scratch is said
-abbrev pub MarksAfter : List ℕ → List ℕ → List ℕ → Checked → Type 0
-MarksAfter bytes entry exit (Rule shape) = RuleChecked bytes shape entry exit
-MarksAfter bytes entry exit (Checked-refused refusal input place) = length exit ≡ length entry
+abbrev pub MarksAfter : List ℕ → List ℕ → List ℕ → Result Shape Refused → Type 0
+MarksAfter bytes entry exit (Ok shape) = RuleChecked bytes shape entry exit
+MarksAfter bytes entry exit (Err r) = length exit ≡ length entry
 
 -- the rule's own checks, in the input of the given number: which refusal and when; else the rule's counts, and its marks
-pub record RuleVerdict (input : ℕ) (bytes entry exit : List ℕ) (answer : Checked) : Type 0 where
+pub record RuleVerdict (input : ℕ) (bytes entry exit : List ℕ) (answer : Result Shape Refused) : Type 0 where
   pub refusal : FirstFailure (rule_checks input bytes) (verdict_of answer)
   pub marks : MarksAfter bytes entry exit answer
 
-abbrev pub ScratchAfter : List ℕ → List ℕ → List ℕ → Checked → Type 0
-ScratchAfter bytes entry exit (Rule shape) = RuleChecked bytes shape entry exit
-ScratchAfter bytes entry exit (Checked-refused refusal input place) = exit ≡ after_call entry
+abbrev pub ScratchAfter : List ℕ → List ℕ → List ℕ → Result Shape Refused → Type 0
+ScratchAfter bytes entry exit (Ok shape) = RuleChecked bytes shape entry exit
+ScratchAfter bytes entry exit (Err r) = exit ≡ after_call entry
 
 -- the promise of the check: which refusal and when; else the rule's counts, and the marks in scratch
-pub record CheckPromise (input : ℕ) (bytes entry exit : List ℕ) (answer : Checked) : Type 0 where
+pub record CheckPromise (input : ℕ) (bytes entry exit : List ℕ) (answer : Result Shape Refused) : Type 0 where
   pub refusal : FirstFailure (checked_checks input bytes entry) (verdict_of answer)
   pub scratch : ScratchAfter bytes entry exit answer

@@ -1,2 +1,3 @@
 pub mod CountsRead
+pub mod LayoutRead
 pub mod MarkRanges

@@ -1,18 +1,17 @@
 -- What the checks of a marks section answer, and how its marks are laid out. Assumes nothing.
-use Rattle.std.specs.Prelude.{ℕ, ◌+◌, ◌*◌, ◌≤◌, ◌<◌, ◌≡◌, Bool, true, false, List, length, get_or}
+use Rattle.std.specs.Prelude.{ℕ, ◌+◌, ◌*◌, ◌≤◌, ◌<◌, ◌≡◌, Bool, true, false, List, length, get_or, Result, Ok, Err}
+use Rattle.answer.specs.declared.Fault.{Fault}
 use Rattle.answer.specs.Checks.{Check, passed, refused, FirstFailure}
 use Rattle.theory.specs.Rules.{Morphism}
 use Rattle.theory.specs.Pairs.{Linked}
 use Rattle.formats.specs.Sections.{InRange}
 use Rattle.formats.specs.RuleFile.{mark_width, mark_start, mark_cycle, mark_grade, grade_among}
 use Rattle.scratch.specs.Map.{mark_table_size}
-use Rattle.rule_marks.specs.declared.Fault.{Fault}
-use Rattle.rule_marks.specs.declared.Fault.TheVariants.{Nothing, Refused}
 
 -- checks that pass, or the first that fails, whatever the number of the input
-abbrev pub FaultAnswer : (ℕ → List Check) → Fault → Type 0
-FaultAnswer checks Nothing = (input : ℕ) → FirstFailure (checks input) passed
-FaultAnswer checks (Refused refusal place) = (input : ℕ) → FirstFailure (checks input) (refused refusal input place)
+abbrev pub FaultAnswer : (ℕ → List Check) → Result (Unit {0}) Fault → Type 0
+FaultAnswer checks (Ok u) = (input : ℕ) → FirstFailure (checks input) passed
+FaultAnswer checks (Err f) = (input : ℕ) → FirstFailure (checks input) (refused f.refusal input f.place)
 
 -- whether a pair of elements is linked
 abbrev pub LinkedAnswer : Morphism → ℕ → ℕ → Bool → Type 0
@@ -35,6 +34,6 @@ pub record MarksLaid (marks : ℕ → ℕ → ℕ) (n : ℕ) (entry exit : List 
   pub other : (i : ℕ) → ((s e : ℕ) → s < n → e < n → i ≡ s * 64 + e → ⊥) → get_or exit i 0 ≡ get_or entry i 0
 
 -- the marks of a section are good, and laid out; or one is not, and only the length is known
-abbrev pub MarksAnswer : Morphism → List ℕ → ℕ → ℕ → List ℕ → List ℕ → Fault → Type 0
-MarksAnswer m bytes at count entry exit Nothing = MarksLaid (grade_among bytes at count) m.size entry exit
-MarksAnswer m bytes at count entry exit (Refused refusal place) = length exit ≡ length entry
+abbrev pub MarksAnswer : Morphism → List ℕ → ℕ → ℕ → List ℕ → List ℕ → Result (Unit {0}) Fault → Type 0
+MarksAnswer m bytes at count entry exit (Ok u) = MarksLaid (grade_among bytes at count) m.size entry exit
+MarksAnswer m bytes at count entry exit (Err f) = length exit ≡ length entry

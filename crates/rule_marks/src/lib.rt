@@ -8,15 +8,8 @@ ghost use Rattle.formats.specs.Table.{morphism_at};
 ghost use Rattle.formats.specs.RuleChecks.{mark_checks};
 ghost use Rattle.rule_marks.specs.Faults.{FaultAnswer, LinkedAnswer, MarksRoom, MarksAnswer};
 
-use answer::Refusal;
+use answer::{Fault, Refusal};
 use rule_table::product;
-
-// The first check that fails, of some that are tried in a row.
-#[derive(Drop)]
-pub enum Fault {
-    Nothing,
-    Refused { refusal: Refusal, place: usize },
-}
 
 // Whether a pair of elements is linked.
 pub fn linked(rule: &[u8], n: usize, k: usize, s: usize, e: usize) -> bool
@@ -24,15 +17,7 @@ pub fn linked(rule: &[u8], n: usize, k: usize, s: usize, e: usize) -> bool
     requires s_lt_n { (s < n) × (e < n) }
     ensures { LinkedAnswer (morphism_at rule.now n k) s e result }
 {
-    let square = product(rule, n, e, e);
-    if square != e {
-        return false;
-    }
-    let kept = product(rule, n, s, e);
-    if kept != s {
-        return false;
-    }
-    true
+    product(rule, n, e, e) == e && product(rule, n, s, e) == s
 }
 
 // Goes through the marks of the section at byte `at`, in file order: each is linked and new. A byte of the table for each pair
@@ -45,7 +30,7 @@ pub fn mark_fault(
     at: usize,
     count: usize,
     table: &mut [u8],
-) -> Fault
+) -> Result<(), Fault>
     requires table { Table rule.now n k }
     requires marks_room { MarksRoom bytes.now at count n table.old }
     ensures refusal { FaultAnswer (λ input. mark_checks input (morphism_at rule.now n k) bytes.now at 0 count) result }
@@ -57,18 +42,18 @@ pub fn mark_fault(
         let e = bytes[place + 1] as usize;
         let grade = bytes[place + 2];
         if !linked(rule, n, k, s, e) {
-            return Fault::Refused {
+            return Err(Fault {
                 refusal: Refusal::NotLinked,
                 place,
-            };
+            });
         }
         if table[s * 64 + e] != 0 {
-            return Fault::Refused {
+            return Err(Fault {
                 refusal: Refusal::Duplicate,
                 place,
-            };
+            });
         }
         table[s * 64 + e] = grade;
     }
-    Fault::Nothing
+    Ok(())
 }

@@ -1,10 +1,8 @@
 -- The worklist of elements as it stands in lent bytes, and what the search of words leaves there. Assumes nothing.
-use Rattle.std.specs.Prelude.{ℕ, zero, suc, ◌+◌, ◌≤◌, ◌<◌, ◌≡◌, List, length, get_or}
+use Rattle.std.specs.Prelude.{ℕ, zero, suc, ◌+◌, ◌≤◌, ◌<◌, ◌≡◌, List, length, get_or, Option, Some, None}
 use Rattle.finite.proofs.FirstWords.{FirstOrder}
 use Rattle.theory.specs.Rules.{Morphism, Value, none, element, join}
 use Rattle.formats.specs.Table.{morphism_at}
-use Rattle.section_bounds.specs.declared.Found.{Found}
-use Rattle.section_bounds.specs.declared.Found.TheVariants.{At, Nothing}
 
 -- entry 0 is the empty word; entry i + 1 has its element at byte i
 unfoldable pub entry_at : List ℕ → ℕ → Value
@@ -57,6 +55,6 @@ pub record FirstWithout (queue : List ℕ) (n s : ℕ) : Type 0 where
 pub record NoneWithout (queue : List ℕ) (n : ℕ) : Type 0 where
   pub have : (s : ℕ) → s < n → 0 < place_at queue s
 
-abbrev pub WithoutAnswer : List ℕ → ℕ → Found → Type 0
-WithoutAnswer queue n (At s) = FirstWithout queue n s
-WithoutAnswer queue n Nothing = NoneWithout queue n
+abbrev pub WithoutAnswer : List ℕ → ℕ → Option ℕ → Type 0
+WithoutAnswer queue n (Some s) = FirstWithout queue n s
+WithoutAnswer queue n None = NoneWithout queue n

@@ -13,7 +13,6 @@ ghost use Rattle.rule_reach.specs.Steps.{AddNeeds, Added, StepNeeds, step_at};
 ghost use Rattle.rule_reach.specs.Searching.{Searching, Expanded};
 
 use rule_table::{image, product};
-use section_bounds::Found;
 
 // Adds an element that was found from entry `from` by a letter, unless it is there.
 fn add(queue: &mut [u8], count: usize, s: usize, from: usize, letter: usize) -> usize
@@ -73,15 +72,15 @@ pub fn reach(rule: &[u8], n: usize, k: usize, queue: &mut [u8]) -> usize
 }
 
 // The least element that was not found.
-pub fn least_without(queue: &[u8], n: usize) -> Found
+pub fn least_without(queue: &[u8], n: usize) -> Option<usize>
     requires n_bound { n ≤ 64 }
     requires in_bounds { 256 ≤ length queue.now }
     ensures { WithoutAnswer queue.now n result }
 {
     for s in 0..n {
         if queue[192 + s] == 0 {
-            return Found::At(s);
+            return Some(s);
         }
     }
-    Found::Nothing
+    None
 }

@@ -1,4 +1,6 @@
 -- What each way through a second marks section shows. Assumes nothing.
+use Rattle.std.specs.Prelude.{Result, Ok, Err}
+use Rattle.answer.specs.declared.Fault.{Fault}
 use Prim.Native.Nat.{ℕ, ◌+◌, ◌*◌, ◌≤◌, ◌<◌}
 use mathlib.Core.Path.{◌≡◌, ap, ◌∙◌, subst}
 use mathlib.Core.List.{List, ◌∷◌}
@@ -15,8 +17,6 @@ use Rattle.theory.specs.Rules.{Morphism}
 use Rattle.formats.specs.Table.{morphism_at}
 use Rattle.formats.specs.RuleFile.{elements_of, letters_of, morphism_of, mark_width, marks_section, grade_among, marks_in}
 use Rattle.formats.specs.RuleChecks.{trailing_check, mark_checks, second_marks_checks}
-use Rattle.rule_marks.specs.declared.Fault.{Fault}
-use Rattle.rule_marks.specs.declared.Fault.TheVariants.{Nothing, Refused}
 use Rattle.rule_marks.specs.Faults.{FaultAnswer, MarksRoom, MarksLaid, MarksAnswer}
 use Rattle.rule_second_marks.specs.SecondMarks.{MarksSpace, SecondAnswer}
 
@@ -75,13 +75,13 @@ module _ (rule bytes : List ℕ) {n k : ℕ} (en : n ≡ elements_of rule) (ek :
         (subst (λ (m : Morphism). FirstFailure (mark_checks input m bytes 0 0 c) v) morphism_is f)))
 
     -- the marks decide
-    pub second_decides : length (drop (2 + mark_width * c) bytes) ≤ 0 → (answer : Fault) → FaultAnswer (λ input. mark_checks input (morphism_at rule n k) bytes 0 0 c) answer
+    pub second_decides : length (drop (2 + mark_width * c) bytes) ≤ 0 → (answer : Result (Unit {0}) Fault) → FaultAnswer (λ input. mark_checks input (morphism_at rule n k) bytes 0 0 c) answer
         → FaultAnswer (λ input. second_marks_checks input rule bytes) answer
-    second_decides h Nothing f = λ input. moved input h (f input)
-    second_decides h (Refused r place) f = λ input. moved input h (f input)
+    second_decides h (Ok done) f = λ input. moved input h (f input)
+    second_decides h (Err fault) f = λ input. moved input h (f input)
 
     -- and are laid out
-    pub second_laid : (entry exit : List ℕ) (answer : Fault) → MarksAnswer (morphism_at rule n k) bytes 0 c entry exit answer → SecondAnswer bytes n entry exit answer
+    pub second_laid : (entry exit : List ℕ) (answer : Result (Unit {0}) Fault) → MarksAnswer (morphism_at rule n k) bytes 0 c entry exit answer → SecondAnswer bytes n entry exit answer
     unfolding marks_in
-    second_laid entry exit Nothing l = subst (λ (x : ℕ). MarksLaid (grade_among bytes 0 x) n entry exit) p.is_count l
-    second_laid entry exit (Refused r place) l = l
+    second_laid entry exit (Ok done) l = subst (λ (x : ℕ). MarksLaid (grade_among bytes 0 x) n entry exit) p.is_count l
+    second_laid entry exit (Err fault) l = l

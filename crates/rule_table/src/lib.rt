@@ -27,33 +27,24 @@ pub fn image(rule: &[u8], n: usize, a: usize) -> usize
 }
 
 // The first triple, by a, then b, then c, with (a·b)·c not a·(b·c).
-#[derive(Drop)]
-pub enum Triple {
-    At(usize, usize, usize),
-    Nothing,
-}
-
-pub fn first_not_associative(rule: &[u8], n: usize, k: usize) -> Triple
+pub fn first_not_associative(rule: &[u8], n: usize, k: usize) -> Option<(usize, usize, usize)>
     requires { Table rule.now n k }
     ensures { TripleAnswer rule.now n k result }
 {
-    let found = 'search: loop {
-        for a in 0..n {
-            for b in 0..n {
-                let ab = product(rule, n, a, b);
-                for c in 0..n {
-                    let bc = product(rule, n, b, c);
-                    let left = product(rule, n, ab, c);
-                    let right = product(rule, n, a, bc);
-                    if left != right {
-                        break 'search Triple::At(a, b, c);
-                    }
+    for a in 0..n {
+        for b in 0..n {
+            let ab = product(rule, n, a, b);
+            for c in 0..n {
+                let bc = product(rule, n, b, c);
+                let left = product(rule, n, ab, c);
+                let right = product(rule, n, a, bc);
+                if left != right {
+                    return Some((a, b, c));
                 }
             }
         }
-        break 'search Triple::Nothing;
-    };
-    found
+    }
+    None
 }
 
 // The first power of an element that is idempotent, with its exponent.
@@ -63,7 +54,8 @@ pub struct Power {
     pub exponent: usize,
 }
 
-// A table that associates has one among the exponents 1 to n, so the search needs no bound.
+// A table that associates has one among the exponents 1 to n, so the search needs no bound. It stays a loop without one, since a `for` over
+// the exponents would need an answer behind its end.
 pub fn idempotent_power(rule: &[u8], n: usize, k: usize, x: usize) -> Power
     requires table { Table rule.now n k }
     requires lawful { Lawful (morphism_at rule.now n k) }

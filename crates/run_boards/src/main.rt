@@ -122,10 +122,10 @@ fn run_all(
     scratch: &mut [u8],
 ) -> io::Result<()> {
     let mut board = board::empty();
-    for i in 0..text.len() {
+    for line in text.split(|byte| *byte == b'\n') {
         board = run(
             rt,
-            example_text::part(text, b'\n', i),
+            line,
             first,
             board,
             files,

@@ -62,8 +62,8 @@ fn run(rt: &impl Print, line: &[u8], scratch: &mut [u8]) -> io::Result<()> {
 }
 
 fn run_all(rt: &impl Print, text: &[u8], scratch: &mut [u8]) -> io::Result<()> {
-    for i in 0..text.len() {
-        run(rt, example_text::part(text, b'\n', i), scratch)?;
+    for line in text.split(|byte| *byte == b'\n') {
+        run(rt, line, scratch)?;
     }
     Ok(())
 }

@@ -77,10 +77,10 @@ fn run_all(
     classes: &mut [u8],
     scratch: &mut [u8],
 ) -> io::Result<()> {
-    for i in 0..text.len() {
+    for line in text.split(|byte| *byte == b'\n') {
         run(
             rt,
-            example_text::part(text, b'\n', i),
+            line,
             stack,
             spare,
             classes,

@@ -105,8 +105,8 @@ fn run(rt: &impl Print, line: &[u8], m: Monitor, scratch: &mut [u8]) -> io::Resu
 
 fn run_all(rt: &impl Print, text: &[u8], scratch: &mut [u8]) -> io::Result<()> {
     let mut m = rules::fresh();
-    for i in 0..text.len() {
-        m = run(rt, example_text::part(text, b'\n', i), m, scratch)?;
+    for line in text.split(|byte| *byte == b'\n') {
+        m = run(rt, line, m, scratch)?;
     }
     Ok(())
 }

@@ -119,8 +119,8 @@ fn run(
 
 fn run_all(rt: &impl Print, text: &[u8], points: &mut [u8], scratch: &mut [u8]) -> io::Result<()> {
     let mut m = rules::fresh();
-    for i in 0..text.len() {
-        m = run(rt, example_text::part(text, b'\n', i), m, points, scratch)?;
+    for line in text.split(|byte| *byte == b'\n') {
+        m = run(rt, line, m, points, scratch)?;
     }
     Ok(())
 }

@@ -7,8 +7,7 @@ use native.Mathlib.Omega.{arith}
 use borrow.Author.Count.{below_more}
 use lib.ListN.{get_or}
 use Rattle.formats.specs.Sections.{InRange}
-use Rattle.section_bounds.specs.declared.Found.{Found}
-use Rattle.section_bounds.specs.declared.Found.TheVariants.{At, Nothing}
+use Rattle.std.specs.Prelude.{Option, Some, None}
 use Rattle.formats.proofs.Sections.{FirstOut, AllInRange}
 use Rattle.section_bounds.specs.Answers.{FoundOut}
 
@@ -40,14 +39,14 @@ module _ {bytes : List ℕ} {from : ℕ} {floor bound : ℕ → ℕ} {i : ℕ} (
   pub all_in : {count : ℕ} → count ≤ i → AllInRange bytes from count floor bound
   all_in l = record { each = λ j h. so_far.each j (omega arith) }
 
-module _ {bytes : List ℕ} {from count : ℕ} {floor bound : ℕ → ℕ} (found : Found) (answer : FoundOut bytes from count floor bound found) where
+module _ {bytes : List ℕ} {from count : ℕ} {floor bound : ℕ → ℕ} (found : Option ℕ) (answer : FoundOut bytes from count floor bound found) where
   -- what an answer that names an index says
-  pub found_at : {i : ℕ} → found ≡ At i → FirstOut bytes from count floor bound i
-  found_at e = subst (λ (f : Found). FoundOut bytes from count floor bound f) e answer
+  pub found_at : {i : ℕ} → found ≡ Some i → FirstOut bytes from count floor bound i
+  found_at e = subst (λ (f : Option ℕ). FoundOut bytes from count floor bound f) e answer
 
   -- what an answer that names none says
-  pub found_nothing : found ≡ Nothing → AllInRange bytes from count floor bound
-  found_nothing e = subst (λ (f : Found). FoundOut bytes from count floor bound f) e answer
+  pub found_nothing : found ≡ None → AllInRange bytes from count floor bound
+  found_nothing e = subst (λ (f : Option ℕ). FoundOut bytes from count floor bound f) e answer
 
 -- where none is above a byte below the bound, all are below the bound
 pub under_bound : {bytes : List ℕ} {from count top bound : ℕ} → AllInRange bytes from count (λ i. 0) (λ i. top + 1) → top < bound

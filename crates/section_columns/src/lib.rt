@@ -5,18 +5,6 @@
 ghost use Rattle.std.specs.Prelude.{◌≡◌, true, ◌+◌, ◌*◌, ◌≤◌, length};
 ghost use Rattle.section_columns.specs.Triples.{PlacesIn, SomeTriplesIn};
 
-use section_bounds::greater;
-
-// The lesser of two bytes.
-fn lesser(x: u8, y: u8) -> u8
-    ensures { (result ≤ x) × (result ≤ y) }
-{
-    if y < x {
-        return y;
-    }
-    x
-}
-
 // Whether the greatest and the least byte of each place of 32 triples are in the place's range: the first of a triple below `first`,
 // the second below `second`, and the third below `third` and no less than `least`.
 fn places_in(
@@ -70,8 +58,8 @@ pub fn triples_in(
         let start = 96 * c;
         for j in 0..96 {
             let x = rest[2 + (start + j)];
-            top[j] = greater(top[j], x);
-            low[j] = lesser(low[j], x);
+            top[j] = top[j].max(x);
+            low[j] = low[j].min(x);
         }
     }
     if places_in(low, top, first, second, third, least) {

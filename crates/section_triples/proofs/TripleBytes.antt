@@ -10,8 +10,7 @@ use lib.ListN.{get_or}
 use Rattle.formats.specs.Sections.{InRange}
 use Rattle.formats.proofs.Sections.{FirstOut, AllInRange}
 use Rattle.section_bounds.proofs.Laws.{one_more_in, out_first, from_zero, found_at}
-use Rattle.section_bounds.specs.declared.Found.{Found}
-use Rattle.section_bounds.specs.declared.Found.TheVariants.{At}
+use Rattle.std.specs.Prelude.{Option, Some}
 use Rattle.formats.proofs.Triples.{first_of, second_of, third_of, by_triples}
 use Rattle.section_columns.specs.Triples.{SomeTriplesIn}
 use Rattle.section_triples.specs.Ranges.{TripleRanges, TriplesFound}
@@ -44,8 +43,8 @@ some_ranges first second third least = record {
 }
 
 -- a byte that was found out of its range is one of the triples', whatever the ranges are
-pub found_below : (rest : List ℕ) (count first second third least : ℕ) (found : Found) → TriplesFound rest count first second third least found
-    → {i : ℕ} → found ≡ At i → i < 3 * count
+pub found_below : (rest : List ℕ) (count first second third least : ℕ) (found : Option ℕ) → TriplesFound rest count first second third least found
+    → {i : ℕ} → found ≡ Some i → i < 3 * count
 found_below rest count first second third least found answer e =
     (found_at found (answer _ _ (some_ranges first second third least)) e).below
 

@@ -4,10 +4,8 @@
 ghost use Rattle.std.specs.Prelude.{◌+◌, ◌*◌, ◌≤◌, ◌<◌, ◌^◌, length};
 ghost use Rattle.section_triples.specs.Ranges.{TriplesFound, TriplesAnswer};
 
-use answer::Refusal;
-use section_bounds::Found;
+use answer::{Fault, Refusal};
 use section_columns::triples_in;
-use sections::Counted;
 
 // The first byte of the triples that is out of its range: the first of a triple is below `first`, the second below `second`, and the
 // third below `third` and no less than `least`. The search begins behind the triples that are known to be in range.
@@ -18,7 +16,7 @@ fn first_out(
     second: usize,
     third: usize,
     least: usize,
-) -> Found
+) -> Option<usize>
     requires { 2 + 3 * count ≤ length rest.now }
     ensures { TriplesFound rest.now count first second third least result }
 {
@@ -26,20 +24,20 @@ fn first_out(
     for i in known..count {
         let start = 3 * i;
         if first <= rest[2 + start] as usize {
-            return Found::At(start);
+            return Some(start);
         }
         if second <= rest[2 + (start + 1)] as usize {
-            return Found::At(start + 1);
+            return Some(start + 1);
         }
         let last = rest[2 + (start + 2)] as usize;
         if third <= last {
-            return Found::At(start + 2);
+            return Some(start + 2);
         }
         if last < least {
-            return Found::At(start + 2);
+            return Some(start + 2);
         }
     }
-    Found::Nothing
+    None
 }
 
 // The triples after their count: all there, and each byte in its range. Answers the count where they are.
@@ -51,23 +49,22 @@ pub fn triples(
     second: usize,
     third: usize,
     least: usize,
-) -> Counted
+) -> Result<usize, Fault>
     requires rest_bound { at + length rest.now < 2 ^ 64 }
     requires count_bound { count ≤ 4096 }
     ensures { TriplesAnswer at rest.now count first second third least result }
 {
     if rest.len() < 2 + 3 * count {
-        let end = at + rest.len();
-        return Counted::Refused {
+        return Err(Fault {
             refusal: Refusal::Truncated,
-            place: end,
-        };
+            place: at + rest.len(),
+        });
     }
     match first_out(rest, count, first, second, third, least) {
-        Found::At(i) => Counted::Refused {
+        Some(i) => Err(Fault {
             refusal: Refusal::EntryOutOfRange,
             place: at + (2 + i),
-        },
-        Found::Nothing => Counted::Read(count),
+        }),
+        None => Ok(count),
     }
 }

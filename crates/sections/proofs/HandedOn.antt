@@ -12,8 +12,8 @@ use Rattle.answer.proofs.Order.{refused_before, passed_before}
 use Rattle.formats.specs.Sections.{Section, section_checks}
 use Rattle.formats.proofs.Sections.{passed_good}
 use Rattle.formats.proofs.SectionList.{SectionList, last, next, first_section, count_in, count_in_lem, size_for, list_checks, rest_from, rest_of}
-use Rattle.sections.specs.declared.Counted.{Counted}
-use Rattle.sections.specs.declared.Counted.TheVariants.{Refused}
+use Rattle.std.specs.Prelude.{Result, Err}
+use Rattle.answer.specs.declared.Fault.{Fault}
 use Rattle.sections.specs.Answers.{SectionPassed, SectionAnswer}
 
 -- the sections before were read: `part` is the rest of the input from byte `at` on, and the sections that are left decide for all
@@ -42,12 +42,12 @@ module _ {checks : ℕ → List Check} {bytes : List ℕ} {left : SectionList} {
   part_length = omega (arith, ap length h.is_rest, length-drop at bytes, h.inside)
 
   -- the next section refuses
-  pub handed_refused : (answer : Counted) → SectionAnswer (first_section left) at part answer → {r : Refusal} {place : ℕ} → answer ≡ Refused r place
-      → (input : ℕ) → FirstFailure (checks input) (refused r input place)
-  handed_refused answer known {r} {place} e input =
+  pub handed_refused : (answer : Result ℕ Fault) → SectionAnswer (first_section left) at part answer → {f : Fault} → answer ≡ Err f
+      → (input : ℕ) → FirstFailure (checks input) (refused f.refusal input f.place)
+  handed_refused answer known {f} e input =
       h.decides input _
-      (first_refuses left input at bytes r place
-      (subst (λ (x : List ℕ). FirstFailure (section_checks (first_section left) input at x) (refused r input place)) h.is_rest
+      (first_refuses left input at bytes f.refusal f.place
+      (subst (λ (x : List ℕ). FirstFailure (section_checks (first_section left) input at x) (refused f.refusal input f.place)) h.is_rest
       (subst (SectionAnswer (first_section left) at part) e known input)))
 
   module _ {count : ℕ} (p : SectionPassed (first_section left) at part count) where

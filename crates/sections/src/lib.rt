@@ -6,88 +6,69 @@ ghost use Rattle.std.specs.Prelude.{◌≡◌, ◌+◌, ◌≤◌, ◌<◌, ◌^
 ghost use Rattle.formats.specs.Sections.{one_byte, two-byte};
 ghost use Rattle.sections.specs.Answers.{PartZeroed, CountAnswer, EntriesAnswer};
 
-use answer::Refusal;
-use section_bounds::{Found, first_out};
+use answer::{Fault, Refusal};
+use section_bounds::first_out;
 
 // Fills a part of a lent buffer with zeros.
 pub fn zero_part(s: &mut [u8], from: usize, to: usize)
     requires { (from ≤ to) × (to ≤ length s.old) }
     ensures { PartZeroed from to s.old s.new }
 {
-    for i in from..to {
-        s[i] = 0;
-    }
+    s[from..to].fill(0);
 }
 
 // Fills a lent buffer with zeros, whatever its length.
 pub fn zero(s: &mut [u8])
     ensures { s.new ≡ replicate (length s.old) 0 }
 {
-    let end = s.len();
-    zero_part(s, 0, end);
+    s.fill(0);
 }
 
-// A section's count, or the first of its checks that fails.
-#[derive(Drop)]
-pub enum Counted {
-    Read(usize),
-    Refused { refusal: Refusal, place: usize },
-}
-
-// The refusal of bytes that end too early: its place is the end of the input.
-fn cut(rest: &[u8], at: usize) -> Counted
+// Bytes that end too early: the place of the fault is the end of the input.
+fn cut(rest: &[u8], at: usize) -> Fault
     requires { at + length rest.now < 2 ^ 64 }
-    ensures { result ≡ Counted.Refused Refusal.Truncated (at + length rest.now) }
+    ensures { result ≡ record { refusal = Refusal.Truncated; place = at + length rest.now } }
 {
-    let end = at + rest.len();
-    Counted::Refused {
+    Fault {
         refusal: Refusal::Truncated,
-        place: end,
+        place: at + rest.len(),
     }
 }
 
 // A count of one byte, from 1 to `high`.
-pub fn byte_count(rest: &[u8], at: usize, high: usize) -> Counted
+pub fn byte_count(rest: &[u8], at: usize, high: usize) -> Result<usize, Fault>
     requires { at + length rest.now < 2 ^ 64 }
     ensures { CountAnswer one_byte 1 high at rest.now result }
 {
     if rest.len() < 1 {
-        return cut(rest, at);
+        return Err(cut(rest, at));
     }
     let count = rest[0] as usize;
-    if count < 1 {
-        return Counted::Refused {
+    if count < 1 || high < count {
+        return Err(Fault {
             refusal: Refusal::CountOutOfRange,
             place: at,
-        };
+        });
     }
-    if high < count {
-        return Counted::Refused {
-            refusal: Refusal::CountOutOfRange,
-            place: at,
-        };
-    }
-    Counted::Read(count)
+    Ok(count)
 }
 
 // A count of two bytes, low byte first, from 0 to `high`.
-pub fn wide_count(rest: &[u8], at: usize, high: usize) -> Counted
+pub fn wide_count(rest: &[u8], at: usize, high: usize) -> Result<usize, Fault>
     requires { at + length rest.now < 2 ^ 64 }
     ensures { CountAnswer two-byte 0 high at rest.now result }
 {
     if rest.len() < 2 {
-        return cut(rest, at);
+        return Err(cut(rest, at));
     }
-    let low = rest[0] as usize;
-    let top = rest[1] as usize;
-    let number = low + 256 * top;
+    let number = u16::from_le_bytes([rest[0], rest[1]]) as usize;
     if high < number {
-        return Counted::Refused {
+        return Err(Fault {
             refusal: Refusal::CountOutOfRange,
             place: at,
-        };
+        });
     }
-    Counted::Read(number)
+    Ok(number)
 }
 
 // The entries after a count of `from` bytes: all there, and each below the bound. Answers the count where they are.
@@ -98,19 +79,19 @@ pub fn entries(
     size: usize,
     bound: usize,
     count: usize,
-) -> Counted
+) -> Result<usize, Fault>
     requires rest_bound { at + length rest.now < 2 ^ 64 }
     requires size_bound { from + size < 2 ^ 64 }
     ensures { EntriesAnswer from size (λ i. 0) (λ i. bound) at rest.now count result }
 {
     if rest.len() < from + size {
-        return cut(rest, at);
+        return Err(cut(rest, at));
     }
     match first_out(rest, from, size, bound) {
-        Found::At(i) => Counted::Refused {
+        Some(i) => Err(Fault {
             refusal: Refusal::EntryOutOfRange,
             place: at + (from + i),
-        },
-        Found::Nothing => Counted::Read(count),
+        }),
+        None => Ok(count),
     }
 }

@@ -1,4 +1,6 @@
 -- What the call answers, by the check's answer and the decision. Assumes nothing.
+use Rattle.std.specs.Prelude.{Ok, Err}
+use Rattle.answer.proofs.Parts.{refused_by}
 use Prim.Native.Nat.{ℕ}
 use mathlib.Core.Path.{◌≡◌, refl, subst}
 use mathlib.Core.Bool.{Bool, true, false}
@@ -8,7 +10,6 @@ use Rattle.answer.specs.declared.Refusal.{Refusal}
 use Rattle.formats.specs.Table.{morphism_at}
 use Rattle.formats.specs.RuleFile.{morphism_of, marking_of}
 use Rattle.rule_layout.specs.declared.Shape.{Shape}
-use Rattle.rule_check.specs.declared.Checked.TheVariants.{Rule, Refused as Checked-refused}
 use Rattle.rule_check.specs.Answers.{CheckPromise}
 use Rattle.mark_strong.specs.Deciding.{StrongIf, Decided}
 use Rattle.mark_strong.proofs.Calling.{decided_file, decided_strong, decided_left}
@@ -16,10 +17,10 @@ use Rattle.promises.specs.Strong.{StrongPromise}
 use Rattle.promises.specs.declared.Strength.TheVariants.{Strong as Is-strong, Weak, Refused}
 
 module _ (bytes entry : List ℕ) where
-  pub strong_refused : {exit : List ℕ} {r : Refusal} {i place : ℕ} → CheckPromise 1 bytes entry exit (Checked-refused r i place) → StrongPromise bytes entry exit (Refused r i place)
+  pub strong_refused : {exit : List ℕ} {r : Refusal} {i place : ℕ} → CheckPromise 1 bytes entry exit (Err (refused_by r i place)) → StrongPromise bytes entry exit (Refused r i place)
   strong_refused p = record { refusal = p.refusal; answered = tt; scratch = p.scratch }
 
-  module _ {shape : Shape} {mid exit : List ℕ} {answer : Bool} (p : CheckPromise 1 bytes entry mid (Rule shape))
+  module _ {shape : Shape} {mid exit : List ℕ} {answer : Bool} (p : CheckPromise 1 bytes entry mid (Ok shape))
       (d : Decided (morphism_at bytes shape.elements shape.letters) mid exit answer) (end : List ℕ) (z : end ≡ replicate (length exit) 0) where
     pub says_strong : answer ≡ true → StrongPromise bytes entry end Is-strong
     says_strong e = record {

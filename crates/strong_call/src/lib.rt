@@ -3,9 +3,10 @@
 
 ghost use Rattle.promises.specs.Strong.{StrongPromise};
 
+use answer::Refused;
 use mark_strong::decide;
 use promises::Strength;
-use rule_check::{Checked, check};
+use rule_check::check;
 use sections::zero;
 
 // Checks a rule and says whether it is strong. Scratch ends as zeros, but where it is too short.
@@ -13,12 +14,12 @@ pub fn strong(rule: &[u8], scratch: &mut [u8]) -> Strength
     ensures { StrongPromise rule.now scratch.old scratch.new result }
 {
     let shape = match check(rule, 1, scratch) {
-        Checked::Rule(shape) => shape,
-        Checked::Refused {
+        Ok(shape) => shape,
+        Err(Refused {
             refusal,
             input,
             place,
-        } => {
+        }) => {
             return Strength::Refused {
                 refusal,
                 input,

@@ -1,5 +1,7 @@
 -- What the calls on a rule's automaton promise, from what the check of the rule and the steps promise; and that the automaton of a checked rule
 -- accepts the lassos of the least grade or more. Assumes nothing.
+use Rattle.std.specs.Prelude.{Ok, Err}
+use Rattle.answer.proofs.Parts.{refused_by}
 use Prim.Native.Nat.{ℕ, ◌≤◌, ◌<◌}
 use mathlib.Core.Path.{◌≡◌, refl, sym, subst, ◌∙◌}
 use mathlib.Core.Logic.{inl}
@@ -20,7 +22,6 @@ use Rattle.formats.specs.RuleFile.{morphism_of, marking_of}
 use Rattle.formats.specs.Table.{morphism_at}
 use Rattle.formats.proofs.Buffers.{buffer_short, buffer_long}
 use Rattle.rule_layout.specs.declared.Shape.{Shape}
-use Rattle.rule_check.specs.declared.Checked.TheVariants.{Rule as Checked-rule, Refused as Checked-refused}
 use Rattle.rule_check.specs.Answers.{CheckPromise}
 use Rattle.formats.proofs.GoodRule.{graded_marks, called_good}
 use Rattle.rule_check.proofs.Calls.{shape_morphism, zeros_left, checked_length}
@@ -48,7 +49,7 @@ checked_accepts bytes scratch all least low =
 
 module _ (bytes : List ℕ) (s e least : ℕ) (entry : List ℕ) where
   -- the check's refusal is handed on
-  pub kind_refused : {exit : List ℕ} {r : Refusal} {input place : ℕ} → CheckPromise 1 bytes entry exit (Checked-refused r input place)
+  pub kind_refused : {exit : List ℕ} {r : Refusal} {input place : ℕ} → CheckPromise 1 bytes entry exit (Err (refused_by r input place))
       → KindPromise bytes s e least entry exit (Kind-refused r input place)
   kind_refused p = record {
     refusal = refused_before (checked_checks 1 bytes entry) (kind_own_checks (morphism_of bytes) s e least) p.refusal;
@@ -58,7 +59,7 @@ module _ (bytes : List ℕ) (s e least : ℕ) (entry : List ℕ) where
   }
 
   -- what is said of a checked rule's state
-  module _ {shape : Shape} {mid end : List ℕ} (p : CheckPromise 1 bytes entry mid (Checked-rule shape)) (z : end ≡ replicate (length mid) 0) (answer : StateKind)
+  module _ {shape : Shape} {mid end : List ℕ} (p : CheckPromise 1 bytes entry mid (Ok shape)) (z : end ≡ replicate (length mid) 0) (answer : StateKind)
       (k : KindSaid (morphism_at bytes shape.elements shape.letters) s e least mid answer) where
     same : morphism_at bytes shape.elements shape.letters ≡ morphism_of bytes
     same = shape_morphism p.scratch.shape_is
@@ -88,7 +89,7 @@ successors_short bytes s e letter out scratch h =
     record { refusal = buffer_short h; answered = refl; accepts = λ q. absurd (not_passed q); scratch = short_left successors_size out scratch h }
 
 module _ (bytes : List ℕ) (s e letter : ℕ) (out entry : List ℕ) (long : successors_size ≤ length out) where
-  pub successors_refused : {exit : List ℕ} {r : Refusal} {input place : ℕ} → CheckPromise 1 bytes entry exit (Checked-refused r input place)
+  pub successors_refused : {exit : List ℕ} {r : Refusal} {input place : ℕ} → CheckPromise 1 bytes entry exit (Err (refused_by r input place))
       → SuccessorsPromise bytes s e letter out out entry exit (Successors-refused r input place)
   successors_refused p = record {
     refusal = buffer_long long (refused_before (checked_checks 1 bytes entry) (successor_own_checks (morphism_of bytes) s e letter) p.refusal);
@@ -97,7 +98,7 @@ module _ (bytes : List ℕ) (s e letter : ℕ) (out entry : List ℕ) (long : su
     scratch = long_left successors_size out entry long p.scratch;
   }
 
-  module _ {shape : Shape} {mid end : List ℕ} (p : CheckPromise 1 bytes entry mid (Checked-rule shape)) (z : end ≡ replicate (length mid) 0) where
+  module _ {shape : Shape} {mid end : List ℕ} (p : CheckPromise 1 bytes entry mid (Ok shape)) (z : end ≡ replicate (length mid) 0) where
     abbrev read : Morphism
     read = morphism_at bytes shape.elements shape.letters
 

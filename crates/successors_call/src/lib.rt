@@ -4,10 +4,10 @@
 
 ghost use Rattle.promises.specs.RuleAutomaton.{KindPromise, SuccessorsPromise};
 
-use answer::Refusal;
+use answer::{Refusal, Refused};
 use promises::{SUCCESSORS_SIZE, StateKind, SuccessorList};
 use rule_automaton::{is_state, kind_of, list_successors};
-use rule_check::{Checked, check};
+use rule_check::check;
 use sections::zero;
 
 // Checks a rule and tells the kind of a state for a least grade, or refuses it.
@@ -15,12 +15,12 @@ pub fn state_kind(rule: &[u8], s: usize, e: usize, least: u8, scratch: &mut [u8]
     ensures { KindPromise rule.now s e least scratch.old scratch.new result }
 {
     let shape = match check(rule, 1, scratch) {
-        Checked::Rule(shape) => shape,
-        Checked::Refused {
+        Ok(shape) => shape,
+        Err(Refused {
             refusal,
             input,
             place,
-        } => {
+        }) => {
             return StateKind::Refused {
                 refusal,
                 input,
@@ -54,12 +54,12 @@ pub fn successors(
         };
     }
     let shape = match check(rule, 1, scratch) {
-        Checked::Rule(shape) => shape,
-        Checked::Refused {
+        Ok(shape) => shape,
+        Err(Refused {
             refusal,
             input,
             place,
-        } => {
+        }) => {
             return SuccessorList::Refused {
                 refusal,
                 input,

@@ -1,5 +1,8 @@
 -- Two files that were checked and decided, for the calls that get them: what both rules are, what the strengths say of the files, and what scratch holds and
 -- is left as. Assumes nothing.
+use Rattle.std.specs.Prelude.{Result, Ok, Err}
+use Rattle.answer.specs.declared.Refused.{Refused}
+use Rattle.answer.proofs.Parts.{refused_by}
 use Prim.Native.Nat.{ℕ, ◌≤◌}
 use mathlib.Core.Path.{◌≡◌, sym, ◌∙◌, subst}
 use mathlib.Core.List.{List, ◌++◌, append_assoc}
@@ -24,21 +27,19 @@ use Rattle.mark_strong.specs.Deciding.{DecideNeeds}
 use Rattle.mark_strong.proofs.Calling.{shape_graded, shape_needs}
 use Rattle.two_rules.specs.Checking.{BothPromise}
 use Rattle.two_rules.specs.Deciding.{BothStrong, OnlyFirstStrong, StrengthsAre, BothDecided, StrongFiles}
-use Rattle.two_rules.specs.declared.BothChecked.{BothChecked}
-use Rattle.two_rules.specs.declared.BothChecked.TheVariants.{Rules, Refused}
 use Rattle.two_rules.specs.declared.Strengths.{Strengths}
 use Rattle.two_rules.specs.declared.Strengths.TheVariants.{Strong, FirstWeak, SecondWeak}
 
 -- the answer of both checks, known by its case
-module _ (first second entry exit : List ℕ) (answer : BothChecked) (known : BothPromise first second entry exit answer) where
-  pub both_rules : {one two : Shape} → answer ≡ Rules one two → BothPromise first second entry exit (Rules one two)
+module _ (first second entry exit : List ℕ) (answer : Result (Shape × Shape) Refused) (known : BothPromise first second entry exit answer) where
+  pub both_rules : {one two : Shape} → answer ≡ Ok (one, two) → BothPromise first second entry exit (Ok (one, two))
   both_rules e = subst (BothPromise first second entry exit) e known
 
-  pub both_refused : {r : Refusal} {i place : ℕ} → answer ≡ Refused r i place → BothPromise first second entry exit (Refused r i place)
+  pub both_refused : {r : Refusal} {i place : ℕ} → answer ≡ Err (refused_by r i place) → BothPromise first second entry exit (Err (refused_by r i place))
   both_refused e = subst (BothPromise first second entry exit) e known
 
 -- a refusal stays the verdict whatever checks a call has after those of the files
-pub refused_then : (first second entry : List ℕ) (after : List Check) {exit : List ℕ} {r : Refusal} {i place : ℕ} → BothPromise first second entry exit (Refused r i place)
+pub refused_then : (first second entry : List ℕ) (after : List Check) {exit : List ℕ} {r : Refusal} {i place : ℕ} → BothPromise first second entry exit (Err (refused_by r i place))
     → FirstFailure (checked_checks 1 first entry ++ (rule_checks 2 second ++ after)) (refused r i place)
 refused_then first second entry after {r = r} {i} {place} p =
     subst (λ (checks : List Check). FirstFailure checks (refused r i place)) (append_assoc (checked_checks 1 first entry) (rule_checks 2 second) after) (refused_before _ after p.refusal)
@@ -48,7 +49,7 @@ shape_stands : {bytes scratch : List ℕ} {shape : Shape} {base : ℕ} (marks : 
     → MarkingAt shape.elements marks scratch base
 shape_stands {scratch = scratch} {base = base} marks is t = subst (λ (n : ℕ). MarkingAt n marks scratch base) (sym is.elements) t
 
-module _ (first second entry : List ℕ) {one two : Shape} {mid : List ℕ} (p : BothPromise first second entry mid (Rules one two)) where
+module _ (first second entry : List ℕ) {one two : Shape} {mid : List ℕ} (p : BothPromise first second entry mid (Ok (one, two))) where
   abbrev m₁ : Morphism
   m₁ = morphism_at first one.elements one.letters
 

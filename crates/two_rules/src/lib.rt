@@ -10,70 +10,32 @@ ghost use Rattle.mark_strong.specs.Deciding.{DecideNeeds};
 ghost use Rattle.two_rules.specs.Checking.{SecondVerdict, BothPromise};
 ghost use Rattle.two_rules.specs.Deciding.{TablesMoved, BothDecided};
 
-use answer::Refusal;
+use answer::Refused;
 use mark_strong::decide;
-use rule_check::{Checked, check, check_rule};
+use rule_check::{check, check_rule};
 use rule_layout::Shape;
 use scratch::{MARK_TABLE_SIZE, SEARCH_END, SECOND_BASE};
 use sections::zero;
 
 // The second file's checks. Its marks go behind the bytes that a search uses.
-fn check_second(second: &[u8], scratch: &mut [u8]) -> Checked
+fn check_second(second: &[u8], scratch: &mut [u8]) -> Result<Shape, Refused>
     requires { scratch_size ≤ length scratch.old }
     ensures { SecondVerdict second.now scratch.old scratch.new result }
 {
     check_rule(second, 2, &mut scratch[SEARCH_END..])
 }
 
-// The counts of two checked rules, or the first check that fails.
-#[derive(Drop)]
-pub enum BothChecked {
-    Rules {
-        first: Shape,
-        second: Shape,
-    },
-    Refused {
-        refusal: Refusal,
-        input: usize,
-        place: usize,
-    },
-}
-
 // The size of scratch, the checks of the first file, then those of the second. Rules that pass leave their marks, the first's in front and
 // the second's from 61440 on; a refusal leaves zeros, but where scratch is too short.
-pub fn check_both(first: &[u8], second: &[u8], scratch: &mut [u8]) -> BothChecked
+pub fn check_both(first: &[u8], second: &[u8], scratch: &mut [u8]) -> Result<(Shape, Shape), Refused>
     ensures { BothPromise first.now second.now scratch.old scratch.new result }
 {
-    let shape = match check(first, 1, scratch) {
-        Checked::Rule(shape) => shape,
-        Checked::Refused {
-            refusal,
-            input,
-            place,
-        } => {
-            return BothChecked::Refused {
-                refusal,
-                input,
-                place,
-            };
-        }
-    };
+    let shape = check(first, 1, scratch)?;
     match check_second(second, scratch) {
-        Checked::Rule(other) => BothChecked::Rules {
-            first: shape,
-            second: other,
-        },
-        Checked::Refused {
-            refusal,
-            input,
-            place,
-        } => {
+        Ok(other) => Ok((shape, other)),
+        Err(refused) => {
             zero(scratch);
-            BothChecked::Refused {
-                refusal,
-                input,
-                place,
-            }
+            Err(refused)
         }
     }
 }
@@ -116,13 +78,11 @@ pub fn decide_both(
     requires decide_needs_2 { DecideNeeds (morphism_at second.now n2 k2) search_end scratch.old }
     ensures { BothDecided (morphism_at first.now n1 k1) (morphism_at second.now n2 k2) scratch.old scratch.new result }
 {
-    let first_strong = decide(first, n1, k1, scratch);
-    if !first_strong {
+    if !decide(first, n1, k1, scratch) {
         return Strengths::FirstWeak;
     }
     move_tables(scratch);
-    let second_strong = decide(second, n2, k2, scratch);
-    if !second_strong {
+    if !decide(second, n2, k2, scratch) {
         return Strengths::SecondWeak;
     }
     Strengths::Strong

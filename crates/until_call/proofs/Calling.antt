@@ -1,4 +1,6 @@
 -- What the call promises, from what the checks of both files and the checks behind them promise. Assumes nothing.
+use Rattle.std.specs.Prelude.{Ok, Err}
+use Rattle.answer.proofs.Parts.{refused_by}
 use Prim.Native.Nat.{ℕ, ◌≤◌, ◌<◌}
 use mathlib.Core.Path.{◌≡◌, refl, sym, ap, ◌∙◌}
 use mathlib.Core.List.{List}
@@ -10,7 +12,6 @@ use Rattle.formats.specs.RuleChecks.{rule_size, scratch_size}
 use Rattle.formats.specs.Calls.{after_call}
 use Rattle.formats.proofs.Buffers.{buffer_short, buffer_long}
 use Rattle.rule_layout.specs.declared.Shape.{Shape}
-use Rattle.two_rules.specs.declared.BothChecked.TheVariants.{Rules, Refused as Both-refused}
 use Rattle.two_rules.specs.Checking.{BothPromise}
 use Rattle.two_rules.proofs.Calling.{refused_then, passed_then, both_left}
 use Rattle.promises.specs.declared.Written.{Written}
@@ -22,7 +23,7 @@ use Rattle.until_call.specs.Buffers.{LongBuffers, UntilLong}
 
 module _ (first second out classes entry : List ℕ) where
   -- the refusal of a file is handed on
-  pub file_refused : {mid : List ℕ} {r : Refusal} {input place : ℕ} → BothPromise first second entry mid (Both-refused r input place)
+  pub file_refused : {mid : List ℕ} {r : Refusal} {input place : ℕ} → BothPromise first second entry mid (Err (refused_by r input place))
       → UntilLong first second out out classes classes entry mid (Refused r input place)
   file_refused p = record {
     refusal = refused_then first second entry (until_own_checks first second) p;
@@ -31,7 +32,7 @@ module _ (first second out classes entry : List ℕ) where
     scratch = p.scratch;
   }
 
-  module _ {one two : Shape} {mid : List ℕ} (p : BothPromise first second entry mid (Rules one two)) where
+  module _ {one two : Shape} {mid : List ℕ} (p : BothPromise first second entry mid (Ok (one, two))) where
     -- of two files that pass the rule may be made
     pub both_place : LongBuffers out classes → BothReady first second one two mid classes out
     both_place b = record { entry = entry; checked = p; out_room = b.out_room; classes_room = b.classes_room }

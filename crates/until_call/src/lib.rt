@@ -5,12 +5,12 @@
 ghost use Rattle.temporal_promises.specs.Until.{UntilPromise};
 ghost use Rattle.until_call.specs.Buffers.{LongBuffers, UntilLong};
 
-use answer::Refusal;
+use answer::{Refusal, Refused};
 use formats::{RULE_SIZE, SCRATCH_SIZE};
 use promises::Written;
 use sections::zero;
 use temporal_promises::UNTIL_CLASSES_SIZE;
-use two_rules::{BothChecked, check_both};
+use two_rules::check_both;
 use until_strengths::until_checked;
 
 // The answer where the buffers of the rule and of the classes are long enough. Scratch is left as every call leaves it.
@@ -25,19 +25,16 @@ fn until_long(
     ensures { UntilLong first.now second.now out.old out.new classes.old classes.new scratch.old scratch.new result }
 {
     match check_both(first, second, scratch) {
-        BothChecked::Refused {
+        Err(Refused {
             refusal,
             input,
             place,
-        } => Written::Refused {
+        }) => Written::Refused {
             refusal,
             input,
             place,
         },
-        BothChecked::Rules {
-            first: one,
-            second: two,
-        } => {
+        Ok((one, two)) => {
             let answer = until_checked(first, one, second, two, classes, scratch, out);
             zero(scratch);
             answer

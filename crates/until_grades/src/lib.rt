@@ -22,8 +22,7 @@ fn grade_of(rule: &[u8], n: usize, k: usize, scratch: &[u8], base: usize, s: usi
     ensures { result ≡ look (morphism_at rule.now n k) scratch.now base s z }
 {
     let power = idempotent_power(rule, n, k, z);
-    let f = power.element;
-    outcome(rule, n, k, scratch, base, s, f)
+    outcome(rule, n, k, scratch, base, s, power.element)
 }
 
 // The second grade, and four times the higher.
@@ -31,10 +30,7 @@ fn both_grades(first: u8, second: u8) -> u8
     requires { (first ≤ 3) × (second ≤ 3) }
     ensures { result ≡ second + 4 * max second first }
 {
-    if first < second {
-        return second + 4 * second;
-    }
-    second + 4 * first
+    second + 4 * second.max(first)
 }
 
 // The byte of a context.
@@ -77,6 +73,7 @@ fn grades_row(
     requires t_lt_count { t < count }
     ensures { RowFilled (λ z byte. byte ≡ both_grades first.now n1 second.now n2 k scratch.old t z) (until_grades_base + t * 64) count scratch.old scratch.new }
 {
+    // By index: each byte is worked out from the slice that it is written to.
     for z in 0..count {
         let byte = grades_byte(first, n1, second, n2, k, count, scratch, t, z);
         scratch[UNTIL_GRADES_BASE + (t * 64 + z)] = byte;

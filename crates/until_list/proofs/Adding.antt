@@ -1,4 +1,5 @@
 -- A class is added unless it is there. Assumes nothing.
+use Rattle.std.proofs.Common.{Some, None}
 use Prim.Native.Nat.{ℕ, ◌+◌, ◌*◌, ◌≤◌, ◌<◌}
 use native.Mathlib.Omega.{arith}
 use mathlib.Core.Path.{◌≡◌, refl, ◌∙◌}
@@ -8,8 +9,7 @@ use lib.Seq.{get_or-set_same, get_or-set_other}
 use Rattle.scratch.specs.Rows.{RowsFilled}
 use Rattle.word_steps.specs.Records.{RecordNeeds, StepRecorded}
 use Rattle.until_step.specs.Bytes.{new_at}
-use Rattle.until_search.specs.Searching.{FoundClass, SearchNeeds, StoreNeeds}
-use Rattle.until_list.specs.declared.ClassCount.TheVariants.{Listed, TooMany}
+use Rattle.until_search.specs.Searching.{NoClass, ClassThere, SearchNeeds, StoreNeeds}
 use Rattle.until_list.specs.Adding.{AddNeeds, TablesKept, known, added, Added}
 
 -- what is recorded of a step stands before the tables
@@ -24,33 +24,35 @@ module _ {np count p x pair : ℕ} {entry classes : List ℕ} (n : AddNeeds np c
   pub search_place : SearchNeeds np entry classes
   search_place = record { few_pairs = n.few_pairs; room = n.room; classes_room = n.classes_room }
 
-  module _ {at : ℕ} (f : FoundClass np entry classes count pair at) where
-    pub known_place : at < count → RecordNeeds entry p x at count
-    known_place h =
+  module _ {at : ℕ} (f : ClassThere np entry classes count pair at) where
+    pub known_place : RecordNeeds entry p x at count
+    known_place =
         let few = n.few in
         let there = n.entry_there in
+        let below = f.below in
         record { entry_small = omega arith; letter_small = n.letter_small; number_small = omega arith; next_small = few; room = n.room }
 
-    pub add_known : {exit : List ℕ} → at < count → StepRecorded entry exit p x at count → Added np entry exit classes classes count p x pair (Listed count)
-    add_known h r =
+    pub add_known : {exit : List ℕ} → StepRecorded entry exit p x at count → Added np entry exit classes classes count p x pair (Some count)
+    add_known r =
         let few = n.few in
         let there = n.entry_there in
         record {
           kept = recorded_kept (omega arith) n.letter_small few r;
           classes_length = refl;
-          says = known refl (record { number = at; below = h; same = f.here h; recorded = r; classes_kept = refl });
+          says = known refl (record { number = at; below = f.below; same = f.same; recorded = r; classes_kept = refl });
         }
 
-    pub add_full : count ≤ at → 64 ≤ count → Added np entry entry classes classes count p x pair TooMany
-    add_full h full =
+  module _ (new : NoClass np entry classes count pair) where
+    pub add_full : 64 ≤ count → Added np entry entry classes classes count p x pair None
+    add_full full =
         let few = n.few in
         record {
           kept = record { same_length = refl; between = λ i l g. refl; behind = λ i l. refl };
           classes_length = refl;
-          says = record { full = omega arith; new = f.nowhere h };
+          says = record { full = omega arith; new = new };
         }
 
-    module _ (h : count ≤ at) (place : count < 64) where
+    module _ (place : count < 64) where
       pub store_place : StoreNeeds np count entry classes
       store_place = record { needs = search_place; place = place }
 
@@ -63,7 +65,7 @@ module _ {np count p x pair : ℕ} {entry classes : List ℕ} (n : AddNeeds np c
           record { entry_small = omega arith; letter_small = n.letter_small; number_small = place; next_small = omega arith; room = simp length-set n.room }
 
       pub add_new : {exit classes' : List ℕ} → RowsFilled (λ t z byte. byte ≡ new_at entry t z) (count * 4096) 64 np np classes classes'
-          → StepRecorded (set entry (28672 + count) pair) exit p x count count → Added np entry exit classes classes' count p x pair (Listed (count + 1))
+          → StepRecorded (set entry (28672 + count) pair) exit p x count count → Added np entry exit classes classes' count p x pair (Some (count + 1))
       add_new {exit} s r =
           let there = n.entry_there in
           let small = n.letter_small in
@@ -77,7 +79,7 @@ module _ {np count p x pair : ℕ} {entry classes : List ℕ} (n : AddNeeds np c
             classes_length = s.kept.same_length;
             says = added refl (record {
               place = place;
-              new = f.nowhere h;
+              new = new;
               mid = mid;
               records = record { same = λ i l g. get_or-set_other entry (28672 + count) i pair 0 (omega arith) };
               recorded = r;

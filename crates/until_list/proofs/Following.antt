@@ -1,4 +1,5 @@
 -- A letter followed from an entry: the list goes on with the class that it leads to, or there are more than 64. Assumes nothing.
+use Rattle.std.proofs.Common.{Option, Some, None}
 use Prim.Native.Nat.{ℕ, suc, ◌+◌, ◌*◌, ◌≤◌, ◌<◌}
 use native.Mathlib.Omega.{arith}
 use native.Mathlib.Decide.{ℕ_discrete}
@@ -17,8 +18,6 @@ use Rattle.until_clamps.specs.Clamps.{low_of, high_of}
 use Rattle.until_clamps.proofs.Clamps.{ends_same}
 use Rattle.until_step.specs.Bytes.{new_at, class_at}
 use Rattle.until_search.specs.Searching.{ClassSame}
-use Rattle.until_list.specs.declared.ClassCount.{ClassCount}
-use Rattle.until_list.specs.declared.ClassCount.TheVariants.{Listed, TooMany}
 use Rattle.until_list.specs.Listing.{ClassHeld, Listing, Stepped}
 use Rattle.until_list.specs.Adding.{TablesKept, StepKnown, StepNew, AddedTo, known, added, Full, AddAnswer}
 use Rattle.until_list.specs.Following.{Grown, GrownAnswer}
@@ -113,6 +112,6 @@ module _ {m : Morphism} {first second : ℕ → ℕ → ℕ} {entry classes : Li
         subst (MoreWords m.letters (SameUntilClass m first second)) f.full (search_full congruence l.search inside letter (λ i h q. f.new.none i h (related_same h q))) in
         record { word = w.word; over = λ i h. (w.words i h).over; some = λ i h. (w.words i h).some; apart = w.apart }
 
-    pub letter_grown : (answer : ClassCount) → AddAnswer m.size entry exit classes classes' count p x pair answer → GrownAnswer m first second exit classes' count p (x + 1) answer
-    letter_grown (Listed total) a = added_grown a
-    letter_grown TooMany a = full_more a
+    pub letter_grown : (answer : Option ℕ) → AddAnswer m.size entry exit classes classes' count p x pair answer → GrownAnswer m first second exit classes' count p (x + 1) answer
+    letter_grown (Some total) a = added_grown a
+    letter_grown None a = full_more a

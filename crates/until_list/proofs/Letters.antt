@@ -1,4 +1,5 @@
 -- Following letters and entries, from what the functions leave in bytes. Assumes nothing.
+use Rattle.std.proofs.Common.{Option, Some, None}
 use Prim.Native.Nat.{ℕ, ◌+◌, ◌≤◌, ◌<◌}
 use native.Mathlib.Omega.{arith}
 use mathlib.Core.Path.{◌≡◌, refl, sym, subst, ◌∙◌}
@@ -11,8 +12,6 @@ use Rattle.word_steps.specs.Records.{word_at}
 use Rattle.word_steps.proofs.Searching.{search_next, search_end_lem}
 use Rattle.until_clamps.specs.Clamps.{low_of, high_of}
 use Rattle.until_step.specs.Bytes.{image_byte, new_at, stepped_byte, letter_byte, pair_behind, StepNeeds, LetterNeeds, PairNeeds}
-use Rattle.until_list.specs.declared.ClassCount.{ClassCount}
-use Rattle.until_list.specs.declared.ClassCount.TheVariants.{Listed, TooMany}
 use Rattle.until_list.specs.Listing.{pairs_table, Listing, Stepped}
 use Rattle.until_list.specs.Adding.{AddNeeds, Added}
 use Rattle.until_list.specs.Following.{LetterReady, EntryReady, EntryListed, ListReady, Grown, GrownAnswer, Followed, EntryFollowed, EntryGrown, UntilListed}
@@ -52,7 +51,7 @@ module _ {np k : ℕ} {scratch classes : List ℕ} {count p x : ℕ} (r : Letter
 
 module _ {np k : ℕ} {scratch b exit classes classes' : List ℕ} {count p x pair : ℕ} (w : RowsFilled (λ t z byte. byte ≡ letter_byte scratch np (image_byte scratch x) t z) until_class_base 64 np np scratch b)
     (e : pair ≡ pair_behind b np p (image_byte scratch x)) where
-  pub letter_followed : (answer : ClassCount) → Added np b exit classes classes' count p x pair answer → Followed np k scratch exit classes classes' count p x answer
+  pub letter_followed : (answer : Option ℕ) → Added np b exit classes classes' count p x pair answer → Followed np k scratch exit classes classes' count p x answer
   letter_followed answer a = record {
     same_length = a.kept.same_length ∙ w.kept.same_length;
     classes_length = a.classes_length;
@@ -99,8 +98,8 @@ module _ {np k : ℕ} {entry now classes classes' : List ℕ} {count p total x :
         letter = h;
       }
 
-  module _ {next classes'' : List ℕ} {answer : ClassCount} (s : Followed np k now next classes' classes'' total p x answer) (h : x < k) where
-    pub following_next : {c : ℕ} → answer ≡ Listed c → FollowingLetters np k entry next classes classes'' count p c (x + 1)
+  module _ {next classes'' : List ℕ} {answer : Option ℕ} (s : Followed np k now next classes' classes'' total p x answer) (h : x < k) where
+    pub following_next : {c : ℕ} → answer ≡ Some c → FollowingLetters np k entry next classes classes'' count p c (x + 1)
     following_next {c} e = record {
       same_length = s.same_length ∙ f.same_length;
       classes_length = s.classes_length ∙ f.classes_length;
@@ -113,7 +112,7 @@ module _ {np k : ℕ} {entry now classes classes' : List ℕ} {count p total x :
           record { listing = g'.listing; stepped = g'.stepped; more = omega (arith, g.more, g'.more) };
     }
 
-    pub following_full : answer ≡ TooMany → EntryFollowed np k entry next classes classes'' count p TooMany
+    pub following_full : answer ≡ None → EntryFollowed np k entry next classes classes'' count p None
     following_full e = record {
       same_length = s.same_length ∙ f.same_length;
       classes_length = s.classes_length ∙ f.classes_length;
@@ -123,7 +122,7 @@ module _ {np k : ℕ} {entry now classes classes' : List ℕ} {count p total x :
           (s.says product image first second g.listing g.stepped (omega (arith, inside, g.more)) h);
     }
 
-  pub following_done : k ≤ x → EntryFollowed np k entry now classes classes' count p (Listed total)
+  pub following_done : k ≤ x → EntryFollowed np k entry now classes classes' count p (Some total)
   following_done h =
       let q : x ≡ k = omega (arith, f.within) in
       record {
@@ -151,7 +150,7 @@ module _ {np k : ℕ} {scratch classes : List ℕ} {count p : ℕ} (r : EntryLis
         inside = r.inside;
       }
 
-pub entry_grown : {np k : ℕ} {scratch b exit classes classes' : List ℕ} {count p : ℕ} {answer : ClassCount}
+pub entry_grown : {np k : ℕ} {scratch b exit classes classes' : List ℕ} {count p : ℕ} {answer : Option ℕ}
     → RowsFilled (λ s z byte. byte ≡ stepped_byte classes scratch p s z) until_step_base 64 np np scratch b → EntryFollowed np k b exit classes classes' count p answer
     → EntryGrown np k scratch exit classes classes' count p answer
 entry_grown {p = p} w f = record {
@@ -186,8 +185,8 @@ module _ {np k : ℕ} {entry now classes classes' : List ℕ} {count p : ℕ} (f
     inside = h;
   }
 
-  module _ {next classes'' : List ℕ} {answer : ClassCount} (s : EntryGrown np k now next classes' classes'' count p answer) (h : p ≤ count) where
-    pub entries_next : {c : ℕ} → answer ≡ Listed c → Entries np k entry next classes classes'' c (p + 1)
+  module _ {next classes'' : List ℕ} {answer : Option ℕ} (s : EntryGrown np k now next classes' classes'' count p answer) (h : p ≤ count) where
+    pub entries_next : {c : ℕ} → answer ≡ Some c → Entries np k entry next classes classes'' c (p + 1)
     entries_next {c} e = record {
       same_length = s.same_length ∙ f.same_length;
       classes_length = s.classes_length ∙ f.classes_length;
@@ -208,7 +207,7 @@ module _ {np k : ℕ} {entry now classes classes' : List ℕ} {count p : ℕ} (f
               classes_room = g.listing.classes_room;
             }
 
-    pub entries_full : answer ≡ TooMany → UntilListed np k entry next classes classes'' TooMany
+    pub entries_full : answer ≡ None → UntilListed np k entry next classes classes'' None
     entries_full e = record {
       same_length = s.same_length ∙ f.same_length;
       classes_length = s.classes_length ∙ f.classes_length;
@@ -216,7 +215,7 @@ module _ {np k : ℕ} {entry now classes classes' : List ℕ} {count p : ℕ} (f
           subst (GrownAnswer (pairs_table np k product image) first second next classes'' count p k) e (s.says product image first second (f.listed product image first second l) h);
     }
 
-  pub entries_done : count < p → UntilListed np k entry now classes classes' (Listed count)
+  pub entries_done : count < p → UntilListed np k entry now classes classes' (Some count)
   entries_done h = record {
     same_length = f.same_length;
     classes_length = f.classes_length;

@@ -1,5 +1,5 @@
 -- What is asked for and what is done where a class is added to the list. Assumes nothing.
-use Rattle.std.specs.Prelude.{ℕ, ◌+◌, ◌*◌, ◌≤◌, ◌<◌, ◌≡◌, List, length, get_or}
+use Rattle.std.specs.Prelude.{ℕ, ◌+◌, ◌*◌, ◌≤◌, ◌<◌, ◌≡◌, List, length, get_or, Option, Some, None}
 use Rattle.scratch.specs.Map.{laid_products_base, laid_end, until_grades_base}
 use Rattle.scratch.specs.Rows.{RowsFilled}
 use Rattle.formats.specs.RuleChecks.{scratch_size}
@@ -7,8 +7,6 @@ use Rattle.temporal_promises.specs.Until.{until_classes_size}
 use Rattle.word_steps.specs.Records.{StepRecorded, RecordsKept}
 use Rattle.until_step.specs.Bytes.{new_at, pair_at}
 use Rattle.until_search.specs.Searching.{ClassSame, NoClass}
-use Rattle.until_list.specs.declared.ClassCount.{ClassCount}
-use Rattle.until_list.specs.declared.ClassCount.TheVariants.{Listed, TooMany}
 
 -- numbers that fit, and room
 pub record AddNeeds (np count p x pair : ℕ) (scratch classes : List ℕ) : Type 0 where
@@ -54,11 +52,11 @@ pub record Full (np : ℕ) (entry classes : List ℕ) (count pair : ℕ) : Type 
   pub full : count ≡ 64
   pub new : NoClass np entry classes count pair
 
-abbrev pub AddAnswer : ℕ → List ℕ → List ℕ → List ℕ → List ℕ → ℕ → ℕ → ℕ → ℕ → ClassCount → Type 0
-AddAnswer np entry exit classes classes' count p x pair (Listed total) = AddedTo np entry exit classes classes' count p x pair total
-AddAnswer np entry exit classes classes' count p x pair TooMany = Full np entry classes count pair
+abbrev pub AddAnswer : ℕ → List ℕ → List ℕ → List ℕ → List ℕ → ℕ → ℕ → ℕ → ℕ → Option ℕ → Type 0
+AddAnswer np entry exit classes classes' count p x pair (Some total) = AddedTo np entry exit classes classes' count p x pair total
+AddAnswer np entry exit classes classes' count p x pair None = Full np entry classes count pair
 
-pub record Added (np : ℕ) (entry exit classes classes' : List ℕ) (count p x pair : ℕ) (answer : ClassCount) : Type 0 where
+pub record Added (np : ℕ) (entry exit classes classes' : List ℕ) (count p x pair : ℕ) (answer : Option ℕ) : Type 0 where
   pub kept : TablesKept entry exit
   pub classes_length : length classes' ≡ length classes
   pub says : AddAnswer np entry exit classes classes' count p x pair answer

@@ -10,14 +10,8 @@ use until_search::{find_class, store_class};
 use until_step::{class_rows, pair_behind, step_rows};
 use word_steps::record_step;
 
-// How many classes there are, or that there are more than 64.
-#[derive(Drop)]
-pub enum ClassCount {
-    Listed(usize),
-    TooMany,
-}
-
-// Adds the class that is worked out, with its pair, unless it is there, and records the step that led to it.
+// Adds the class that is worked out, with its pair, unless it is there, and records the step that led to it: how many classes there are
+// then, or none where there are more than 64.
 fn add_class(
     classes: &mut [u8],
     scratch: &mut [u8],
@@ -26,22 +20,21 @@ fn add_class(
     from: usize,
     letter: usize,
     pair: usize,
-) -> ClassCount
+) -> Option<usize>
     requires { AddNeeds np count from letter pair scratch.old classes.old }
     ensures { Added np scratch.old scratch.new classes.old classes.new count from letter pair result }
 {
-    let at = find_class(classes, scratch, np, count, pair);
-    if at < count {
+    if let Some(at) = find_class(classes, scratch, np, count, pair) {
         record_step(scratch, from, letter, at, count);
-        return ClassCount::Listed(count);
+        return Some(count);
     }
     if 64 <= count {
-        return ClassCount::TooMany;
+        return None;
     }
     store_class(classes, scratch, np, count);
     scratch[UNTIL_PAIRS_BASE + count] = pair as u8;
     record_step(scratch, from, letter, count, count);
-    ClassCount::Listed(count + 1)
+    Some(count + 1)
 }
 
 // Follows one letter from an entry, what the entry makes of the grades being worked out.
@@ -53,7 +46,7 @@ fn follow_letter(
     count: usize,
     from: usize,
     letter: usize,
-) -> ClassCount
+) -> Option<usize>
     requires { LetterReady np k scratch.old classes.old count from letter }
     ensures { Followed np k scratch.old scratch.new classes.old classes.new count from letter result }
 {
@@ -71,21 +64,15 @@ fn follow_letters(
     k: usize,
     count: usize,
     from: usize,
-) -> ClassCount
+) -> Option<usize>
     requires { EntryReady np k scratch.old classes.old count from }
     ensures { EntryFollowed np k scratch.old scratch.new classes.old classes.new count from result }
 {
     let mut total = count;
     for letter in 0..k {
-        let next = match follow_letter(classes, scratch, np, k, total, from, letter) {
-            ClassCount::Listed(c) => c,
-            ClassCount::TooMany => {
-                return ClassCount::TooMany;
-            }
-        };
-        total = next;
+        total = follow_letter(classes, scratch, np, k, total, from, letter)?;
     }
-    ClassCount::Listed(total)
+    Some(total)
 }
 
 // Works out what an entry makes of the grades, and follows every letter from it.
@@ -96,7 +83,7 @@ fn follow_entry(
     k: usize,
     count: usize,
     from: usize,
-) -> ClassCount
+) -> Option<usize>
     requires { EntryListed np k scratch.old classes.old count from }
     ensures { EntryGrown np k scratch.old scratch.new classes.old classes.new count from result }
 {
@@ -104,22 +91,17 @@ fn follow_entry(
     follow_letters(classes, scratch, np, k, count, from)
 }
 
-// The classes of all non-empty words, each once, in the order of their first words, or that there are more than 64.
-pub fn list_until(classes: &mut [u8], scratch: &mut [u8], np: usize, k: usize) -> ClassCount
+// The classes of all non-empty words, each once, in the order of their first words: how many they are, or none where there are more than 64.
+pub fn list_until(classes: &mut [u8], scratch: &mut [u8], np: usize, k: usize) -> Option<usize>
     requires { ListReady np k scratch.old classes.old }
     ensures { UntilListed np k scratch.old scratch.new classes.old classes.new result }
 {
     let mut count = 0;
     let mut from = 0;
+    // A while: the list grows on the way, so that no range has its entries beforehand.
     while from <= count {
-        let next = match follow_entry(classes, scratch, np, k, count, from) {
-            ClassCount::Listed(c) => c,
-            ClassCount::TooMany => {
-                return ClassCount::TooMany;
-            }
-        };
-        count = next;
+        count = follow_entry(classes, scratch, np, k, count, from)?;
         from += 1;
     }
-    ClassCount::Listed(count)
+    Some(count)
 }

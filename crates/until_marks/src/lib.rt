@@ -27,6 +27,7 @@ fn grade_row(classes: &[u8], scratch: &mut [u8], count: usize, s: usize)
     requires s_lt_count { s < count }
     ensures { RowFilled (λ e byte. byte ≡ until_grade scratch.old classes.now s e) (laid_marks_base + s * 64) count scratch.old scratch.new }
 {
+    // By index: each byte is worked out from the slice that it is written to.
     for e in 0..count {
         let grade = until_grade(classes, scratch, count, s, e);
         scratch[LAID_MARKS_BASE + (s * 64 + e)] = grade;

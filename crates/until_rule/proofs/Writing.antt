@@ -1,4 +1,5 @@
 -- The rule of `until` from its parts: the list of the classes, their grades, and what was written. Assumes nothing.
+use Rattle.std.proofs.Common.{Option, Some, None}
 use Prim.Native.Nat.{ℕ, suc, ◌≤◌, ◌<◌}
 use native.Mathlib.Omega.{arith}
 use mathlib.Core.Path.{◌≡◌, refl, sym, subst, ◌∙◌}
@@ -25,11 +26,8 @@ use Rattle.word_table.proofs.Tables.{search_needs, search_some, search_table, se
 use Rattle.word_rule.specs.Writing.{WordsNeeds, WordsWritten}
 use Rattle.until_step.specs.Bytes.{pair_at, class_at}
 use Rattle.until_marks.specs.Marks.{low_at, high_at, until_grade, ClassesSmall}
-use Rattle.until_list.specs.declared.ClassCount.{ClassCount}
-use Rattle.until_list.specs.declared.ClassCount.TheVariants.{Listed, TooMany as Too-many}
 use Rattle.until_list.specs.Listing.{pairs_table, Listing}
 use Rattle.until_list.specs.Following.{ListAnswer, UntilListed}
-use Rattle.until_rule.specs.declared.UntilFile.TheVariants.{Rule as Is-rule, TooMany}
 use Rattle.until_rule.specs.Writing.{UntilNeeds, UntilRuleWritten, UntilWritten}
 
 -- ---- of one table
@@ -115,8 +113,8 @@ module _ {m : Morphism} {first second : ℕ → ℕ → ℕ} {b classes : List �
 
 -- ---- whatever the table
 
-module _ {np k : ℕ} {entry b classes classes' out : List ℕ} {answer : ClassCount} (n : UntilNeeds np k entry classes out) (l : UntilListed np k entry b classes classes' answer) where
-  pub until_full : answer ≡ Too-many → UntilWritten np k entry b classes classes' out out TooMany
+module _ {np k : ℕ} {entry b classes classes' out : List ℕ} {answer : Option ℕ} (n : UntilNeeds np k entry classes out) (l : UntilListed np k entry b classes classes' answer) where
+  pub until_full : answer ≡ None → UntilWritten np k entry b classes classes' out out None
   until_full e = record {
     same_length = l.same_length;
     classes_length = l.classes_length;
@@ -124,7 +122,7 @@ module _ {np k : ℕ} {entry b classes classes' out : List ℕ} {answer : ClassC
         record { more = subst (ListAnswer (pairs_table np k product image) first second b classes') e (l.says product image first second s); kept = refl };
   }
 
-  module _ {count : ℕ} (e : answer ≡ Listed count) where
+  module _ {count : ℕ} (e : answer ≡ Some count) where
     listing : (product : ℕ → ℕ → ℕ) (image : ℕ → ℕ) (first second : ℕ → ℕ → ℕ) → Listing (pairs_table np k product image) first second entry classes 0 0 0
         → Listing (pairs_table np k product image) first second b classes' count count k
     listing product image first second s = subst (ListAnswer (pairs_table np k product image) first second b classes') e (l.says product image first second s)
@@ -139,7 +137,7 @@ module _ {np k : ℕ} {entry b classes classes' out : List ℕ} {answer : ClassC
       pub write_place : WordsNeeds count k d out
       write_place = words_place own g n.letters_some n.out_room
 
-      pub until_written : {exit after : List ℕ} {end : ℕ} → WordsWritten count k d exit out after end → UntilWritten np k entry exit classes classes' out after (Is-rule end)
+      pub until_written : {exit after : List ℕ} {end : ℕ} → WordsWritten count k d exit out after end → UntilWritten np k entry exit classes classes' out after (Some end)
       until_written w = record {
         same_length = w.same_length ∙ g.kept.same_length ∙ l.same_length;
         classes_length = l.classes_length;

@@ -1,5 +1,5 @@
 -- What is asked for and what is written of the rule of `until`, whatever table and grades stand in scratch. Assumes nothing.
-use Rattle.std.specs.Prelude.{ℕ, ◌≤◌, ◌≡◌, List, length}
+use Rattle.std.specs.Prelude.{ℕ, ◌≤◌, ◌≡◌, List, length, Option, Some, None}
 use Rattle.theory.specs.Rules.{Morphism, Lawful, Marking}
 use Rattle.temporal.specs.Clamps.{UntilClassesOf, until_outcome, MoreUntilClasses}
 use Rattle.minimality.proofs.Saturation.{MarksOutcomes}
@@ -9,8 +9,6 @@ use Rattle.formats.specs.WrittenFile.{file_of}
 use Rattle.formats.specs.Front.{AtFront}
 use Rattle.until_list.specs.Listing.{pairs_table, Listing}
 use Rattle.until_list.specs.Following.{ListReady}
-use Rattle.until_rule.specs.declared.UntilFile.{UntilFile}
-use Rattle.until_rule.specs.declared.UntilFile.TheVariants.{Rule as Is-rule, TooMany}
 
 -- a table and grades in scratch, letters, and room
 pub record UntilNeeds (np k : ℕ) (scratch classes out : List ℕ) : Type 0 where
@@ -38,11 +36,11 @@ pub record TooManyUntil (m : Morphism) (first second : ℕ → ℕ → ℕ) (bef
   pub more : MoreUntilClasses m first second 64
   pub kept : after ≡ before
 
-abbrev pub UntilFileAnswer : Morphism → (ℕ → ℕ → ℕ) → (ℕ → ℕ → ℕ) → List ℕ → List ℕ → UntilFile → Type 0
-UntilFileAnswer m first second before after (Is-rule end) = UntilRuleWritten m first second before after end
-UntilFileAnswer m first second before after TooMany = TooManyUntil m first second before after
+abbrev pub UntilFileAnswer : Morphism → (ℕ → ℕ → ℕ) → (ℕ → ℕ → ℕ) → List ℕ → List ℕ → Option ℕ → Type 0
+UntilFileAnswer m first second before after (Some end) = UntilRuleWritten m first second before after end
+UntilFileAnswer m first second before after None = TooManyUntil m first second before after
 
-pub record UntilWritten (np k : ℕ) (entry exit classes classes' before after : List ℕ) (answer : UntilFile) : Type 0 where
+pub record UntilWritten (np k : ℕ) (entry exit classes classes' before after : List ℕ) (answer : Option ℕ) : Type 0 where
   pub same_length : length exit ≡ length entry
   pub classes_length : length classes' ≡ length classes
   pub says : (product : ℕ → ℕ → ℕ) (image : ℕ → ℕ) (first second : ℕ → ℕ → ℕ) → Listing (pairs_table np k product image) first second entry classes 0 0 0

@@ -4,34 +4,22 @@
 
 ghost use Rattle.until_rule.specs.Writing.{UntilNeeds, UntilWritten};
 
-use until_list::{ClassCount, list_until};
+use until_list::list_until;
 use until_marks::lay_until;
 use word_rule::write_words;
 
-// The number of bytes that were written, or that there are more than 64 classes.
-#[derive(Drop)]
-pub enum UntilFile {
-    Rule(usize),
-    TooMany,
-}
-
-// Writes the rule of the classes, or finds too many of them.
+// Writes the rule of the classes: how many bytes it takes, or none where there are more than 64.
 pub fn write_until(
     classes: &mut [u8],
     scratch: &mut [u8],
     np: usize,
     k: usize,
     out: &mut [u8],
-) -> UntilFile
+) -> Option<usize>
     requires { UntilNeeds np k scratch.old classes.old out.old }
     ensures { UntilWritten np k scratch.old scratch.new classes.old classes.new out.old out.new result }
 {
-    let count = match list_until(classes, scratch, np, k) {
-        ClassCount::Listed(c) => c,
-        ClassCount::TooMany => {
-            return UntilFile::TooMany;
-        }
-    };
+    let count = list_until(classes, scratch, np, k)?;
     lay_until(classes, scratch, count);
-    UntilFile::Rule(write_words(scratch, count, k, out))
+    Some(write_words(scratch, count, k, out))
 }

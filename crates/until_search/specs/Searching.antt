@@ -1,5 +1,5 @@
 -- What is asked for and what is told where a class is looked up among others. Assumes nothing.
-use Rattle.std.specs.Prelude.{ℕ, ◌≤◌, ◌<◌, ◌≡◌, List, length}
+use Rattle.std.specs.Prelude.{ℕ, ◌≤◌, ◌<◌, ◌≡◌, List, length, Option, Some, None}
 use Rattle.finite.specs.Each.{EachBelow}
 use Rattle.formats.specs.RuleChecks.{scratch_size}
 use Rattle.temporal_promises.specs.Until.{until_classes_size}
@@ -22,10 +22,15 @@ pub record ClassSame (np : ℕ) (scratch classes : List ℕ) (j pair : ℕ) : Ty
 pub record NoClass (np : ℕ) (scratch classes : List ℕ) (count pair : ℕ) : Type 0 where
   pub none : (j : ℕ) → j < count → ClassSame np scratch classes j pair → ⊥
 
--- class r is, or r is count and none is
-pub record FoundClass (np : ℕ) (scratch classes : List ℕ) (count pair r : ℕ) : Type 0 where
-  pub here : r < count → ClassSame np scratch classes r pair
-  pub nowhere : count ≤ r → NoClass np scratch classes count pair
+-- class r is
+pub record ClassThere (np : ℕ) (scratch classes : List ℕ) (count pair r : ℕ) : Type 0 where
+  pub below : r < count
+  pub same : ClassSame np scratch classes r pair
+
+-- or none is
+abbrev pub FoundClass : ℕ → List ℕ → List ℕ → ℕ → ℕ → Option ℕ → Type 0
+FoundClass np scratch classes count pair (Some r) = ClassThere np scratch classes count pair r
+FoundClass np scratch classes count pair None = NoClass np scratch classes count pair
 
 -- at most 64 pairs, and room
 pub record SearchNeeds (np : ℕ) (scratch classes : List ℕ) : Type 0 where

@@ -17,12 +17,9 @@ fn same_row(classes: &[u8], scratch: &[u8], np: usize, j: usize, t: usize) -> bo
     requires j_bound { (j < 64) × (t < np) }
     ensures { Tells (RowSame np scratch.now classes.now j t) result }
 {
-    for z in 0..np {
-        if classes[j * 4096 + (t * 64 + z)] != scratch[UNTIL_CLASS_BASE + (t * 64 + z)] {
-            return false;
-        }
-    }
-    true
+    let held = j * 4096 + t * 64;
+    let new = UNTIL_CLASS_BASE + t * 64;
+    &classes[held..held + np] == &scratch[new..new + np]
 }
 
 // Whether it has them at every context.
@@ -45,27 +42,27 @@ fn same_class(classes: &[u8], scratch: &[u8], np: usize, j: usize, pair: usize) 
     requires j_bound { j < 64 }
     ensures { Tells (ClassSame np scratch.now classes.now j pair) result }
 {
-    if scratch[UNTIL_PAIRS_BASE + j] as usize != pair {
-        return false;
-    }
-    if !same_rows(classes, scratch, np, j) {
-        return false;
-    }
-    true
+    scratch[UNTIL_PAIRS_BASE + j] as usize == pair && same_rows(classes, scratch, np, j)
 }
 
-// The number of the new class, or how many classes there are where it is none of them.
-pub fn find_class(classes: &[u8], scratch: &[u8], np: usize, count: usize, pair: usize) -> usize
+// The number of the new class, or none where it is none of those that are there.
+pub fn find_class(
+    classes: &[u8],
+    scratch: &[u8],
+    np: usize,
+    count: usize,
+    pair: usize,
+) -> Option<usize>
     requires search_needs { SearchNeeds np scratch.now classes.now }
     requires count_bound { count < 65 }
     ensures { FoundClass np scratch.now classes.now count pair result }
 {
     for j in 0..count {
         if same_class(classes, scratch, np, j, pair) {
-            return j;
+            return Some(j);
         }
     }
-    count
+    None
 }
 
 // Stores the clamps of the new class at the contexts (t, z).
@@ -74,10 +71,9 @@ fn store_row(classes: &mut [u8], scratch: &[u8], np: usize, count: usize, t: usi
     requires t_lt_np { t < np }
     ensures { RowFilled (λ z byte. byte ≡ new_at scratch.now t z) (count * 4096 + t * 64) np classes.old classes.new }
 {
-    for z in 0..np {
-        let byte = scratch[UNTIL_CLASS_BASE + (t * 64 + z)];
-        classes[count * 4096 + (t * 64 + z)] = byte;
-    }
+    let stored = count * 4096 + t * 64;
+    let new = UNTIL_CLASS_BASE + t * 64;
+    classes[stored..stored + np].copy_from_slice(&scratch[new..new + np]);
 }
 
 // And at every context.

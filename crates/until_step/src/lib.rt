@@ -33,6 +33,7 @@ fn step_row(classes: &[u8], scratch: &mut [u8], np: usize, from: usize, s: usize
     requires s_lt_np { s < np }
     ensures { RowFilled (λ z byte. byte ≡ stepped_byte classes.now scratch.old from s z) (until_step_base + s * 64) np scratch.old scratch.new }
 {
+    // By index: each byte is worked out from the slice that it is written to.
     for z in 0..np {
         let clamp = entry_byte(classes, scratch, np, from, s, z);
         let grades = scratch[UNTIL_GRADES_BASE + (s * 64 + z)];
@@ -56,10 +57,8 @@ fn class_row(scratch: &mut [u8], np: usize, row: usize, t: usize)
     requires { RowNeeds np row t scratch.old }
     ensures { RowFilled (λ z byte. byte ≡ step_at scratch.old row z) (until_class_base + t * 64) np scratch.old scratch.new }
 {
-    for z in 0..np {
-        let byte = scratch[UNTIL_STEP_BASE + (row * 64 + z)];
-        scratch[UNTIL_CLASS_BASE + (t * 64 + z)] = byte;
-    }
+    let made = UNTIL_STEP_BASE + row * 64;
+    scratch.copy_within(made..made + np, UNTIL_CLASS_BASE + t * 64);
 }
 
 // And at every context.

@@ -2,13 +2,13 @@
 use Rattle.std.specs.Prelude.{ℕ, ◌≤◌, List, length}
 use Rattle.formats.specs.RuleChecks.{rule_size}
 use Rattle.rule_layout.specs.declared.Shape.{Shape}
-use Rattle.two_rules.specs.declared.BothChecked.TheVariants.{Rules}
+use Rattle.std.specs.Prelude.{Ok}
 use Rattle.two_rules.specs.Checking.{BothPromise}
 use Rattle.temporal_promises.specs.Until.{until_classes_size}
 
 -- both files were checked, and there is room for the longest file and for the classes
 pub record BothReady (first second : List ℕ) (one two : Shape) (scratch classes out : List ℕ) : Type 0 where
   pub entry : List ℕ
-  pub checked : BothPromise first second entry scratch (Rules one two)
+  pub checked : BothPromise first second entry scratch (Ok (one, two))
   pub out_room : rule_size ≤ length out
   pub classes_room : until_classes_size ≤ length classes

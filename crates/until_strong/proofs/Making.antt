@@ -1,5 +1,6 @@
 -- Two strong rules whose closures stand in scratch: the table of their pairs decides their grades, and the rule of the classes that was written is that of
 -- `until`. Assumes nothing.
+use Rattle.std.proofs.Common.{Option, Some, None}
 use Prim.Native.Nat.{ℕ, ◌+◌, ◌*◌, max, ◌≤◌, ◌<◌}
 use native.Mathlib.Omega.{arith}
 use mathlib.Core.Path.{◌≡◌, refl, sym, ap, ap₂, subst, ◌∙◌}
@@ -25,8 +26,6 @@ use Rattle.rule_layout.specs.declared.Shape.{Shape}
 use Rattle.two_rules.proofs.StrongFiles.{first_is, first_read, first_law, first_grades, second_grades, letters_agree, second_is_too, second_read_too}
 use Rattle.reduce_first_round.proofs.OutcomeBytes.{look_grading}
 use Rattle.word_steps.proofs.Searching.{search_start}
-use Rattle.pair_list.specs.declared.PairCount.{PairCount}
-use Rattle.pair_list.specs.declared.PairCount.TheVariants.{Listed, TooMany}
 use Rattle.pair_list.specs.Pairs.{left_at, right_at, TwoTables, Empty, PairList, ListAnswer, PairsAnswer}
 use Rattle.pair_list.proofs.Listed.{no_more_pairs}
 use Rattle.pair_list.proofs.Tables.{table_pairs, table_lawful}
@@ -42,8 +41,6 @@ use Rattle.temporal_promises.proofs.UntilOrder.{pairs_refused, classes_last, non
 use Rattle.until_grades.specs.Grades.{look, both_grades}
 use Rattle.until_list.specs.Listing.{UntilTables, Listing}
 use Rattle.until_pairs.specs.Tables.{TableNeeds, TableLaid}
-use Rattle.until_rule.specs.declared.UntilFile.{UntilFile}
-use Rattle.until_rule.specs.declared.UntilFile.TheVariants.{Rule as Is-file, TooMany as Too-many}
 use Rattle.until_rule.specs.Writing.{UntilNeeds, UntilRuleWritten, UntilWritten}
 use Rattle.until_strong.specs.Steps.{formed_of, UntilReady, UntilOwn}
 
@@ -65,11 +62,11 @@ module _ {first second : List ℕ} {one two : Shape} {entry classes out : List �
     list_empty = record { room = omega (arith, s.files.room, z.outside.same_length); blank = z.zeros }
 
     -- the list, or more than 64 pairs
-    module _ {listed : List ℕ} (answer : PairCount) (l : PairsAnswer first one.elements second two.elements one.letters zeroed listed answer) where
+    module _ {listed : List ℕ} (answer : Option ℕ) (l : PairsAnswer first one.elements second two.elements one.letters zeroed listed answer) where
       list_length : length listed ≡ length entry
       list_length = l.kept.same_length ∙ z.outside.same_length
 
-      pub too_many : answer ≡ TooMany → UntilOwn first second out out classes classes entry listed (Refused TooManyPairs 1 0)
+      pub too_many : answer ≡ None → UntilOwn first second out out classes classes entry listed (Refused TooManyPairs 1 0)
       too_many e =
           let more : MorePairs (morphism_at first one.elements one.letters) (morphism_at second two.elements one.letters) 64 =
           subst (ListAnswer first one.elements second two.elements one.letters listed) e l.says in
@@ -84,7 +81,7 @@ module _ {first second : List ℕ} {one two : Shape} {entry classes out : List �
             same_length = list_length;
           }
 
-      module _ {np : ℕ} (e : answer ≡ Listed np) where
+      module _ {np : ℕ} (e : answer ≡ Some np) where
         list : PairList first one.elements second two.elements one.letters listed np
         list = subst (ListAnswer first one.elements second two.elements one.letters listed) e l.says
 
@@ -231,9 +228,9 @@ module _ {first second : List ℕ} {one two : Shape} {entry classes out : List �
             few_classes more = let h = (more_classes w.lawful w.classes 64).0 more in omega (arith, w.few)
 
           module _ {exit classes' after : List ℕ} where
-            own_answer : (file : UntilFile) → UntilWritten np one.letters laid exit classes classes' out after file → UntilOwn first second out after classes classes' entry exit (formed_of file)
+            own_answer : (file : Option ℕ) → UntilWritten np one.letters laid exit classes classes' out after file → UntilOwn first second out after classes classes' entry exit (formed_of file)
             unfolding pair_table
-            own_answer (Is-file end) w =
+            own_answer (Some end) w =
                 let r = w.says m.product m.image φ ψ listing in
                 record {
                   refusal = none_fails first second passes pair_table (few_classes r);
@@ -241,7 +238,7 @@ module _ {first second : List ℕ} {one two : Shape} {entry classes out : List �
                   classes_length = w.classes_length;
                   same_length = w.same_length ∙ t.same_length ∙ list_length;
                 }
-            own_answer Too-many w =
+            own_answer None w =
                 let r = w.says m.product m.image φ ψ listing in
                 record {
                   refusal = classes_last first second passes pair_table r.more;
@@ -250,6 +247,6 @@ module _ {first second : List ℕ} {one two : Shape} {entry classes out : List �
                   same_length = w.same_length ∙ t.same_length ∙ list_length;
                 }
 
-            pub until_said : (file : UntilFile) {said : Written} → UntilWritten np one.letters laid exit classes classes' out after file → said ≡ formed_of file
+            pub until_said : (file : Option ℕ) {said : Written} → UntilWritten np one.letters laid exit classes classes' out after file → said ≡ formed_of file
                 → UntilOwn first second out after classes classes' entry exit said
             until_said file w q = subst (UntilOwn first second out after classes classes' entry exit) (sym q) (own_answer file w)

@@ -1,5 +1,5 @@
 -- What is asked for and what is promised on the way from two strong rules to the rule of `until`. Assumes nothing.
-use Rattle.std.specs.Prelude.{ℕ, ◌≤◌, ◌≡◌, List, length}
+use Rattle.std.specs.Prelude.{ℕ, ◌≤◌, ◌≡◌, List, length, Option, Some, None}
 use Rattle.answer.specs.declared.Refusal.TheVariants.{TooManyClasses}
 use Rattle.answer.specs.Checks.{FirstFailure}
 use Rattle.formats.specs.RuleChecks.{rule_size}
@@ -10,13 +10,11 @@ use Rattle.promises.specs.declared.Written.TheVariants.{Rule as Is-rule, Refused
 use Rattle.promises.specs.Answers.{written_verdict}
 use Rattle.temporal_promises.specs.Formed.{FormedAnswer}
 use Rattle.temporal_promises.specs.Until.{until_classes_size, until_own_checks, UntilMade}
-use Rattle.until_rule.specs.declared.UntilFile.{UntilFile}
-use Rattle.until_rule.specs.declared.UntilFile.TheVariants.{Rule as Is-file, TooMany}
 
 -- the answer, from what was written
-abbrev pub formed_of : UntilFile → Written
-formed_of (Is-file end) = Is-rule end
-formed_of TooMany = Refused TooManyClasses 1 0
+abbrev pub formed_of : Option ℕ → Written
+formed_of (Some end) = Is-rule end
+formed_of None = Refused TooManyClasses 1 0
 
 -- two good rules over as many letters, both strong, the closures of their marks in scratch, and room
 pub record UntilReady (first second : List ℕ) (one two : Shape) (scratch classes out : List ℕ) : Type 0 where

@@ -6,21 +6,21 @@ ghost use Rattle.std.specs.Prelude.{◌≡◌};
 ghost use Rattle.until_strong.specs.Steps.{formed_of, UntilReady, UntilOwn};
 
 use answer::Refusal;
-use pair_list::{PairCount, list_pairs};
+use pair_list::list_pairs;
 use promises::Written;
 use rule_layout::Shape;
 use scratch::{PAIR_LEFTS_BASE, PAIR_NUMBERS_BASE};
 use sections::zero_part;
 use until_pairs::lay_table;
-use until_rule::{UntilFile, write_until};
+use until_rule::write_until;
 
 // What was written as an answer of the call.
-fn formed(file: UntilFile) -> Written
+fn formed(file: Option<usize>) -> Written
     ensures { result ≡ formed_of file }
 {
     match file {
-        UntilFile::Rule(length) => Written::Rule(length),
-        UntilFile::TooMany => Written::Refused {
+        Some(length) => Written::Rule(length),
+        None => Written::Refused {
             refusal: Refusal::TooManyClasses,
             input: 1,
             place: 0,
@@ -50,8 +50,8 @@ pub fn until_of_strong(
         one.letters,
         scratch,
     ) {
-        PairCount::Listed(count) => count,
-        PairCount::TooMany => {
+        Some(count) => count,
+        None => {
             return Written::Refused {
                 refusal: Refusal::TooManyPairs,
                 input: 1,

@@ -1,4 +1,7 @@
 -- What the look at a monitor's two values shows, on each way. Assumes nothing.
+use Rattle.std.specs.Prelude.{Result, Ok, Err}
+use Rattle.answer.specs.declared.Fault.{Fault}
+use Rattle.answer.proofs.Parts.{fault_by}
 use Prim.Native.Nat.{ℕ, ◌<◌}
 use mathlib.Core.Path.{◌≡◌, refl, subst}
 use mathlib.Core.Bool.{true}
@@ -12,8 +15,6 @@ use Rattle.answer.specs.declared.Refusal.{Refusal}
 use Rattle.answer.specs.declared.Refusal.TheVariants.{EntryOutOfRange, WordLength}
 use Rattle.answer.specs.Checks.{refused, FirstFailure}
 use Rattle.answer.proofs.Order.{first_passes, first_fails}
-use Rattle.rule_marks.specs.declared.Fault.{Fault}
-use Rattle.rule_marks.specs.declared.Fault.TheVariants.{Nothing, Refused}
 use Rattle.promises.specs.declared.Monitor.{Monitor}
 use Rattle.promises.specs.Monitor.{no_value, value_of, monitor_value_check}
 use Rattle.monitor_state.specs.Ready.{GoodMonitor, StrayAnswer}
@@ -66,9 +67,9 @@ pub start_below : {n s : ℕ} {f : Monitor} → Judgeable n f → s ≡ start_el
 start_below j e = rw e j.start_inside
 
 -- the answer, known by its case
-module _ (n : ℕ) (f : Monitor) (answer : Fault) (known : ValuesAnswer n f answer) where
-  pub said_judgeable : answer ≡ Nothing → Judgeable n f
+module _ (n : ℕ) (f : Monitor) (answer : Result (Unit {0}) Fault) (known : ValuesAnswer n f answer) where
+  pub said_judgeable : answer ≡ (Ok tt) → Judgeable n f
   said_judgeable e = subst (ValuesAnswer n f) e known
 
-  pub said_fault : {r : Refusal} {place : ℕ} → answer ≡ Refused r place → FirstFailure (value_checks n f) (refused r 1 place)
+  pub said_fault : {r : Refusal} {place : ℕ} → answer ≡ Err (fault_by r place) → FirstFailure (value_checks n f) (refused r 1 place)
   said_fault e = subst (ValuesAnswer n f) e known

@@ -1,4 +1,6 @@
 -- What each way through the call for a monitor's verdict promises. Assumes nothing.
+use Rattle.std.specs.Prelude.{Ok, Err}
+use Rattle.answer.proofs.Parts.{refused_by}
 use Prim.Native.Nat.{ℕ}
 use mathlib.Core.Path.{◌≡◌, refl, sym, subst}
 use mathlib.Core.Logic.{◌⊎◌, ⊎_elim}
@@ -12,7 +14,6 @@ use Rattle.theory.specs.Rules.{Morphism}
 use Rattle.formats.specs.Table.{morphism_at}
 use Rattle.formats.specs.RuleFile.{elements_of, morphism_of, marking_of}
 use Rattle.rule_layout.specs.declared.Shape.{Shape}
-use Rattle.rule_check.specs.declared.Checked.TheVariants.{Rule, Refused as Checked-refused}
 use Rattle.rule_check.specs.Answers.{CheckPromise}
 use Rattle.formats.specs.Calls.{checked_checks, after_call}
 use Rattle.rule_check.proofs.Calls.{zeros_left, checked_length, shape_morphism}
@@ -29,10 +30,10 @@ use Rattle.verdict_call.proofs.Values.{start_graded}
 
 module _ (bytes : List ℕ) (f : Monitor) (entry : List ℕ) where
   -- the rule is refused
-  pub rule_refused : {exit : List ℕ} {r : Refusal} {i place : ℕ} → CheckPromise 1 bytes entry exit (Checked-refused r i place) → VerdictPromise bytes f entry exit (Refused r i place)
+  pub rule_refused : {exit : List ℕ} {r : Refusal} {i place : ℕ} → CheckPromise 1 bytes entry exit (Err (refused_by r i place)) → VerdictPromise bytes f entry exit (Refused r i place)
   rule_refused p = record { refusal = refused_before _ _ (refused_before _ _ p.refusal); answered = tt; scratch = p.scratch }
 
-  module _ {shape : Shape} {mid : List ℕ} (p : CheckPromise 1 bytes entry mid (Rule shape)) where
+  module _ {shape : Shape} {mid : List ℕ} (p : CheckPromise 1 bytes entry mid (Ok shape)) where
     left : {exit : List ℕ} → exit ≡ replicate (length mid) 0 → exit ≡ after_call entry
     left {exit} z = zeros_left 1 bytes entry p.refusal mid exit (checked_length p.scratch) z
 

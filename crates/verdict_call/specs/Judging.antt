@@ -1,8 +1,8 @@
 -- The steps of the call for a monitor's verdict: its values are looked at, and then judged by the marks in scratch. Assumes nothing.
+use Rattle.std.specs.Prelude.{Result, Ok, Err}
+use Rattle.answer.specs.declared.Fault.{Fault}
 use Rattle.std.specs.Prelude.{ℕ, ◌<◌, ◌≡◌, cond, List, [], ◌∷◌, eqb}
 use Rattle.answer.specs.Checks.{Check, refused, FirstFailure}
-use Rattle.rule_marks.specs.declared.Fault.{Fault}
-use Rattle.rule_marks.specs.declared.Fault.TheVariants.{Nothing, Refused as Fault-refused}
 use Rattle.promises.specs.declared.Monitor.{Monitor}
 use Rattle.promises.specs.Monitor.{no_value, ValueOutOfRange, monitor_value_check}
 use Rattle.promises.specs.Verdict.{none_check}
@@ -23,6 +23,6 @@ pub record Judgeable (n : ℕ) (f : Monitor) : Type 0 where
   pub since_some : f.since ≡ no_value → ⊥
 
 -- they can be judged, or the first of the two checks that fails
-abbrev pub ValuesAnswer : ℕ → Monitor → Fault → Type 0
-ValuesAnswer n f Nothing = Judgeable n f
-ValuesAnswer n f (Fault-refused refusal place) = FirstFailure (value_checks n f) (refused refusal 1 place)
+abbrev pub ValuesAnswer : ℕ → Monitor → Result (Unit {0}) Fault → Type 0
+ValuesAnswer n f (Ok done) = Judgeable n f
+ValuesAnswer n f (Err fault) = FirstFailure (value_checks n f) (refused fault.refusal 1 fault.place)

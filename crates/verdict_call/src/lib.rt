@@ -7,32 +7,31 @@ ghost use Rattle.std.specs.Prelude.{◌≡◌};
 ghost use Rattle.verdict_call.specs.Judging.{ValuesAnswer, start_element};
 ghost use Rattle.promises.specs.Verdict.{VerdictPromise};
 
-use answer::Refusal;
+use answer::{Fault, Refusal, Refused};
 use monitor_judging::judge;
 use monitor_state::out_of_range;
 use promises::{LassoVerdict, Monitor};
-use rule_check::{Checked, check};
-use rule_marks::Fault;
+use rule_check::check;
 use sections::zero;
 
 // Whether before is an element or 64 and since an element. A number that is neither an element nor 64 comes before a since of 64.
-fn values_fault(n: usize, monitor: Monitor) -> Fault
+fn values_fault(n: usize, monitor: Monitor) -> Result<(), Fault>
     ensures { ValuesAnswer n monitor result }
 {
     let since = monitor.since;
     if out_of_range(n, monitor) {
-        return Fault::Refused {
+        return Err(Fault {
             refusal: Refusal::EntryOutOfRange,
             place: 0,
-        };
+        });
     }
     if since == 64 {
-        return Fault::Refused {
+        return Err(Fault {
             refusal: Refusal::WordLength,
             place: 0,
-        };
+        });
     }
-    Fault::Nothing
+    Ok(())
 }
 
 // The element that the start is judged by: before, or since where before is none.
@@ -51,12 +50,12 @@ pub fn verdict(rule: &[u8], monitor: Monitor, scratch: &mut [u8]) -> LassoVerdic
     ensures { VerdictPromise rule.now monitor scratch.old scratch.new result }
 {
     let shape = match check(rule, 1, scratch) {
-        Checked::Rule(shape) => shape,
-        Checked::Refused {
+        Ok(shape) => shape,
+        Err(Refused {
             refusal,
             input,
             place,
-        } => {
+        }) => {
             return LassoVerdict::Refused {
                 refusal,
                 input,
@@ -67,8 +66,8 @@ pub fn verdict(rule: &[u8], monitor: Monitor, scratch: &mut [u8]) -> LassoVerdic
     let n = shape.elements;
     let k = shape.letters;
     match values_fault(n, monitor) {
-        Fault::Nothing => {}
-        Fault::Refused { refusal, place } => {
+        Ok(()) => {}
+        Err(Fault { refusal, place }) => {
             zero(scratch);
             return LassoVerdict::Refused {
                 refusal,

@@ -30,6 +30,7 @@ fn clear_row(scratch: &mut [u8], count: usize, s: usize)
     requires s_lt_count { s < count }
     ensures { RowFilled (LinkedGrade count scratch.old s) (laid_marks_base + s * 64) count scratch.old scratch.new }
 {
+    // By index: each byte is worked out from the slice that it is written to.
     for e in 0..count {
         let mark = linked_byte(scratch, count, s, e);
         scratch[LAID_MARKS_BASE + (s * 64 + e)] = mark;

@@ -129,8 +129,9 @@ fn every_name_brought_in_is_written() {
 }
 
 /// Constructors of the toolchain: a pattern has them, and does not bind them.
-const CONSTRUCTORS: [&str; 12] = [
-    "zero", "suc", "true", "false", "inl", "inr", "refl", "yes", "no", "tt", "[]", "∷",
+const CONSTRUCTORS: [&str; 16] = [
+    "zero", "suc", "true", "false", "inl", "inr", "refl", "yes", "no", "tt", "[]", "∷", "Some",
+    "None", "Ok", "Err",
 ];
 
 /// Names that are brought in and that a pattern binds all the same: there they mean something else.

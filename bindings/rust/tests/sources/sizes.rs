@@ -350,11 +350,22 @@ fn is_integer(name: &str) -> bool {
     !name.starts_with('f') && name != "bool"
 }
 
+/// Whether the bracket writes the bytes of one number, at most 16: the argument of `from_le_bytes`, or the pattern of a `let` that takes
+/// `to_le_bytes` apart.
+fn is_of_a_number(written: &[Token], at: usize) -> bool {
+    let is_argument = at > 1 && is(written, at - 1, "(") && is(written, at - 2, "from_le_bytes");
+    let is_pattern = at > 0 && is(written, at - 1, "let");
+    let end = closing(written, at);
+    let rest = written.get(end..).unwrap_or(&[]);
+    let taken = rest.iter().take_while(|token| token.text != ";");
+    is_argument || is_pattern && taken.into_iter().any(|token| token.text == "to_le_bytes")
+}
+
 /// The brackets that write an array: those with a `;` or a `,` of their own, and byte strings.
 fn arrays(written: &[Token]) -> Vec<&[Token]> {
     let mut found = Vec::new();
     for (at, token) in written.iter().enumerate() {
-        if token.text == "[" {
+        if token.text == "[" && !is_of_a_number(written, at) {
             let end = closing(written, at);
             let inner = &written[at + 1..end];
             if split(inner, ";").len() > 1 || split(inner, ",").len() > 1 {

@@ -3,13 +3,13 @@ use Rattle.monitor_standing.proofs.Ways.{said_stands, said_refused}
 use Rattle.advance_call.proofs.Ways.{word_not_standing, word_answered}
 use Rattle.advance_call.proofs.advance_word.Goals as goal
 
-pub returns-in-Refused : goal.returns-in-Refused
-returns-in-Refused c =
-    word_not_standing _ _ _ _ (said_refused _ _ _ _ _ c.check_standing.result c.check_standing.ensures c.in-Refused.is) _
+pub returns-in-Err : goal.returns-in-Err
+returns-in-Err c =
+    word_not_standing _ _ _ _ (said_refused _ _ _ _ _ c.check_standing.result c.check_standing.ensures c.in-Err.is) _
 
 pub word_answer-answer-requires : goal.word_answer-answer-requires
 word_answer-answer-requires c =
-    let s = said_stands _ _ _ _ _ c.check_standing.result c.check_standing.ensures c.in-Rule.is in record {
+    let s = said_stands _ _ _ _ _ c.check_standing.result c.check_standing.ensures c.in-Ok.is in record {
       table = s.table;
       lawful = s.lawful;
       good_monitor = s.good;
@@ -18,5 +18,5 @@ word_answer-answer-requires c =
 
 pub returns : goal.returns
 returns c =
-    let s = said_stands _ _ _ _ _ c.check_standing.result c.check_standing.ensures c.in-Rule.is in
+    let s = said_stands _ _ _ _ _ c.check_standing.result c.check_standing.ensures c.in-Ok.is in
     word_answered s c.zero.ensures c.word_answer-answer.result _ c.word_answer-answer.ensures

@@ -4,16 +4,16 @@ use Rattle.promises.proofs.EventWords.{log_passes}
 use Rattle.monitor_steps.proofs.WordFaults.{said_good_log, said_bad_log}
 use Rattle.advance_call.proofs.word_answer.Goals as goal
 
-pub returns-in-Refused : goal.returns-in-Refused
-returns-in-Refused c =
+pub returns-in-Err : goal.returns-in-Err
+returns-in-Err c =
     let a = c.args in
-    (said_bad_log a.k a.word.now c.log_fault.result c.log_fault.ensures c.in-Refused.is _, refl)
+    (said_bad_log a.k a.word.now c.log_fault.result c.log_fault.ensures c.in-Err.is _, refl)
 
 pub moved_by_word-last-requires : goal.moved_by_word-last-requires
 moved_by_word-last-requires c = record {
   table = c.requires.table;
   good_monitor = c.requires.good_monitor;
-  over = (said_good_log c.args.k c.args.word.now c.log_fault.result c.log_fault.ensures c.in-Nothing.is).over;
+  over = (said_good_log c.args.k c.args.word.now c.log_fault.result c.log_fault.ensures c.in-Ok.is).over;
 }
 
 pub monitor_grade-looked-requires : goal.monitor_grade-looked-requires
@@ -27,7 +27,7 @@ monitor_grade-looked-requires c = record {
 pub returns : goal.returns
 returns c =
     let a = c.args in
-    let good = said_good_log a.k a.word.now c.log_fault.result c.log_fault.ensures c.in-Nothing.is in (
+    let good = said_good_log a.k a.word.now c.log_fault.result c.log_fault.ensures c.in-Ok.is in (
       log_passes _ a.k a.word.now good.short good.over,
       record { moved = c.moved_by_word-last.ensures.moved; good = c.moved_by_word-last.ensures.good; read = c.monitor_grade-looked.ensures.grade; settled = c.monitor_grade-looked.ensures.turns },
     )

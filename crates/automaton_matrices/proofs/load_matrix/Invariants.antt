@@ -5,4 +5,4 @@ use Rattle.automaton_products.proofs.Rows.{RowsOf}
 use Rattle.automaton_matrices.proofs.load_matrix.Given as goal
 
 abbrev pub invariant-loop-p : goal.invariant-loop-p
-invariant-loop-p l = (l.p ≤ 6) × RowsOf (matrix_from l.scratch l.base l.i) l.p 6 l.out
+invariant-loop-p l = (l.p ≤ 6) × RowsOf (matrix_from l.scratch l.base l.i) l.p 6 l.row-items

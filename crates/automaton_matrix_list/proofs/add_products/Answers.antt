@@ -1,25 +1,12 @@
 -- The loop holds that the letters so far were followed from the matrix at hand. Assumes nothing.
 use native.Mathlib.Omega.{arith}
 use borrow.Author.Rules.{rules}
-use mir.Facts.{Fits-8_64}
 use Rattle.automaton_matrix_list.proofs.Following.{step_listed, step_full}
-use Rattle.automaton_matrix_list.proofs.Multiplying.{from_place, left_shape, multiplied_start, right_place, right_shape, multiplied_next, multiplied_full, multiplied_all}
+use Rattle.automaton_matrix_list.proofs.Multiplying.{from_place, left_shape, right_place, right_shape, multiplied_next, multiplied_full, multiplied_all}
 use Rattle.automaton_matrix_list.proofs.add_products.Goals as goal
 
 pub load_matrix-left-requires : goal.load_matrix-left-requires
 load_matrix-left-requires c = from_place c.requires.letter_list c.requires.from_lt_count
-
-pub loop-letter-init : goal.loop-letter-init
-loop-letter-init c = (search rules, multiplied_start c.requires.letter_list c.requires.from_lt_count)
-
-pub overflow_add-at : goal.overflow_add-at
-overflow_add-at c = omega (arith, c.requires.letter_list.few_letters)
-
-pub bounds-scratch-letter : goal.bounds-scratch-letter
-bounds-scratch-letter c = omega (arith, c.requires.letter_list.few_letters, c.loop-letter.invariant.1.letters.list.room)
-
-pub overflow_cast-at : goal.overflow_cast-at
-overflow_cast-at c = Fits-8_64 (c.slice_known-in-loop-letter-1.given _)
 
 pub load_matrix-right-requires : goal.load_matrix-right-requires
 load_matrix-right-requires c = right_place c.requires.letter_list c.requires.from_lt_count c.loop-letter.invariant.1 c.loop-letter-test.true
@@ -33,9 +20,6 @@ any_product-m-requires c =
       lent_table = c.requires.lent_table;
     }
 
-pub overflow_add-from : goal.overflow_add-from
-overflow_add-from c = omega (arith, c.requires.letter_list.list.few, c.requires.from_lt_count)
-
 pub add_step-requires : goal.add_step-requires
 add_step-requires c = record {
   matrix_list = c.loop-letter.invariant.1.letters.list;
@@ -43,17 +27,11 @@ add_step-requires c = record {
   parent_le_count = (omega (arith, c.requires.from_lt_count, c.loop-letter.invariant.1.grown.more), omega (arith, c.requires.letter_list.few_letters));
 }
 
-pub shape_of-scratch-in-TooMany : goal.shape_of-scratch-in-TooMany
-shape_of-scratch-in-TooMany c = (multiplied_full c.requires.letter_list c.requires.from_lt_count c.loop-letter.invariant.1 c.loop-letter-test.true c.load_matrix-left.ensures c.load_matrix-right.ensures c.any_product-m.ensures (step_full c.add_step.ensures c.in-TooMany.is) c.add_step.ensures.kept).kept.same_length
-
-pub returns-in-TooMany : goal.returns-in-TooMany
-returns-in-TooMany c = multiplied_full c.requires.letter_list c.requires.from_lt_count c.loop-letter.invariant.1 c.loop-letter-test.true c.load_matrix-left.ensures c.load_matrix-right.ensures c.any_product-m.ensures (step_full c.add_step.ensures c.in-TooMany.is) c.add_step.ensures.kept
+pub returns-in_err-total : goal.returns-in_err-total
+returns-in_err-total c = rw c.from_residual.ensures (multiplied_full c.requires.letter_list c.requires.from_lt_count c.loop-letter.invariant.1 c.loop-letter-test.true c.load_matrix-left.ensures c.load_matrix-right.ensures c.any_product-m.ensures (step_full c.add_step.ensures c.in_err-total.was) c.add_step.ensures.kept)
 
 pub loop-letter-preserved : goal.loop-letter-preserved
-loop-letter-preserved c = (search rules, multiplied_next c.requires.letter_list c.requires.from_lt_count c.loop-letter.invariant.1 c.loop-letter-test.true c.load_matrix-left.ensures c.load_matrix-right.ensures c.any_product-m.ensures (step_listed c.add_step.ensures c.in-Listed.is))
-
-pub shape_of-scratch : goal.shape_of-scratch
-shape_of-scratch c = c.loop-letter.invariant.1.grown.kept.same_length
+loop-letter-preserved c = (search rules, multiplied_next c.requires.letter_list c.requires.from_lt_count c.loop-letter.invariant.1 c.loop-letter-test.true c.load_matrix-left.ensures c.load_matrix-right.ensures c.any_product-m.ensures (step_listed c.add_step.ensures c.in_ok-total.was))
 
 pub returns : goal.returns
 returns c = multiplied_all c.requires.letter_list c.requires.from_lt_count c.loop-letter.invariant.1 c.loop-letter.invariant.0 c.loop-letter-test.false

@@ -2,11 +2,11 @@
 use Rattle.automaton_matrix_search.proofs.Adding.{add_there, add_full, add_new}
 use Rattle.automaton_matrix_search.proofs.add_matrix.Goals as goal
 
-pub returns-then-at-count : goal.returns-then-at-count
-returns-then-at-count c = add_there c.requires.matrix_list c.find_matrix-at.ensures c.if-at-count.true
+pub returns-in-Some : goal.returns-in-Some
+returns-in-Some c = add_there c.requires.matrix_list c.in-Some.ensures
 
 pub returns-then-count-eq64 : goal.returns-then-count-eq64
-returns-then-count-eq64 c = add_full c.requires.matrix_list c.find_matrix-at.ensures c.if-at-count.false c.if-count-eq64.true
+returns-then-count-eq64 c = add_full c.requires.matrix_list c.in_default.ensures c.if-count-eq64.true
 
 pub returns : goal.returns
-returns c = add_new c.requires.matrix_list c.find_matrix-at.ensures c.if-at-count.false c.if-count-eq64.false c.requires.matrix_shape c.store_matrix.ensures
+returns c = add_new c.requires.matrix_list c.in_default.ensures c.if-count-eq64.false c.requires.matrix_shape c.store_matrix.ensures

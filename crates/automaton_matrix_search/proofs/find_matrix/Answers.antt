@@ -1,10 +1,7 @@
 -- The loop holds that none of the first i matrices has the entries of m. Assumes nothing.
 use borrow.Author.Rules.{rules}
-use Rattle.automaton_matrix_search.proofs.Finding.{list_place, unfound_start, found_here, unfound_more, unfound_all}
+use Rattle.automaton_matrix_search.proofs.Finding.{list_place, found_here, unfound_more, unfound_all}
 use Rattle.automaton_matrix_search.proofs.find_matrix.Goals as goal
-
-pub loop-i-init : goal.loop-i-init
-loop-i-init c = unfound_start
 
 pub same_stored-requires : goal.same_stored-requires
 same_stored-requires c = (search rules, list_place c.requires (search rules))

@@ -1,12 +1,9 @@
 -- The loop holds that the first p rows are those of the product. Assumes nothing.
 use borrow.Author.Rules.{rules}
 use Rattle.automaton_products.proofs.Entries.{row_of_product}
-use Rattle.automaton_products.proofs.Rows.{rows_none, rows_more}
+use Rattle.automaton_products.proofs.Rows.{rows_more}
 use Rattle.automaton_products.proofs.Products.{product_filled}
 use Rattle.automaton_products.proofs.matrix_product.Goals as goal
-
-pub loop-p-init : goal.loop-p-init
-loop-p-init c = (search rules, rows_none)
 
 pub loop-p-preserved : goal.loop-p-preserved
 loop-p-preserved c = (search rules, rows_more c.loop-p.invariant.1 (search rules) (row_of_product _ _ _ _ c.product_row.ensures))

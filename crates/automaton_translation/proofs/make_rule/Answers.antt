@@ -17,18 +17,18 @@ list_matrices-requires c = record {
   lent_table = c.requires.lent_table;
 }
 
-pub returns-in-TooMany : goal.returns-in-TooMany
-returns-in-TooMany c =
-    made_refused c.requires.read_here c.list_matrices.result c.list_matrices.ensures c.in-TooMany.is c.zero.ensures
+pub returns-in-None : goal.returns-in-None
+returns-in-None c =
+    made_refused c.requires.read_here c.list_matrices.result c.list_matrices.ensures c.in-None.is c.zero.ensures
 
 pub lay_rule-requires : goal.lay_rule-requires
 lay_rule-requires c =
-    let whole = lay_place c.requires.read_here c.list_matrices.result c.list_matrices.ensures c.in-Listed.is in record { step_list = whole.0; mark_needs = whole.1 }
+    let whole = lay_place c.requires.read_here c.list_matrices.result c.list_matrices.ensures c.in-Some.is in record { step_list = whole.0; mark_needs = whole.1 }
 
 pub write_laid-length-requires : goal.write_laid-length-requires
 write_laid-length-requires c =
-    write_place c.requires.read_here c.list_matrices.result c.list_matrices.ensures c.in-Listed.is c.lay_rule.ensures
+    write_place c.requires.read_here c.list_matrices.result c.list_matrices.ensures c.in-Some.is c.lay_rule.ensures
 
 pub returns : goal.returns
 returns c =
-    rule_made c.requires.read_here c.list_matrices.result c.list_matrices.ensures c.in-Listed.is c.lay_rule.ensures c.write_laid-length.ensures c.zero-2.ensures
+    rule_made c.requires.read_here c.list_matrices.result c.list_matrices.ensures c.in-Some.is c.lay_rule.ensures c.write_laid-length.ensures c.zero-2.ensures

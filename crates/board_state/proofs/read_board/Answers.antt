@@ -11,8 +11,8 @@ pub loop-i-preserved : goal.loop-i-preserved
 loop-i-preserved c =
     let so_far = c.loop-i.invariant in (
       filled_more _ _ so_far.0 (omega arith) refl,
-      filled_more _ _ so_far.1 (omega arith) c.wide.ensures,
-      filled_more _ _ so_far.2 (omega arith) c.wide-in-loop-i.ensures,
+      filled_more _ _ so_far.1 (omega arith) c.from.ensures,
+      filled_more _ _ so_far.2 (omega arith) c.from-in-loop-i.ensures,
       omega arith,
       so_far.4,
     )
@@ -23,4 +23,4 @@ returns c =
     let present = filled_all _ _ end.0 (omega arith) in
     let before = filled_all _ _ end.1 (omega arith) in
     let since = filled_all _ _ end.2 (omega arith) in
-    λ i. record { present = present i; before = before i; since = since i; lowest = c.wide-lowest.ensures i }
+    λ i. record { present = present i; before = before i; since = since i; lowest = c.from-lowest.ensures i }

@@ -9,13 +9,13 @@ returns-then-out-lt-RULE_SIZE c = out_short _ _ _ _ c.if-out-lt-RULE_SIZE.true
 
 pub combine_checked-answer-requires : goal.combine_checked-answer-requires
 combine_checked-answer-requires c =
-    both_place _ _ _ _ c.if-out-lt-RULE_SIZE.false (both_rules _ _ _ _ _ c.check_both.ensures c.in-Rules.is)
+    both_place _ _ _ _ c.if-out-lt-RULE_SIZE.false (both_rules _ _ _ _ _ c.check_both.ensures c.in-Ok.is)
 
-pub returns-in-Refused : goal.returns-in-Refused
-returns-in-Refused c =
-    file_refused _ _ _ _ c.if-out-lt-RULE_SIZE.false (both_refused _ _ _ _ _ c.check_both.ensures c.in-Refused.is)
+pub returns-in-Err : goal.returns-in-Err
+returns-in-Err c =
+    file_refused _ _ _ _ c.if-out-lt-RULE_SIZE.false (both_refused _ _ _ _ _ c.check_both.ensures c.in-Err.is)
 
-pub returns-in-Rules : goal.returns-in-Rules
-returns-in-Rules c =
-    files_combined _ _ _ _ c.if-out-lt-RULE_SIZE.false (both_rules _ _ _ _ _ c.check_both.ensures c.in-Rules.is) c.combine_checked-answer.ensures
+pub returns-in-Ok : goal.returns-in-Ok
+returns-in-Ok c =
+    files_combined _ _ _ _ c.if-out-lt-RULE_SIZE.false (both_rules _ _ _ _ _ c.check_both.ensures c.in-Ok.is) c.combine_checked-answer.ensures
     c.zero.ensures

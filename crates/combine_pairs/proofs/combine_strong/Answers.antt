@@ -10,16 +10,16 @@ list_pairs-requires c = record {
   le_k = some_letters c.requires;
 }
 
-pub returns-in-TooMany : goal.returns-in-TooMany
-returns-in-TooMany c =
-    too_many c.requires c.zero_part.ensures _ c.list_pairs.ensures c.in-TooMany.is
+pub returns-in-None : goal.returns-in-None
+returns-in-None c =
+    too_many c.requires c.zero_part.ensures _ c.list_pairs.ensures c.in-None.is
 
 pub write_pairs-length-requires : goal.write_pairs-length-requires
 write_pairs-length-requires c = record {
   two_tables = two_tables c.requires;
-  pairs_rule_needs = write_place c.requires c.zero_part.ensures _ c.list_pairs.ensures c.in-Listed.is;
+  pairs_rule_needs = write_place c.requires c.zero_part.ensures _ c.list_pairs.ensures c.in-Some.is;
 }
 
 pub returns : goal.returns
 returns c =
-    pairs_combined c.requires c.zero_part.ensures _ c.list_pairs.ensures c.in-Listed.is c.write_pairs-length.ensures
+    pairs_combined c.requires c.zero_part.ensures _ c.list_pairs.ensures c.in-Some.is c.write_pairs-length.ensures

@@ -6,12 +6,12 @@ use Rattle.confirm_call.proofs.confirm.Goals as goal
 
 pub confirm_checked-answer-requires : goal.confirm_checked-answer-requires
 confirm_checked-answer-requires c =
-    files_ready (both_rules _ _ _ _ _ c.check_both.ensures c.in-Rules.is)
+    files_ready (both_rules _ _ _ _ _ c.check_both.ensures c.in-Ok.is)
 
-pub returns-in-Refused : goal.returns-in-Refused
-returns-in-Refused c =
-    file_refused _ _ _ _ (both_refused _ _ _ _ _ c.check_both.ensures c.in-Refused.is)
+pub returns-in-Err : goal.returns-in-Err
+returns-in-Err c =
+    file_refused _ _ _ _ (both_refused _ _ _ _ _ c.check_both.ensures c.in-Err.is)
 
-pub returns-in-Rules : goal.returns-in-Rules
-returns-in-Rules c =
-    files_confirmed _ _ _ _ (both_rules _ _ _ _ _ c.check_both.ensures c.in-Rules.is) c.confirm_checked-answer.ensures c.zero.ensures
+pub returns-in-Ok : goal.returns-in-Ok
+returns-in-Ok c =
+    files_confirmed _ _ _ _ (both_rules _ _ _ _ _ c.check_both.ensures c.in-Ok.is) c.confirm_checked-answer.ensures c.zero.ensures

@@ -3,12 +3,12 @@
 use Rattle.inspect_call.proofs.Inspecting.{inspected_rule, inspected_refused}
 use Rattle.inspect_call.proofs.inspect.Goals as goal
 
-pub returns-in-Rule : goal.returns-in-Rule
-returns-in-Rule c =
+pub returns-in-Ok : goal.returns-in-Ok
+returns-in-Ok c =
     let k = c.check in
-    inspected_rule _ _ _ k.result k.ensures c.in-Rule.is c.zero.ensures
+    inspected_rule _ _ _ k.result k.ensures c.in-Ok.is c.zero.ensures
 
-pub returns-in-Refused : goal.returns-in-Refused
-returns-in-Refused c =
+pub returns-in-Err : goal.returns-in-Err
+returns-in-Err c =
     let k = c.check in
-    inspected_refused _ _ _ k.result k.ensures c.in-Refused.is
+    inspected_refused _ _ _ k.result k.ensures c.in-Err.is

@@ -6,22 +6,22 @@ use Rattle.keep_and_return_call.proofs.Ways.{Keepable, keep_refused, points_room
 use Rattle.keep_and_return_call.proofs.keep.Goals as goal
 
 -- all has passed
-known : (c : goal.In-Nothing) → Keepable c.args.m c.args.name c.args.points.now
+known : (c : goal.In-Ok-keep_fault) → Keepable c.args.m c.args.name c.args.points.now
 known c =
-    keepable_point _ _ _ _ _ _ c.begin.result c.begin.ensures c.in-Elements.is c.keep_fault.result c.keep_fault.ensures c.in-Nothing.is
+    keepable_point _ _ _ _ _ _ c.begin.result c.begin.ensures c.in-Ok.is c.keep_fault.result c.keep_fault.ensures c.in-Ok-keep_fault.is
 
-pub returns-in-Refused : goal.returns-in-Refused
-returns-in-Refused c =
-    keep_refused _ _ _ _ _ _ c.begin.result c.begin.ensures c.in-Refused.is
+pub returns-in-Err : goal.returns-in-Err
+returns-in-Err c =
+    keep_refused _ _ _ _ _ _ c.begin.result c.begin.ensures c.in-Err.is
 
 pub keep_fault-requires : goal.keep_fault-requires
 keep_fault-requires c =
-    points_room _ _ _ _ c.begin.result c.begin.ensures c.in-Elements.is
+    points_room _ _ _ _ c.begin.result c.begin.ensures c.in-Ok.is
 
-pub returns-in-Refused-keep_fault : goal.returns-in-Refused-keep_fault
-returns-in-Refused-keep_fault c =
-    keep_fault _ _ _ _ _ _ c.begin.result c.begin.ensures c.in-Elements.is c.keep_fault.result c.keep_fault.ensures
-    c.in-Refused-keep_fault.is
+pub returns-in-Err-keep_fault : goal.returns-in-Err-keep_fault
+returns-in-Err-keep_fault c =
+    keep_fault _ _ _ _ _ _ c.begin.result c.begin.ensures c.in-Ok.is c.keep_fault.result c.keep_fault.ensures
+    c.in-Err-keep_fault.is
 
 pub overflow_mul-points : goal.overflow_mul-points
 overflow_mul-points c = omega (arith, (known c).named)
@@ -55,4 +55,4 @@ bounds-points-name-3 c = simp length-set (omega (arith, (known c).named, (known 
 
 pub returns : goal.returns
 returns c =
-    keep_stored _ _ _ _ _ _ c.begin.result c.begin.ensures c.in-Elements.is c.keep_fault.result c.keep_fault.ensures c.in-Nothing.is
+    keep_stored _ _ _ _ _ _ c.begin.result c.begin.ensures c.in-Ok.is c.keep_fault.result c.keep_fault.ensures c.in-Ok-keep_fault.is

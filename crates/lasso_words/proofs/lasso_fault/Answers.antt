@@ -13,22 +13,22 @@ returns-then-v-lt1 c = cycle_out _ _ _ (record { some = omega arith; short = ome
 pub returns-then-v-gt-LONGEST_WORD : goal.returns-then-v-gt-LONGEST_WORD
 returns-then-v-gt-LONGEST_WORD c = cycle_out _ _ _ (record { some = omega arith; short = omega arith }) (inr c.if-v-gt-LONGEST_WORD.true)
 
-pub returns-in-At : goal.returns-in-At
-returns-in-At c =
+pub returns-in-Some : goal.returns-in-Some
+returns-in-Some c =
     let a = c.args in
     start_foreign _ _ _ (record { some = omega arith; short = omega arith }) (record { some = omega arith; short = omega arith })
-    (foreign_at a.k a.u.now c.first_out.result c.first_out.ensures c.in-At.is)
+    (foreign_at a.k a.u.now c.first_out.result c.first_out.ensures c.in-Some.is)
 
-pub returns-in-At-first_out : goal.returns-in-At-first_out
-returns-in-At-first_out c =
+pub returns-in-Some-first_out : goal.returns-in-Some-first_out
+returns-in-Some-first_out c =
     let a = c.args in
     cycle_foreign _ _ _ (record { some = omega arith; short = omega arith }) (record { some = omega arith; short = omega arith })
-    (letters_below a.k a.u.now c.first_out.result c.first_out.ensures c.in-Nothing.is)
-    (foreign_at a.k a.v.now c.first_out-2.result c.first_out-2.ensures c.in-At-first_out.is)
+    (letters_below a.k a.u.now c.first_out.result c.first_out.ensures c.in-None.is)
+    (foreign_at a.k a.v.now c.first_out-2.result c.first_out-2.ensures c.in-Some-first_out.is)
 
-pub returns-in-Nothing-first_out : goal.returns-in-Nothing-first_out
-returns-in-Nothing-first_out c =
+pub returns-in-None-first_out : goal.returns-in-None-first_out
+returns-in-None-first_out c =
     let a = c.args in
     good_lasso _ _ _ (record { some = omega arith; short = omega arith }) (record { some = omega arith; short = omega arith })
-    (letters_below a.k a.u.now c.first_out.result c.first_out.ensures c.in-Nothing.is)
-    (letters_below a.k a.v.now c.first_out-2.result c.first_out-2.ensures c.in-Nothing-first_out.is)
+    (letters_below a.k a.u.now c.first_out.result c.first_out.ensures c.in-None.is)
+    (letters_below a.k a.v.now c.first_out-2.result c.first_out-2.ensures c.in-None-first_out.is)

@@ -10,28 +10,28 @@ use Rattle.list_classes_call.proofs.Listing.{out_short, listed_refused, listed_t
 use Rattle.list_classes_call.proofs.list_classes.Goals as goal
 
 -- of a checked rule: its table, that it is lawful, and that it has few pairs
-table : (d : goal.After-write_classes-arg-1) → Table d.args.rule.now d.in-Rule.shape.elements d.in-Rule.shape.letters
+table : (d : goal.After-write_classes-arg-1) → Table d.args.rule.now d.in-Ok.shape.elements d.in-Ok.shape.letters
 table d =
-    listed_table _ _ _ _ d.check.ensures d.in-Rule.is
+    listed_table _ _ _ _ d.check.ensures d.in-Ok.is
 
-lawful : (d : goal.After-write_classes-arg-1) → Lawful (morphism_at d.args.rule.now d.in-Rule.shape.elements d.in-Rule.shape.letters)
+lawful : (d : goal.After-write_classes-arg-1) → Lawful (morphism_at d.args.rule.now d.in-Ok.shape.elements d.in-Ok.shape.letters)
 lawful d =
-    listed_lawful _ _ _ _ d.check.ensures d.in-Rule.is
+    listed_lawful _ _ _ _ d.check.ensures d.in-Ok.is
 
 -- of a checked rule: its table, that it is lawful, and that it has few pairs
-table-2 : (d : goal.After-slice_known-5-1) → Table d.args.rule.now d.in-Rule.shape.elements d.in-Rule.shape.letters
+table-2 : (d : goal.After-slice_known-5-1) → Table d.args.rule.now d.in-Ok.shape.elements d.in-Ok.shape.letters
 table-2 d =
-    listed_table _ _ _ _ d.check.ensures d.in-Rule.is
+    listed_table _ _ _ _ d.check.ensures d.in-Ok.is
 
-few : (d : goal.After-slice_known-5-1) → d.in-Rule.shape.elements * d.in-Rule.shape.elements ≤ 4096
+few : (d : goal.After-slice_known-5-1) → d.in-Ok.shape.elements * d.in-Ok.shape.elements ≤ 4096
 few d = pairs_small (table-2 d).small
 
 pub returns-then-out-lt-CLASSES_SIZE : goal.returns-then-out-lt-CLASSES_SIZE
 returns-then-out-lt-CLASSES_SIZE c = out_short _ _ _ c.if-out-lt-CLASSES_SIZE.true
 
-pub returns-in-Refused : goal.returns-in-Refused
-returns-in-Refused c =
-    listed_refused _ _ _ _ _ c.if-out-lt-CLASSES_SIZE.false c.check.ensures c.in-Refused.is
+pub returns-in-Err : goal.returns-in-Err
+returns-in-Err c =
+    listed_refused _ _ _ _ _ c.if-out-lt-CLASSES_SIZE.false c.check.ensures c.in-Err.is
 
 pub write_classes-requires : goal.write_classes-requires
 write_classes-requires c = record {
@@ -50,5 +50,5 @@ count-found-requires c =
 
 pub returns : goal.returns
 returns c =
-    listed_counts _ _ _ _ _ c.if-out-lt-CLASSES_SIZE.false c.check.ensures c.in-Rule.is
+    listed_counts _ _ _ _ _ c.if-out-lt-CLASSES_SIZE.false c.check.ensures c.in-Ok.is
     c.zero.ensures c.write_classes.ensures c.count-found.ensures

@@ -11,17 +11,17 @@ highest_escape-requires c = record {
 pub write_start-u_letters-requires : goal.write_start-u_letters-requires
 write_start-u_letters-requires c = record {
   table = c.requires.table;
-  start_needs = start_room c.requires.compare_needs c.highest_escape.ensures c.in-At.is c.requires.in_bounds.0;
+  start_needs = start_room c.requires.compare_needs c.highest_escape.ensures c.in-Some.is c.requires.in_bounds.0;
 }
 
 pub write_cycle-v_letters-requires : goal.write_cycle-v_letters-requires
 write_cycle-v_letters-requires c =
-    cycle_room c.requires.compare_needs c.highest_escape.ensures c.in-At.is c.requires.in_bounds.1
+    cycle_room c.requires.compare_needs c.highest_escape.ensures c.in-Some.is c.requires.in_bounds.1
 
-pub returns-in-Nothing : goal.returns-in-Nothing
-returns-in-Nothing c =
-    compared_within c.requires.compare_needs c.highest_escape.ensures _ _ c.in-Nothing.is c.zero.ensures
+pub returns-in-None : goal.returns-in-None
+returns-in-None c =
+    compared_within c.requires.compare_needs c.highest_escape.ensures _ _ c.in-None.is c.zero.ensures
 
-pub returns-in-At : goal.returns-in-At
-returns-in-At c =
-    compared_apart c.requires.compare_needs c.highest_escape.ensures c.in-At.is c.write_start-u_letters.ensures c.write_cycle-v_letters.ensures c.zero-in-At.ensures
+pub returns-in-Some : goal.returns-in-Some
+returns-in-Some c =
+    compared_apart c.requires.compare_needs c.highest_escape.ensures c.in-Some.is c.write_start-u_letters.ensures c.write_cycle-v_letters.ensures c.zero-in-Some.ensures

@@ -2,5 +2,5 @@
 use Rattle.mark_grade_search.proofs.Grades.{TopBelow}
 use Rattle.mark_grade_search.proofs.highest_below.Given as goal
 
-abbrev pub invariant-loop-i : goal.invariant-loop-i
-invariant-loop-i l = TopBelow l.scratch l.first l.i l.below l.top
+abbrev pub invariant-loop-mark : goal.invariant-loop-mark
+invariant-loop-mark l = TopBelow l.scratch l.first l.mark-index l.below l.top

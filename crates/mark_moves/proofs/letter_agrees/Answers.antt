@@ -1,7 +1,6 @@
 -- `mark_moves::letter_agrees` meets its contract: a move that stays, none, or one whose marks are compared. Assumes nothing.
 use mathlib.Core.Path.{sym, ◌∙◌}
-use native.Mathlib.Omega.{arith}
-use Rattle.rule_table.proofs.Facts.{table_place, product_below}
+use Rattle.std.proofs.lemmas.Option.{MatchOption-at_none, MatchOption-at_some}
 use Rattle.formats.specs.Table.{morphism_at}
 use Rattle.mark_moves.specs.Agreeing.{MoveTo}
 use Rattle.mark_moves.proofs.Agreeing.{answer_yes, answer_more, first_way_move, letter_stays, letter_none, letter_moves}
@@ -13,7 +12,7 @@ moves c =
     record {
       idempotent = c.requires.idempotent.0;
       by_inside = c.requires.idempotent.1;
-      step = first_way_move c.product-y.ensures c.first_way-z.ensures (omega (arith, c.if-n-z.false)) c.product-f.ensures;
+      step = first_way_move c.product-y.ensures (MatchOption-at_some _ _ _ c.in-Some.is c.first_way.ensures) c.product-f.ensures;
     }
 
 -- the move
@@ -22,36 +21,18 @@ moves-2 c =
     record {
       idempotent = c.requires.idempotent.0;
       by_inside = c.requires.idempotent.1;
-      step = first_way_move c.product-y.ensures c.first_way-z.ensures (omega (arith, c.if-n-z.false)) c.product-f.ensures;
+      step = first_way_move c.product-y.ensures (MatchOption-at_some _ _ _ c.in-Some.is c.first_way.ensures) c.product-f.ensures;
     }
-
-pub product-y-requires : goal.product-y-requires
-product-y-requires c =
-    table_place c.requires.table c.requires.idempotent.0.inside c.requires.idempotent.1
 
 pub returns-then-y-e : goal.returns-then-y-e
 returns-then-y-e c =
     answer_yes (letter_stays c.requires.move_needs.lawful c.requires.idempotent.0 c.requires.idempotent.1 (sym c.product-y.ensures ∙ c.if-y-e.true))
 
-pub first_way-z-requires : goal.first_way-z-requires
-first_way-z-requires c = record {
-  table = c.requires.table;
-  y_lt_n = product_below c.requires.table c.requires.idempotent.0.inside c.requires.idempotent.1 c.product-y.ensures;
-}
+pub returns-in_default : goal.returns-in_default
+returns-in_default c = answer_yes (letter_none c.product-y.ensures (MatchOption-at_none _ _ c.in_default.is c.first_way.ensures))
 
-pub returns-then-n-z : goal.returns-then-n-z
-returns-then-n-z c = answer_yes (letter_none c.product-y.ensures c.first_way-z.ensures c.if-n-z.true)
-
-pub product-f-requires : goal.product-f-requires
-product-f-requires c =
-    table_place c.requires.table (omega (arith, c.if-n-z.false)) (product_below c.requires.table c.requires.idempotent.0.inside c.requires.idempotent.1 c.product-y.ensures)
-
-pub move_agrees-requires : goal.move_agrees-requires
-move_agrees-requires c = record {
-  table = c.requires.table;
-  move_needs = c.requires.move_needs;
-  move_to = moves c;
-}
+pub move_agrees-requires-clause-move_to : goal.move_agrees-requires-clause-move_to
+move_agrees-requires-clause-move_to c = moves c
 
 pub returns : goal.returns
 returns c = answer_more (letter_moves (moves-2 c).step) c.move_agrees.ensures

@@ -1,11 +1,10 @@
 -- `mark_raising::raise_letter` meets its contract: a move that stays, none, or one along which marks are raised. Assumes nothing.
 use mathlib.Core.Path.{sym, ◌∙◌}
-use native.Mathlib.Omega.{arith}
+use Rattle.std.proofs.lemmas.Option.{MatchOption-at_some}
 use Rattle.formats.specs.Table.{morphism_at}
-use Rattle.rule_table.proofs.Facts.{table_place, product_below}
 use Rattle.mark_moves.specs.Agreeing.{MoveTo}
 use Rattle.mark_moves.proofs.Agreeing.{first_way_move}
-use Rattle.mark_raising.proofs.Raising.{raise_not, raise_known, letter_stays, letter_none, letter_moves}
+use Rattle.mark_raising.proofs.Raising.{raise_not, raise_known, letter_stays, letter_moves}
 use Rattle.mark_raising.proofs.raise_letter.Goals as goal
 
 -- the move
@@ -14,7 +13,7 @@ moves c =
     record {
       idempotent = c.requires.idempotent.0;
       by_inside = c.requires.idempotent.1;
-      step = first_way_move c.product-y.ensures c.first_way-z.ensures (omega (arith, c.if-n-z.false)) c.product-f.ensures;
+      step = first_way_move c.product-y.ensures (MatchOption-at_some _ _ _ c.in-Some.is c.first_way.ensures) c.product-f.ensures;
     }
 
 -- the move
@@ -23,38 +22,15 @@ moves-2 c =
     record {
       idempotent = c.requires.idempotent.0;
       by_inside = c.requires.idempotent.1;
-      step = first_way_move c.product-y.ensures c.first_way-z.ensures (omega (arith, c.if-n-z.false)) c.product-f.ensures;
+      step = first_way_move c.product-y.ensures (MatchOption-at_some _ _ _ c.in-Some.is c.first_way.ensures) c.product-f.ensures;
     }
-
-pub product-y-requires : goal.product-y-requires
-product-y-requires c =
-    table_place c.requires.table c.requires.idempotent.0.inside c.requires.idempotent.1
 
 pub returns-then-y-e : goal.returns-then-y-e
 returns-then-y-e c =
     raise_not c.requires.raised (letter_stays c.requires.lawful c.requires.idempotent.0 c.requires.idempotent.1 (sym c.product-y.ensures ∙ c.if-y-e.true))
 
-pub first_way-z-requires : goal.first_way-z-requires
-first_way-z-requires c = record {
-  table = c.requires.table;
-  y_lt_n = product_below c.requires.table c.requires.idempotent.0.inside c.requires.idempotent.1 c.product-y.ensures;
-}
-
-pub returns-then-n-z : goal.returns-then-n-z
-returns-then-n-z c =
-    raise_not c.requires.raised (letter_none c.product-y.ensures c.first_way-z.ensures c.if-n-z.true)
-
-pub product-f-requires : goal.product-f-requires
-product-f-requires c =
-    table_place c.requires.table (omega (arith, c.if-n-z.false)) (product_below c.requires.table c.requires.idempotent.0.inside c.requires.idempotent.1 c.product-y.ensures)
-
-pub raise_move-requires : goal.raise_move-requires
-raise_move-requires c = record {
-  table = c.requires.table;
-  lawful = c.requires.lawful;
-  raised = c.requires.raised;
-  move_to = moves c;
-}
+pub raise_move-requires-clause-move_to : goal.raise_move-requires-clause-move_to
+raise_move-requires-clause-move_to c = moves c
 
 pub returns : goal.returns
 returns c = raise_known (letter_moves (moves-2 c).step) c.raise_move.ensures

@@ -10,14 +10,14 @@ search_from-requires c = record {
   search_needs = next_place _ c.requires.table.small c.requires.all_needs c.loop-s.invariant c.loop-s-test.true;
 }
 
-pub shape_of-scratch-in-At : goal.shape_of-scratch-in-At
-shape_of-scratch-in-At c = (escaped_at _ c.requires.table.small c.requires.all_needs c.loop-s.invariant c.loop-s-test.true c.search_from.ensures c.in-At.is).same_length
+pub shape_of-scratch-in-Some : goal.shape_of-scratch-in-Some
+shape_of-scratch-in-Some c = (escaped_at _ c.requires.table.small c.requires.all_needs c.loop-s.invariant c.loop-s-test.true c.search_from.ensures c.in-Some.is).same_length
 
-pub returns-in-At : goal.returns-in-At
-returns-in-At c = escaped_at _ c.requires.table.small c.requires.all_needs c.loop-s.invariant c.loop-s-test.true c.search_from.ensures c.in-At.is
+pub returns-in-Some : goal.returns-in-Some
+returns-in-Some c = escaped_at _ c.requires.table.small c.requires.all_needs c.loop-s.invariant c.loop-s-test.true c.search_from.ensures c.in-Some.is
 
 pub loop-s-preserved : goal.loop-s-preserved
-loop-s-preserved c = searched_next _ c.requires.table.small c.requires.all_needs c.loop-s.invariant c.search_from.ensures c.in-Nothing.is
+loop-s-preserved c = searched_next _ c.requires.table.small c.requires.all_needs c.loop-s.invariant c.search_from.ensures c.in_default.is
 
 pub shape_of-scratch : goal.shape_of-scratch
 shape_of-scratch c = c.loop-s.invariant.kept.same_length

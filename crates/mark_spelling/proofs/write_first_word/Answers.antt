@@ -1,28 +1,24 @@
--- `mark_spelling::write_first_word` meets its contract: the element's byte has the number of its entry, whose letters are counted and
--- then written. Assumes nothing.
-use native.Mathlib.Omega.{arith}
-use mir.Facts.{Fits-8_64}
+-- The element's byte has the number of its entry. Assumes nothing.
+use Rattle.std.proofs.Common.{arith}
 use Rattle.rule_reach.specs.Reach.{place_at}
-use Rattle.mark_spelling.proofs.Entries.{spell_entry, spell_room}
+use Rattle.mark_spelling.proofs.Entries.{entry_step, spell_entry, spell_room}
+use Rattle.mark_spelling.proofs.Writing.{spelling_none, spelling_room, spelling_more, spelling_all}
 use Rattle.mark_spelling.proofs.write_first_word.Goals as goal
 
-pub overflow_cast-at : goal.overflow_cast-at
-overflow_cast-at c = Fits-8_64 (c.type_inv.queue _)
-
-pub count_letters-letters-requires : goal.count_letters-letters-requires
+pub loop-place-init : goal.loop-place-init
 unfolding place_at
-count_letters-letters-requires c = spell_entry c.requires
+loop-place-init c = spelling_none (spell_entry c.requires) (spell_room c.requires)
 
-pub write_letters-requires : goal.write_letters-requires
-unfolding place_at
-write_letters-requires c =
-    let place = c.requires in
-    let counted = c.count_letters-letters.ensures in record {
-      entry_needs = spell_entry place;
-      letters_value = counted;
-      letters_in_bounds = omega (arith, counted, spell_room place);
-    }
+pub loop-place-preserved : goal.loop-place-preserved
+loop-place-preserved c = spelling_more c.loop-place.invariant c.loop-place-test.true
+
+pub loop-place-smaller : goal.loop-place-smaller
+loop-place-smaller c = (entry_step c.loop-place.invariant.here c.loop-place-test.true).earlier
+
+pub bounds-out-letters : goal.bounds-out-letters
+bounds-out-letters c =
+    let inv = c.loop-place.invariant in
+    omega (arith, spelling_room inv c.loop-place-test.true, inv.long, inv.same_length)
 
 pub returns : goal.returns
-unfolding place_at
-returns c = c.write_letters.ensures
+returns c = rw c.reverse.ensures.after (spelling_all c.loop-place.invariant c.loop-place-test.false)

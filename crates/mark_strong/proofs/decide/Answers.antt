@@ -1,6 +1,6 @@
 -- The closure first, in a table made blank for it; a search only where the marks do not have all of it. Assumes nothing.
 use native.Mathlib.Omega.{arith}
-use Rattle.mark_strong.proofs.Deciding.{closure_room, decided_closed, search_place, decided_strong, decided_weak}
+use Rattle.mark_strong.proofs.Deciding.{closure_room, decided_closed, search_place, decided_searched}
 use Rattle.mark_strong.proofs.decide.Goals as goal
 
 pub zero_part-requires : goal.zero_part-requires
@@ -26,16 +26,9 @@ highest_escape-requires c = record {
   escape_needs = search_place c.requires.table.small c.requires.decide_needs c.zero_part.ensures c.close-closed.ensures;
 }
 
-pub shape_of-scratch-in-At : goal.shape_of-scratch-in-At
-shape_of-scratch-in-At c = ((decided_weak c.requires.table.small c.requires.decide_needs c.zero_part.ensures c.close-closed.ensures c.highest_escape.ensures c.in-At.is)).same_length
+pub shape_of-scratch : goal.shape_of-scratch
+shape_of-scratch c = (decided_searched c.requires.table.small c.requires.decide_needs c.zero_part.ensures c.close-closed.ensures c.highest_escape.ensures c.is_none.ensures).same_length
 
-pub returns-in-At : goal.returns-in-At
-returns-in-At c =
-    decided_weak c.requires.table.small c.requires.decide_needs c.zero_part.ensures c.close-closed.ensures c.highest_escape.ensures c.in-At.is
-
-pub shape_of-scratch-in-Nothing : goal.shape_of-scratch-in-Nothing
-shape_of-scratch-in-Nothing c = ((decided_strong c.requires.table.small c.requires.decide_needs c.zero_part.ensures c.close-closed.ensures c.highest_escape.ensures c.in-Nothing.is)).same_length
-
-pub returns-in-Nothing : goal.returns-in-Nothing
-returns-in-Nothing c =
-    decided_strong c.requires.table.small c.requires.decide_needs c.zero_part.ensures c.close-closed.ensures c.highest_escape.ensures c.in-Nothing.is
+pub returns : goal.returns
+returns c =
+    decided_searched c.requires.table.small c.requires.decide_needs c.zero_part.ensures c.close-closed.ensures c.highest_escape.ensures c.is_none.ensures

@@ -3,18 +3,18 @@ use Rattle.rule_check.proofs.Calls.{checked_rule, checked_refused}
 use Rattle.member_call.proofs.Ways.{words_good, words_refused, rule_refused, member_table, member_lawful, member_long, word_refused, start_word, cycle_word, cycle_inside, member_decided}
 use Rattle.member_call.proofs.member.Goals as goal
 
-pub returns-in-Refused : goal.returns-in-Refused
-returns-in-Refused c = rule_refused _ _ _ _ (checked_refused 1 _ _ _ c.check.result c.check.ensures c.in-Refused.is)
+pub returns-in-Err : goal.returns-in-Err
+returns-in-Err c = rule_refused _ _ _ _ (checked_refused 1 _ _ _ c.check.result c.check.ensures c.in-Err.is)
 
-pub returns-in-Refused-lasso_fault : goal.returns-in-Refused-lasso_fault
-returns-in-Refused-lasso_fault c =
-    word_refused _ _ _ _ (checked_rule 1 _ _ _ c.check.result c.check.ensures c.in-Rule.is) _ (words_refused _ _ _ c.lasso_fault.result c.lasso_fault.ensures c.in-Refused-lasso_fault.is) c.zero.ensures
+pub returns-in-Err-lasso_fault : goal.returns-in-Err-lasso_fault
+returns-in-Err-lasso_fault c =
+    word_refused _ _ _ _ (checked_rule 1 _ _ _ c.check.result c.check.ensures c.in-Ok.is) _ (words_refused _ _ _ c.lasso_fault.result c.lasso_fault.ensures c.in-Err-lasso_fault.is) c.zero.ensures
 
 pub lasso_grade-graded-requires : goal.lasso_grade-graded-requires
 lasso_grade-graded-requires c =
     let a = c.args in
-    let p = (checked_rule 1 _ _ _ c.check.result c.check.ensures c.in-Rule.is) in
-    let g = (words_good _ _ _ c.lasso_fault.result c.lasso_fault.ensures c.in-Nothing.is) in record {
+    let p = (checked_rule 1 _ _ _ c.check.result c.check.ensures c.in-Ok.is) in
+    let g = (words_good _ _ _ c.lasso_fault.result c.lasso_fault.ensures c.in-Ok-lasso_fault.is) in record {
       table = member_table _ a.u.now a.v.now _ p;
       lawful = member_lawful _ a.u.now a.v.now _ p;
       call_word = start_word _ _ _ _ p g;
@@ -25,8 +25,8 @@ lasso_grade-graded-requires c =
 pub idempotent_power-power-requires : goal.idempotent_power-power-requires
 idempotent_power-power-requires c =
     let a = c.args in
-    let p = checked_rule 1 _ _ _ c.check.result c.check.ensures c.in-Rule.is in
-    let g = words_good _ _ _ c.lasso_fault.result c.lasso_fault.ensures c.in-Nothing.is in record {
+    let p = checked_rule 1 _ _ _ c.check.result c.check.ensures c.in-Ok.is in
+    let g = words_good _ _ _ c.lasso_fault.result c.lasso_fault.ensures c.in-Ok-lasso_fault.is in record {
       table = member_table _ a.u.now a.v.now _ p;
       lawful = member_lawful _ a.u.now a.v.now _ p;
       x_lt_n = cycle_inside _ _ _ _ p g c.lasso_grade-graded.ensures.cycle;
@@ -34,7 +34,7 @@ idempotent_power-power-requires c =
 
 pub returns : goal.returns
 returns c =
-    let p = checked_rule 1 _ _ _ c.check.result c.check.ensures c.in-Rule.is in
-    let g = words_good _ _ _ c.lasso_fault.result c.lasso_fault.ensures c.in-Nothing.is in
+    let p = checked_rule 1 _ _ _ c.check.result c.check.ensures c.in-Ok.is in
+    let g = words_good _ _ _ c.lasso_fault.result c.lasso_fault.ensures c.in-Ok-lasso_fault.is in
     let a = c.lasso_grade-graded in
     member_decided _ _ _ _ p g a.ensures.grade a.ensures.cycle c.idempotent_power-power.ensures a.new.scratch _ a.auto.scratch c.zero-2.ensures

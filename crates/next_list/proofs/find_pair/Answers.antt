@@ -1,10 +1,7 @@
 -- The loop holds that none of the first i classes has the two values. Assumes nothing.
 use borrow.Author.Rules.{rules}
-use Rattle.next_list.proofs.Adding.{unfound_start, found_here, unfound_more, unfound_all}
+use Rattle.next_list.proofs.Adding.{found_here, unfound_more, unfound_all}
 use Rattle.next_list.proofs.find_pair.Goals as goal
-
-pub loop-i-init : goal.loop-i-init
-loop-i-init c = unfound_start
 
 pub same_pair-requires : goal.same_pair-requires
 same_pair-requires c = (search rules, search rules)

@@ -13,9 +13,6 @@ pair_behind-pair-requires c = record {
 pub add_pair-requires : goal.add_pair-requires
 add_pair-requires c = pair_place c.requires.lawful c.requires.listing c.requires.from_le_count.0 c.requires.from_le_count.1 c.pair_behind-pair.ensures
 
-pub shape_of-scratch : goal.shape_of-scratch
-shape_of-scratch c = c.add_pair.ensures.kept.same_length
-
 pub returns : goal.returns
 returns c =
     followed_pair c.requires.lawful c.requires.listing c.requires.from_le_count.0 c.requires.from_le_count.1 c.pair_behind-pair.ensures _ c.add_pair.ensures

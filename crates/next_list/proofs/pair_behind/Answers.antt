@@ -1,5 +1,4 @@
 -- Entry 0 is the empty word, and another has the values of its class. Assumes nothing.
-use mir.Facts.{Fits-8_64}
 use Rattle.next_list.proofs.Tables.{image_place, pair_zero, needs_before, whole_before, pair_more}
 use Rattle.next_list.proofs.pair_behind.Goals as goal
 
@@ -8,12 +7,6 @@ image-element-requires c = image_place c.requires.table c.requires.from_le_count
 
 pub returns-then-from-eq0 : goal.returns-then-from-eq0
 returns-then-from-eq0 c = pair_zero c.requires.table c.requires.lawful c.requires.listing c.requires.from_le_count.0 c.requires.from_le_count.1 c.image-element.ensures c.if-from-eq0.true
-
-pub overflow_cast-tail : goal.overflow_cast-tail
-overflow_cast-tail c = Fits-8_64 (c.type_inv.scratch _)
-
-pub overflow_cast-whole : goal.overflow_cast-whole
-overflow_cast-whole c = Fits-8_64 (c.type_inv.scratch _)
 
 pub value_behind-behind-requires : goal.value_behind-behind-requires
 value_behind-behind-requires c = record {

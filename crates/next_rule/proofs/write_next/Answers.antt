@@ -16,20 +16,17 @@ list_next-requires c = record {
   scratch_size_in_bounds = list_room c.requires.table.small c.requires.next_needs c.outcomes.ensures;
 }
 
-pub shape_of-scratch-in-TooMany : goal.shape_of-scratch-in-TooMany
-shape_of-scratch-in-TooMany c = (next_full c.requires.table.small c.requires.next_needs c.outcomes.ensures c.list_next.ensures c.in-TooMany.is).same_length
-
-pub returns-in-TooMany : goal.returns-in-TooMany
-returns-in-TooMany c = next_full c.requires.table.small c.requires.next_needs c.outcomes.ensures c.list_next.ensures c.in-TooMany.is
+pub returns-in_err-count : goal.returns-in_err-count
+returns-in_err-count c = rw c.from_residual.ensures (next_full c.requires.table.small c.requires.next_needs c.outcomes.ensures c.list_next.ensures c.in_err-count.was)
 
 pub lay_grades-requires : goal.lay_grades-requires
-lay_grades-requires c = pairs_small c.requires.table.small c.requires.next_needs c.outcomes.ensures c.list_next.ensures c.in-Listed.is
+lay_grades-requires c = pairs_small c.requires.table.small c.requires.next_needs c.outcomes.ensures c.list_next.ensures c.in_ok-count.was
 
 pub write_words-requires : goal.write_words-requires
-write_words-requires c = words_place c.requires.table.small c.requires.next_needs c.outcomes.ensures c.list_next.ensures c.in-Listed.is c.lay_grades.ensures
+write_words-requires c = words_place c.requires.table.small c.requires.next_needs c.outcomes.ensures c.list_next.ensures c.in_ok-count.was c.lay_grades.ensures
 
 pub shape_of-scratch : goal.shape_of-scratch
-shape_of-scratch c = (next_written c.requires.table.small c.requires.next_needs c.outcomes.ensures c.list_next.ensures c.in-Listed.is c.lay_grades.ensures c.write_words.ensures).same_length
+shape_of-scratch c = (next_written c.requires.table.small c.requires.next_needs c.outcomes.ensures c.list_next.ensures c.in_ok-count.was c.lay_grades.ensures c.write_words.ensures).same_length
 
 pub returns : goal.returns
-returns c = next_written c.requires.table.small c.requires.next_needs c.outcomes.ensures c.list_next.ensures c.in-Listed.is c.lay_grades.ensures c.write_words.ensures
+returns c = next_written c.requires.table.small c.requires.next_needs c.outcomes.ensures c.list_next.ensures c.in_ok-count.was c.lay_grades.ensures c.write_words.ensures

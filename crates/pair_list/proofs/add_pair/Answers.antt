@@ -1,7 +1,5 @@
 -- A pair with a number is left alone. For another there is a place, or the list is full; the five stores are those of a new entry.
 -- Assumes nothing.
-use borrow.Author.Rules.{rules}
-use lib.ListN.{length-set}
 use Rattle.pair_list.proofs.Bytes.{add_there, add_full, add_new}
 use Rattle.pair_list.proofs.add_pair.Goals as goal
 
@@ -10,18 +8,6 @@ returns-then-scratch-s-gt0 c = add_there c.if-scratch-s-gt0.true
 
 pub returns-then-count-ge64 : goal.returns-then-count-ge64
 returns-then-count-ge64 c = add_full c.requires c.if-scratch-s-gt0.false c.if-count-ge64.true
-
-pub bounds-scratch-count-2 : goal.bounds-scratch-count-2
-bounds-scratch-count-2 c = simp length-set (search rules)
-
-pub bounds-scratch-count-3 : goal.bounds-scratch-count-3
-bounds-scratch-count-3 c = simp length-set (search rules)
-
-pub bounds-scratch-count-4 : goal.bounds-scratch-count-4
-bounds-scratch-count-4 c = simp length-set (search rules)
-
-pub bounds-scratch-s-2 : goal.bounds-scratch-s-2
-bounds-scratch-s-2 c = simp length-set (search rules)
 
 pub returns : goal.returns
 returns c = add_new c.requires c.if-scratch-s-gt0.false c.if-count-ge64.false

@@ -1,24 +1,16 @@
--- `pair_marks::combine_grades` meets its contract: each way through the tests is one of its cases. Assumes nothing.
-use Rattle.pair_marks.proofs.Ways.{both_first, both_second, either_second, either_first, without_none, without_first, without_rest}
+-- Each case is one of the definition's. Assumes nothing.
+use borrow.Author.Rules.{rules}
+use Rattle.promises.specs.Combine.{combined_grade}
 use Rattle.pair_marks.proofs.combine_grades.Goals as goal
 
-pub returns-then-a-b : goal.returns-then-a-b
-returns-then-a-b c = both_first _ _ c.in-Both.is c.if-a-b.true
+pub returns-in-Both : goal.returns-in-Both
+unfolding combined_grade
+returns-in-Both c = rw c.in-Both.is (search rules)
 
-pub returns-then-a-b-2 : goal.returns-then-a-b-2
-returns-then-a-b-2 c = either_second _ _ c.in-Either.is c.if-a-b-2.true
+pub returns-in-Either : goal.returns-in-Either
+unfolding combined_grade
+returns-in-Either c = rw c.in-Either.is (search rules)
 
-pub returns-then-b-ge3 : goal.returns-then-b-ge3
-returns-then-b-ge3 c = without_none _ _ c.in-Without.is c.if-b-ge3.true
-
-pub returns-then-a-b-3 : goal.returns-then-a-b-3
-returns-then-a-b-3 c = without_first _ _ c.in-Without.is c.if-a-b-3.true
-
-pub returns-else-a-b : goal.returns-else-a-b
-returns-else-a-b c = both_second _ _ c.in-Both.is c.if-a-b.false
-
-pub returns-else-a-b-2 : goal.returns-else-a-b-2
-returns-else-a-b-2 c = either_first _ _ c.in-Either.is c.if-a-b-2.false
-
-pub returns-else-a-b-3 : goal.returns-else-a-b-3
-returns-else-a-b-3 c = without_rest _ _ c.in-Without.is c.if-a-b-3.false
+pub returns-in-Without : goal.returns-in-Without
+unfolding combined_grade
+returns-in-Without c = rw c.in-Without.is (search rules)

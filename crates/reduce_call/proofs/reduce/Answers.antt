@@ -14,30 +14,30 @@ returns-then-out-lt-RULE_SIZE c = out_short _ _ _ _ c.if-out-lt-RULE_SIZE.true
 pub returns-then-map-lt-MAP_SIZE : goal.returns-then-map-lt-MAP_SIZE
 returns-then-map-lt-MAP_SIZE c = map_short _ _ _ _ c.if-out-lt-RULE_SIZE.false c.if-map-lt-MAP_SIZE.true
 
-pub returns-in-Refused : goal.returns-in-Refused
-returns-in-Refused c =
-    reduce_refused _ _ _ _ c.if-out-lt-RULE_SIZE.false c.if-map-lt-MAP_SIZE.false (checked_refused 1 _ _ _ _ c.check.ensures c.in-Refused.is)
+pub returns-in-Err : goal.returns-in-Err
+returns-in-Err c =
+    reduce_refused _ _ _ _ c.if-out-lt-RULE_SIZE.false c.if-map-lt-MAP_SIZE.false (checked_refused 1 _ _ _ _ c.check.ensures c.in-Err.is)
 
 pub decide-strong-requires : goal.decide-strong-requires
 decide-strong-requires c =
-    let p = checked_rule 1 _ _ _ _ c.check.ensures c.in-Rule.is in record {
+    let p = checked_rule 1 _ _ _ _ c.check.ensures c.in-Ok.is in record {
       table = checked_table 1 _ _ p;
       decide_needs = decide_place 1 _ _ p;
     }
 
 pub returns-then-not-strong : goal.returns-then-not-strong
 returns-then-not-strong c =
-    reduce_weak _ _ _ _ c.if-out-lt-RULE_SIZE.false c.if-map-lt-MAP_SIZE.false (checked_rule 1 _ _ _ _ c.check.ensures c.in-Rule.is) c.decide-strong.ensures
+    reduce_weak _ _ _ _ c.if-out-lt-RULE_SIZE.false c.if-map-lt-MAP_SIZE.false (checked_rule 1 _ _ _ _ c.check.ensures c.in-Ok.is) c.decide-strong.ensures
     _ c.zero.ensures (not-true _ (ap not c.if-not-strong.true))
 
 pub write_reduced-length-requires : goal.write_reduced-length-requires
 write_reduced-length-requires c =
-    let p = checked_rule 1 _ _ _ _ c.check.ensures c.in-Rule.is in record {
+    let p = checked_rule 1 _ _ _ _ c.check.ensures c.in-Ok.is in record {
       table = checked_table 1 _ _ p;
       reduce_needs = reduce_place _ _ _ _ c.if-out-lt-RULE_SIZE.false c.if-map-lt-MAP_SIZE.false p c.decide-strong.ensures;
     }
 
 pub returns : goal.returns
 returns c =
-    reduce_strong _ _ _ _ c.if-out-lt-RULE_SIZE.false c.if-map-lt-MAP_SIZE.false (checked_rule 1 _ _ _ _ c.check.ensures c.in-Rule.is)
+    reduce_strong _ _ _ _ c.if-out-lt-RULE_SIZE.false c.if-map-lt-MAP_SIZE.false (checked_rule 1 _ _ _ _ c.check.ensures c.in-Ok.is)
     c.decide-strong.ensures c.write_reduced-length.ensures (not-false _ (ap not c.if-not-strong.false)) _ c.zero-2.ensures

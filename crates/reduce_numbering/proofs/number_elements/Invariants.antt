@@ -3,5 +3,5 @@ use Prim.Native.Nat.{◌≤◌}
 use Rattle.reduce_numbering.specs.Steps.{Numbered}
 use Rattle.reduce_numbering.proofs.number_elements.Given as goal
 
-abbrev pub invariant-loop-i : goal.invariant-loop-i
-invariant-loop-i l = Numbered l.queue l.n l.i l.c l.initial.scratch l.scratch × (l.i ≤ l.count)
+abbrev pub invariant-loop-s : goal.invariant-loop-s
+invariant-loop-s l = Numbered l.queue l.n l.s-index l.c l.initial.scratch l.scratch × (l.s-index ≤ l.count)

@@ -11,30 +11,30 @@ use Rattle.reduce_rounds_call.proofs.reduce_rounds.Goals as goal
 pub returns-then-blocks-lt-BLOCKS_SIZE : goal.returns-then-blocks-lt-BLOCKS_SIZE
 returns-then-blocks-lt-BLOCKS_SIZE c = blocks_short _ _ _ _ c.if-blocks-lt-BLOCKS_SIZE.true
 
-pub returns-in-Refused : goal.returns-in-Refused
-returns-in-Refused c =
-    rounds_refused _ _ _ _ c.if-blocks-lt-BLOCKS_SIZE.false (checked_refused 1 _ _ _ _ c.check.ensures c.in-Refused.is)
+pub returns-in-Err : goal.returns-in-Err
+returns-in-Err c =
+    rounds_refused _ _ _ _ c.if-blocks-lt-BLOCKS_SIZE.false (checked_refused 1 _ _ _ _ c.check.ensures c.in-Err.is)
 
 pub returns-then-limit-gt-MOST_ROUNDS : goal.returns-then-limit-gt-MOST_ROUNDS
 returns-then-limit-gt-MOST_ROUNDS c =
-    rounds_limit _ _ _ _ c.if-blocks-lt-BLOCKS_SIZE.false (checked_rule 1 _ _ _ _ c.check.ensures c.in-Rule.is) _ c.zero.ensures
+    rounds_limit _ _ _ _ c.if-blocks-lt-BLOCKS_SIZE.false (checked_rule 1 _ _ _ _ c.check.ensures c.in-Ok.is) _ c.zero.ensures
     c.if-limit-gt-MOST_ROUNDS.true
 
 pub decide-strong-requires : goal.decide-strong-requires
 decide-strong-requires c =
-    let p = checked_rule 1 _ _ _ _ c.check.ensures c.in-Rule.is in record {
+    let p = checked_rule 1 _ _ _ _ c.check.ensures c.in-Ok.is in record {
       table = checked_table 1 _ _ p;
       decide_needs = decide_place 1 _ _ p;
     }
 
 pub returns-then-not-strong : goal.returns-then-not-strong
 returns-then-not-strong c =
-    rounds_weak _ _ _ _ c.if-blocks-lt-BLOCKS_SIZE.false (checked_rule 1 _ _ _ _ c.check.ensures c.in-Rule.is) c.decide-strong.ensures
+    rounds_weak _ _ _ _ c.if-blocks-lt-BLOCKS_SIZE.false (checked_rule 1 _ _ _ _ c.check.ensures c.in-Ok.is) c.decide-strong.ensures
     c.if-limit-gt-MOST_ROUNDS.false _ c.zero-then-not-strong.ensures (not-true _ (ap not c.if-not-strong.true))
 
 pub write_blocks-refined-requires : goal.write_blocks-refined-requires
 write_blocks-refined-requires c =
-    let p = checked_rule 1 _ _ _ _ c.check.ensures c.in-Rule.is in record {
+    let p = checked_rule 1 _ _ _ _ c.check.ensures c.in-Ok.is in record {
       table = checked_table 1 _ _ p;
       lawful = checked_lawful 1 _ _ p;
       scratch_size_in_bounds = decided_room 1 _ _ p c.decide-strong.ensures;
@@ -43,5 +43,5 @@ write_blocks-refined-requires c =
 
 pub returns : goal.returns
 returns c =
-    rounds_strong _ _ _ _ c.if-blocks-lt-BLOCKS_SIZE.false (checked_rule 1 _ _ _ _ c.check.ensures c.in-Rule.is) c.decide-strong.ensures
+    rounds_strong _ _ _ _ c.if-blocks-lt-BLOCKS_SIZE.false (checked_rule 1 _ _ _ _ c.check.ensures c.in-Ok.is) c.decide-strong.ensures
     c.if-limit-gt-MOST_ROUNDS.false c.write_blocks-refined.ensures (not-false _ (ap not c.if-not-strong.false)) _ c.zero-2.ensures

@@ -6,10 +6,8 @@ use Rattle.rule_check.proofs.check.Goals as goal
 pub returns-then-scratch-lt-SCRATCH_SIZE : goal.returns-then-scratch-lt-SCRATCH_SIZE
 returns-then-scratch-lt-SCRATCH_SIZE c = short_scratch _ _ _ c.if-scratch-lt-SCRATCH_SIZE.true
 
-pub returns-in-Rule : goal.returns-in-Rule
-returns-in-Rule c =
-    rule_promise _ _ _ _ c.check_rule.result c.if-scratch-lt-SCRATCH_SIZE.false c.check_rule.ensures c.in-Rule.is
+pub returns-in-Ok : goal.returns-in-Ok
+returns-in-Ok c = rule_promise _ _ _ _ c.if-scratch-lt-SCRATCH_SIZE.false c.in-Ok.ensures
 
-pub returns-in-Refused : goal.returns-in-Refused
-returns-in-Refused c =
-    refused_promise _ _ _ _ c.check_rule.result c.if-scratch-lt-SCRATCH_SIZE.false c.check_rule.ensures c.in-Refused.is c.zero.ensures
+pub returns-in-Err : goal.returns-in-Err
+returns-in-Err c = refused_promise _ _ _ _ c.if-scratch-lt-SCRATCH_SIZE.false c.in-Err.ensures c.zero.ensures

@@ -1,35 +1,16 @@
 -- `rule_layout::letters_section` meets its contract: the count decides, and after a good count the entries. Assumes nothing.
-use native.Mathlib.Omega.{arith}
-use Rattle.formats.specs.Sections.{one_byte}
-use Rattle.formats.proofs.Sections.{CountGood}
+use Rattle.answer.proofs.PassedOn.{passed_on}
+use Rattle.formats.proofs.Sections.{section_count_refused}
 use Rattle.formats.specs.RuleFile.{letters_section}
-use Rattle.sections.proofs.Sectioned.{count_read, count_refused, by_entries}
+use Rattle.sections.specs.Answers.{SectionAnswer}
+use Rattle.sections.proofs.Sectioned.{by_entries}
 use Rattle.rule_layout.proofs.letters_section.Goals as goal
 
--- the count that was read
-good : (c : goal.In-Read) → CountGood one_byte 1 16 c.args.rest.now c.in-Read.k
-good c =
+pub returns-in_err-k : goal.returns-in_err-k
+returns-in_err-k c =
     let a = c.args in
-    let call = c.byte_count in
-    count_read (letters_section a.n) a.at a.rest.now call.result call.ensures c.in-Read.is
+    passed_on (SectionAnswer (letters_section a.n) a.at a.rest.now) c.from_residual.result c.from_residual.ensures.1
+    (λ input. section_count_refused (letters_section a.n) input a.at a.rest.now (c.in_err-k.ensures input))
 
--- the count that was read
-good_2 : (c : goal.After-entries) → CountGood one_byte 1 16 c.args.rest.now c.in-Read.k
-good_2 c =
-    let a = c.args in
-    let call = c.byte_count in
-    count_read (letters_section a.n) a.at a.rest.now call.result call.ensures c.in-Read.is
-
-pub entries-requires : goal.entries-requires
-entries-requires c = omega (arith, (good c).within)
-
-pub returns-in-Read : goal.returns-in-Read
-returns-in-Read c =
-    let a = c.args in
-    by_entries (letters_section a.n) a.at a.rest.now (good_2 c) c.entries.result c.entries.ensures
-
-pub returns-in-Refused : goal.returns-in-Refused
-returns-in-Refused c =
-    let a = c.args in
-    let call = c.byte_count in
-    count_refused (letters_section a.n) a.at a.rest.now call.result call.ensures c.in-Refused.is
+pub returns : goal.returns
+returns c = let a = c.args in by_entries (letters_section a.n) a.at a.rest.now c.in_ok-k.ensures c.entries.result c.entries.ensures

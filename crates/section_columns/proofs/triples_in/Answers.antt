@@ -18,8 +18,8 @@ pub loop-j-preserved : goal.loop-j-preserved
 loop-j-preserved c =
     let so_far = c.loop-j.invariant in
     let small = c.loop-j-test.true in (
-      byte_kept so_far.0 small _ (λ x h. omega (arith, c.greater.ensures.0)) c.greater.ensures.1,
-      byte_kept so_far.1 small _ (λ x h. omega (arith, c.lesser.ensures.0)) c.lesser.ensures.1,
+      byte_kept so_far.0 small _ (λ x h. omega (arith, c.max.ensures)) (omega (arith, c.max.ensures)),
+      byte_kept so_far.1 small _ (λ x h. omega (arith, c.min.ensures)) (omega (arith, c.min.ensures)),
     )
 
 pub loop-c-preserved : goal.loop-c-preserved

@@ -5,10 +5,10 @@ use Rattle.until_call.proofs.Calling.{file_refused, both_place, files_made}
 use Rattle.until_call.proofs.until_long.Goals as goal
 
 pub until_checked-answer-requires : goal.until_checked-answer-requires
-until_checked-answer-requires c = both_place _ _ _ _ _ (both_rules _ _ _ _ _ c.check_both.ensures c.in-Rules.is) c.requires
+until_checked-answer-requires c = both_place _ _ _ _ _ (both_rules _ _ _ _ _ c.check_both.ensures c.in-Ok.is) c.requires
 
-pub returns-in-Refused : goal.returns-in-Refused
-returns-in-Refused c = file_refused _ _ _ _ _ (both_refused _ _ _ _ _ c.check_both.ensures c.in-Refused.is)
+pub returns-in-Err : goal.returns-in-Err
+returns-in-Err c = file_refused _ _ _ _ _ (both_refused _ _ _ _ _ c.check_both.ensures c.in-Err.is)
 
-pub returns-in-Rules : goal.returns-in-Rules
-returns-in-Rules c = files_made _ _ _ _ _ (both_rules _ _ _ _ _ c.check_both.ensures c.in-Rules.is) c.until_checked-answer.ensures c.zero.ensures
+pub returns-in-Ok : goal.returns-in-Ok
+returns-in-Ok c = files_made _ _ _ _ _ (both_rules _ _ _ _ _ c.check_both.ensures c.in-Ok.is) c.until_checked-answer.ensures c.zero.ensures

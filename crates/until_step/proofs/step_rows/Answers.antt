@@ -1,12 +1,8 @@
 -- The loop holds that the rows that were passed have what the entry makes of them. Assumes nothing.
 use native.Mathlib.Omega.{arith}
-use Rattle.scratch.specs.Map.{until_step_base}
-use Rattle.scratch.proofs.Rows.{rows_none, rows_all}
+use Rattle.scratch.proofs.Rows.{rows_all}
 use Rattle.until_step.proofs.Rows.{rows_needs, step_row_more}
 use Rattle.until_step.proofs.step_rows.Goals as goal
-
-pub loop-s-init : goal.loop-s-init
-loop-s-init c = (rows_none until_step_base 64 _ _, omega arith)
 
 pub step_row-requires : goal.step_row-requires
 step_row-requires c = record {
@@ -17,9 +13,6 @@ step_row-requires c = record {
 pub loop-s-preserved : goal.loop-s-preserved
 loop-s-preserved c =
     (step_row_more c.requires c.loop-s-test.true c.loop-s.invariant.0 c.step_row.ensures, omega arith)
-
-pub shape_of-scratch : goal.shape_of-scratch
-shape_of-scratch c = c.loop-s.invariant.0.kept.same_length
 
 pub returns : goal.returns
 returns c = rows_all c.loop-s.invariant.1 c.loop-s-test.false c.loop-s.invariant.0

@@ -3,8 +3,8 @@ use mathlib.Core.Path.{sym, ap}
 use Rattle.until_strong.specs.Steps.{formed_of}
 use Rattle.until_strong.proofs.formed.Goals as goal
 
-pub returns-in-Rule : goal.returns-in-Rule
-returns-in-Rule c = sym (ap formed_of c.in-Rule.is)
+pub returns-in-Some : goal.returns-in-Some
+returns-in-Some c = sym (ap formed_of c.in-Some.is)
 
-pub returns-in-TooMany : goal.returns-in-TooMany
-returns-in-TooMany c = sym (ap formed_of c.in-TooMany.is)
+pub returns-in-None : goal.returns-in-None
+returns-in-None c = sym (ap formed_of c.in-None.is)

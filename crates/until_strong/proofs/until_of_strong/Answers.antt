@@ -10,25 +10,25 @@ list_pairs-requires c = record {
   le_k = some_letters c.requires;
 }
 
-pub shape_of-scratch-in-TooMany : goal.shape_of-scratch-in-TooMany
-shape_of-scratch-in-TooMany c = (too_many c.requires c.zero_part.ensures _ c.list_pairs.ensures c.in-TooMany.is).same_length
+pub shape_of-scratch-in-None : goal.shape_of-scratch-in-None
+shape_of-scratch-in-None c = (too_many c.requires c.zero_part.ensures _ c.list_pairs.ensures c.in-None.is).same_length
 
-pub returns-in-TooMany : goal.returns-in-TooMany
-returns-in-TooMany c = too_many c.requires c.zero_part.ensures _ c.list_pairs.ensures c.in-TooMany.is
+pub returns-in-None : goal.returns-in-None
+returns-in-None c = too_many c.requires c.zero_part.ensures _ c.list_pairs.ensures c.in-None.is
 
 pub lay_table-requires : goal.lay_table-requires
-lay_table-requires c = table_place c.requires c.zero_part.ensures _ c.list_pairs.ensures c.in-Listed.is
+lay_table-requires c = table_place c.requires c.zero_part.ensures _ c.list_pairs.ensures c.in-Some.is
 
 pub write_until-file-requires : goal.write_until-file-requires
-write_until-file-requires c = until_place c.requires c.zero_part.ensures _ c.list_pairs.ensures c.in-Listed.is c.lay_table.ensures
+write_until-file-requires c = until_place c.requires c.zero_part.ensures _ c.list_pairs.ensures c.in-Some.is c.lay_table.ensures
 
 pub shape_of-classes : goal.shape_of-classes
 shape_of-classes c = c.write_until-file.ensures.classes_length
 
 pub shape_of-scratch : goal.shape_of-scratch
 shape_of-scratch c =
-    (until_said c.requires c.zero_part.ensures _ c.list_pairs.ensures c.in-Listed.is c.lay_table.ensures _ c.write_until-file.ensures c.formed.ensures).same_length
+    (until_said c.requires c.zero_part.ensures _ c.list_pairs.ensures c.in-Some.is c.lay_table.ensures _ c.write_until-file.ensures c.formed.ensures).same_length
 
 pub returns : goal.returns
 returns c =
-    until_said c.requires c.zero_part.ensures _ c.list_pairs.ensures c.in-Listed.is c.lay_table.ensures _ c.write_until-file.ensures c.formed.ensures
+    until_said c.requires c.zero_part.ensures _ c.list_pairs.ensures c.in-Some.is c.lay_table.ensures _ c.write_until-file.ensures c.formed.ensures
