@@ -15,6 +15,7 @@ pub struct Board {
     pub lowest: usize,
 }
 
+// An enum of its own and no Result, as each call's answer is.
 #[derive(Clone, Copy)]
 pub enum Notice {
     Done,

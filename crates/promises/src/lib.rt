@@ -1,4 +1,6 @@
 // What the calls answer, and the monitor; the promises are in specs/.
+// Each call's answer is an enum of its own with the refusal in its last case, and no Result: a rule of the project, by which a reader sees all that a
+// call can say in one place, and each case has its number in the promises.
 #![tactic(auto)]
 
 use answer::Refusal;
