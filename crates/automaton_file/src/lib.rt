@@ -37,6 +37,7 @@ fn repeated_fault(bytes: &[u8], at: usize, count: usize, table: &mut [u8]) -> Re
     ensures refusal { FaultAnswer (λ input. repeated_checks input bytes.now 0 (transitions_of bytes.now)) result }
     ensures laid { LaidAnswer bytes.now table.old table.new result }
 {
+    // By index: the place of a refusal is counted from it.
     for i in 0..count {
         let index = triple_index(bytes, at, count, i);
         if table[index] != 0 {

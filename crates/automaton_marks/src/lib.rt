@@ -53,6 +53,7 @@ pub fn returns_from(kinds: &[u8], n: usize, scratch: &[u8], s: usize, e: usize, 
     if !initial(kinds, p) {
         return false;
     }
+    // By number: states are the numbers below n.
     for q in 0..n {
         if returns_at(scratch, s, e, p, q) {
             return true;
@@ -66,6 +67,7 @@ pub fn recurs(kinds: &[u8], n: usize, scratch: &[u8], s: usize, e: usize) -> boo
     requires { PairNeeds kinds.now n scratch.now s e }
     ensures { result ≡ recurs_test (initial_states kinds.now n) (matrix_at scratch.now s) (matrix_at scratch.now e) }
 {
+    // By number: states are the numbers below n.
     for p in 0..n {
         if returns_from(kinds, n, scratch, s, e, p) {
             return true;
@@ -111,6 +113,7 @@ pub fn lay_marks(kinds: &[u8], n: usize, scratch: &mut [u8], count: usize)
     requires { MarkNeeds kinds.now n scratch.old count }
     ensures { RowsFilled (MarkByte kinds.now n count scratch.old) laid_marks_base 64 count count scratch.old scratch.new }
 {
+    // By number: matrices are the numbers below count.
     for s in 0..count {
         lay_marks_of(kinds, n, scratch, count, s);
     }

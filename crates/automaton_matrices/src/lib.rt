@@ -65,6 +65,7 @@ pub fn same_stored(scratch: &[u8], base: usize, i: usize, n: usize, m: &[[u8; 6]
     requires { (n ≤ 6) × MatrixNeeds scratch.now base i }
     ensures { result ≡ same_test n (entry_in m.now) (matrix_from scratch.now base i) }
 {
+    // By number: each row is compared with the bytes at its place in scratch.
     for p in 0..n {
         if !same_bytes(scratch, base + (i * 64 + p * 6), n, &m[p]) {
             return false;

@@ -22,6 +22,7 @@ fn add_letters(kinds: &[u8], n: usize, k: usize, scratch: &mut [u8]) -> Option<u
     ensures { Followed kinds.now n k scratch.old 0 0 scratch.new result }
 {
     let mut total = 0;
+    // By number: letters are the numbers below k.
     for letter in 0..k {
         let m = letter_matrix(kinds, n, scratch, letter);
         total = add_step(scratch, n, total, 0, letter, m)?;
@@ -45,6 +46,7 @@ fn add_products(
 {
     let left = load_matrix(scratch, MATRICES_BASE, from);
     let mut total = count;
+    // By number: each letter's matrix is read from the list, which grows on the way.
     for letter in 0..k {
         let at = scratch[STEPS_BASE + letter] as usize;
         let right = load_matrix(scratch, MATRICES_BASE, at);

@@ -25,6 +25,7 @@ pub fn find_matrix(scratch: &[u8], n: usize, count: usize, m: [[u8; 6]; 6]) -> O
     requires { MatrixList n scratch.now count }
     ensures { FoundMatrix n scratch.now count m result }
 {
+    // By number: each matrix of the list is compared at its place in scratch.
     for i in 0..count {
         if same_stored(scratch, MATRICES_BASE, i, n, &m) {
             return Some(i);

@@ -46,6 +46,7 @@ pub fn matrix_product(n: usize, left: [[u8; 6]; 6], right: [[u8; 6]; 6]) -> [[u8
     ensures { IsProduct n left right result }
 {
     let mut out = [[0u8; 6]; 6];
+    // By index: the first n of six rows, which zip and take would say no plainer.
     for p in 0..n {
         out[p] = product_row(n, &left[p], &right);
     }

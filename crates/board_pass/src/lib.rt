@@ -64,6 +64,7 @@ pub fn visit_all(board: Board, step: Step, leaver: usize, files: &[u8], scratch:
         foreign: 8,
         notice: Notice::Done,
     };
+    // By number: names are the numbers from 0 to 7.
     for i in 0..8 {
         pass = visit(board, step, leaver, i, pass, files, scratch);
     }

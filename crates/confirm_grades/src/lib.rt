@@ -30,6 +30,7 @@ fn column_kept(
     let power = idempotent_power(first, n1, k1, z);
     let f = power.element;
     let y = mapped(map, z);
+    // By number: elements are the numbers below n1.
     for s in 0..n1 {
         let here = outcome(first, n1, k1, scratch, SEARCH_END, s, f);
         let t = mapped(map, s);
@@ -52,6 +53,7 @@ pub fn grades_kept(
     requires { GradesNeeds first.now n1 k1 map.now n2 scratch.now }
     ensures { Tells (GradesKept (morphism_at first.now n1 k1) map.now scratch.now) result }
 {
+    // By number: elements are the numbers below n1.
     for z in 0..n1 {
         if !column_kept(first, n1, k1, map, n2, scratch, z) {
             return false;

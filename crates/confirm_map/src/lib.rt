@@ -51,6 +51,7 @@ fn onto(map: &[u8], n1: usize, n2: usize) -> bool
     requires { length map.now ≡ n1 }
     ensures { Tells (EachBelow (TakenTo (map_of map.now) n1) n2) result }
 {
+    // By number: elements are the numbers below n2.
     for t in 0..n2 {
         if !taken_to(map, n1, t) {
             return false;
@@ -74,6 +75,7 @@ fn products_from(
     ensures { Tells (EachBelow (ProductCarried (morphism_at first.now n1 k) (morphism_at second.now n2 k) (map_of map.now) s) n1) result }
 {
     let a = mapped(map, s);
+    // By number: elements are the numbers below n1.
     for t in 0..n1 {
         let b = mapped(map, t);
         let there = product(second, n2, a, b);
@@ -90,6 +92,7 @@ fn products(first: &[u8], n1: usize, second: &[u8], n2: usize, k: usize, map: &[
     requires { MapNeeds first.now n1 second.now n2 k map.now }
     ensures { Tells (EachBelow (λ s. EachBelow (ProductCarried (morphism_at first.now n1 k) (morphism_at second.now n2 k) (map_of map.now) s) n1) n1) result }
 {
+    // By number: elements are the numbers below n1.
     for s in 0..n1 {
         if !products_from(first, n1, second, n2, k, map, s) {
             return false;
@@ -103,6 +106,7 @@ fn images(first: &[u8], n1: usize, second: &[u8], n2: usize, k: usize, map: &[u8
     requires { MapNeeds first.now n1 second.now n2 k map.now }
     ensures { Tells (EachBelow (ImageCarried (morphism_at first.now n1 k) (morphism_at second.now n2 k) (map_of map.now)) k) result }
 {
+    // By number: letters are the numbers below k.
     for x in 0..k {
         let there = image(second, n2, x);
         let here = image(first, n1, x);

@@ -44,6 +44,7 @@ fn powers_highest(
 {
     let mut s = product(rule, n, p, e);
     let mut high = before;
+    // By number: j counts the powers of r, each of which is found from the one before.
     for j in 0..exponent {
         high = higher(high, marks[s * 64 + e]);
         s = product(rule, n, s, r);
@@ -100,6 +101,7 @@ fn powers_marked(
     ensures { result ≡ false → Raised (λ g. turn_test (morphism_at rule.now n k) (level g (marks_from marks.now 0)) p r) 0 0 }
 {
     let mut q = product(rule, n, p, e);
+    // By number: j counts the powers of r, each of which is found from the one before.
     for j in 0..exponent {
         if 0 < marks[q * 64 + e] {
             return true;

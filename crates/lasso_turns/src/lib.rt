@@ -44,6 +44,7 @@ fn first_marked(rule: &[u8], n: usize, k: usize, scratch: &[u8], s: usize, len: 
     requires s_lt_n { s < n }
     ensures { UnmarkedBefore (morphism_at rule.now n k) (marks_from scratch.now 0) s scratch.now len result }
 {
+    // By number: a cut is the number of the letters before it.
     for j in 0..len {
         let cut = cut_at(rule, n, k, scratch, s, len, j);
         if turn_marked(rule, n, k, scratch, cut.before, cut.turn) {
@@ -73,6 +74,7 @@ fn highest_from(
     ensures { Raised (λ g. some_cut (morphism_at rule.now n k) (level g (marks_from scratch.now 0)) s scratch.now len) 0 result }
 {
     let mut high = 0u8;
+    // By number: a cut is the number of the letters before it.
     for j in first..len {
         let cut = cut_at(rule, n, k, scratch, s, len, j);
         high = turn_highest(rule, n, k, scratch, cut.before, cut.turn, high);

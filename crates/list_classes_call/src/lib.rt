@@ -25,6 +25,7 @@ pub fn write_classes(rule: &[u8], n: usize, k: usize, out: &mut [u8])
     ensures { ClassesWritten (morphism_at rule.now n k) out.old out.new }
 {
     begin(rule, n, k, out);
+    // By number: elements are the numbers below n.
     for x in 0..n {
         lower_row(rule, n, k, out, x);
     }
@@ -44,6 +45,7 @@ fn count(out: &[u8], pairs: usize) -> ClassNumbers
 {
     let mut linked = 0;
     let mut classes = 0;
+    // By number: the number of two bytes of a pair is compared with the pair's own.
     for i in 0..pairs {
         let number = load(out, 2 * i);
         if number != NO_CLASS {

@@ -51,6 +51,7 @@ pub fn begin_row(rule: &[u8], n: usize, k: usize, out: &mut [u8], s: usize)
     requires n_in_bounds { (2 * (n * n) ≤ length out.old) × (s < n) }
     ensures { Begun (morphism_at rule.now n k) (s * n) (s * n + n) out.old out.new }
 {
+    // By number: elements are the numbers below n.
     for e in 0..n {
         let number = first_number(rule, n, k, s, e);
         store(out, 2 * (s * n + e), number);
@@ -64,6 +65,7 @@ pub fn begin(rule: &[u8], n: usize, k: usize, out: &mut [u8])
     requires n_in_bounds { 2 * (n * n) ≤ length out.old }
     ensures { CellAdvanced (morphism_at rule.now n k) 0 out.old out.new }
 {
+    // By number: elements are the numbers below n.
     for s in 0..n {
         begin_row(rule, n, k, out, s);
     }
@@ -103,6 +105,7 @@ pub fn lower(rule: &[u8], n: usize, k: usize, out: &mut [u8], x: usize, e: usize
     requires n_in_bounds { 2 * (n * n) ≤ length out.old }
     ensures { Lowered (morphism_at rule.now n k) x e f n out.old out.new }
 {
+    // By number: elements are the numbers below n.
     for s in 0..n {
         let at = 2 * (s * n + e);
         let old = load(out, at);
@@ -142,6 +145,7 @@ pub fn lower_row(rule: &[u8], n: usize, k: usize, out: &mut [u8], x: usize)
     requires classed { Classed (morphism_at rule.now n k) (x * n) out.old }
     ensures { CellAdvanced (morphism_at rule.now n k) (x * n + n) out.old out.new }
 {
+    // By number: elements are the numbers below n.
     for y in 0..n {
         lower_by(rule, n, k, out, x, y);
     }

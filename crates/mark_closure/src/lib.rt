@@ -49,6 +49,7 @@ fn close_column(rule: &[u8], n: usize, k: usize, scratch: &mut [u8], x: usize, e
     requires x_lt_n { (x < n) × (e < n) × (f < n) }
     ensures { ColumnClosed (morphism_at rule.now n k) x e f n scratch.old scratch.new }
 {
+    // By index: each byte is worked out from the slice that it is written to.
     for s in 0..n {
         let byte = byte_after(rule, n, k, scratch, x, e, f, s);
         scratch[SECOND_BASE + (s * 64 + e)] = byte;
@@ -84,6 +85,7 @@ fn close_row(rule: &[u8], n: usize, k: usize, scratch: &mut [u8], x: usize)
     requires closed_so_far { ClosedSoFar (morphism_at rule.now n k) (x * n) scratch.old }
     ensures { ClosureAdvanced (morphism_at rule.now n k) (x * n + n) scratch.old scratch.new }
 {
+    // By number: elements are the numbers below n.
     for y in 0..n {
         close_by(rule, n, k, scratch, x, y);
     }
@@ -96,6 +98,7 @@ fn close_pairs(rule: &[u8], n: usize, k: usize, scratch: &mut [u8])
     requires closure_room { ClosureRoom (morphism_at rule.now n k) scratch.old }
     ensures { ClosureAdvanced (morphism_at rule.now n k) (n * n) scratch.old scratch.new }
 {
+    // By number: elements are the numbers below n.
     for x in 0..n {
         close_row(rule, n, k, scratch, x);
     }

@@ -37,6 +37,7 @@ pub fn turn_row(rule: &[u8], n: usize, k: usize, scratch: &mut [u8], s: usize)
     requires s_lt_n { s < n }
     ensures { ComplementRow (morphism_at rule.now n k) s n scratch.old scratch.new }
 {
+    // By index: each byte is worked out from the slice that it is written to.
     for e in 0..n {
         let byte = complement_byte(rule, n, k, scratch, s, e);
         scratch[SECOND_BASE + (s * 64 + e)] = byte;
@@ -49,6 +50,7 @@ pub fn complement_marks(rule: &[u8], n: usize, k: usize, scratch: &mut [u8])
     requires tables_end_in_bounds { tables_end ≤ length scratch.old }
     ensures { ComplementLaid (morphism_at rule.now n k) scratch.old scratch.new }
 {
+    // By number: elements are the numbers below n.
     for s in 0..n {
         turn_row(rule, n, k, scratch, s);
     }

@@ -56,6 +56,7 @@ pub fn highest_escape(
     ensures { GradeEscaped (morphism_at rule.now n k) first second scratch.old scratch.new result }
 {
     let mut above = 4u8;
+    // A while: each grade is found from the one before.
     while let Some(grade) = highest_below(scratch, n * 64, first, above) {
         if let Some(escape) = first_escape(rule, n, k, scratch, first, second, grade) {
             return Some(GradeEscape { grade, escape });

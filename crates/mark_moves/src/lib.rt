@@ -40,6 +40,7 @@ pub fn first_left(rule: &[u8], n: usize, k: usize, e: usize) -> usize
     requires idempotent { Idempotent (morphism_at rule.now n k) e }
     ensures { result ≡ first_left (morphism_at rule.now n k) e }
 {
+    // By number: elements are the numbers below n.
     for f in 0..e {
         let same = same_left(rule, n, k, e, f);
         if same {
@@ -125,6 +126,7 @@ fn move_agrees(
     requires move_to { MoveTo (morphism_at rule.now n k) e g f }
     ensures { AgreeAnswer (morphism_at rule.now n k) (marks_from scratch.now 0) (MoveAgrees (morphism_at rule.now n k) (marks_from scratch.now 0) e g f) result }
 {
+    // By number: elements are the numbers below n.
     for s in 0..n {
         let agrees = start_agrees(rule, n, k, scratch, e, g, f, s);
         if !agrees {
@@ -159,6 +161,7 @@ fn letters_agree(rule: &[u8], n: usize, k: usize, scratch: &[u8], e: usize) -> b
     requires idempotent { Idempotent (morphism_at rule.now n k) e }
     ensures { AgreeAnswer (morphism_at rule.now n k) (marks_from scratch.now 0) (LettersAgree (morphism_at rule.now n k) (marks_from scratch.now 0) e) result }
 {
+    // By number: letters are the numbers below k.
     for a in 0..k {
         let g = image(rule, n, a);
         let agrees = letter_agrees(rule, n, k, scratch, e, g);
@@ -194,6 +197,7 @@ pub fn constant_along_moves(rule: &[u8], n: usize, k: usize, scratch: &[u8]) -> 
     requires move_needs { MoveNeeds (morphism_at rule.now n k) scratch.now }
     ensures { ConstantAnswer (morphism_at rule.now n k) (marks_from scratch.now 0) result }
 {
+    // By number: elements are the numbers below n.
     for e in 0..n {
         let agrees = cycle_agrees(rule, n, k, scratch, e);
         if !agrees {

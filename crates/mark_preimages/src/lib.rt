@@ -42,6 +42,7 @@ fn list_letter(rule: &[u8], n: usize, k: usize, scratch: &mut [u8], a: usize)
     requires letter_room { LetterRoom scratch.old a }
     ensures { LetterListed (morphism_at rule.now n k) a (n + 1) scratch.old scratch.new }
 {
+    // By number: values are the numbers to n.
     for c in 0..n + 1 {
         let x = after_letter(rule, n, k, a, c);
         list_value(scratch, a, c, x);
@@ -54,6 +55,7 @@ pub fn list_preimages(rule: &[u8], n: usize, k: usize, scratch: &mut [u8])
     requires preimages_room { PreimagesRoom scratch.old }
     ensures { PreimagesListed (morphism_at rule.now n k) scratch.old scratch.new }
 {
+    // By number: letters are the numbers below k.
     for a in 0..k {
         list_letter(rule, n, k, scratch, a);
     }

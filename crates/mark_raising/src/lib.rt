@@ -63,6 +63,7 @@ fn raise_move(
     ensures { RaiseAnswer (morphism_at rule.now n k) (MoveSettled (morphism_at rule.now n k) e g f) raised scratch.old scratch.new result }
 {
     let mut more = raised;
+    // By number: elements are the numbers below n.
     for s in 0..n {
         more = raise_start(rule, n, k, scratch, e, g, f, s, more);
     }
@@ -112,6 +113,7 @@ fn raise_letters(
     ensures { RaiseAnswer (morphism_at rule.now n k) (LettersSettled (morphism_at rule.now n k) e) raised scratch.old scratch.new result }
 {
     let mut more = raised;
+    // By number: letters are the numbers below k.
     for a in 0..k {
         let g = image(rule, n, a);
         more = raise_letter(rule, n, k, scratch, e, g, more);
@@ -148,6 +150,7 @@ fn raise_round(rule: &[u8], n: usize, k: usize, scratch: &mut [u8]) -> bool
     ensures { RaiseAnswer (morphism_at rule.now n k) (RoundSettled (morphism_at rule.now n k)) false scratch.old scratch.new result }
 {
     let mut more = false;
+    // By number: elements are the numbers below n.
     for e in 0..n {
         more = raise_cycle(rule, n, k, scratch, e, more);
     }
@@ -162,6 +165,7 @@ pub fn raise_along_moves(rule: &[u8], n: usize, k: usize, scratch: &mut [u8]) ->
     requires raised { Raised (morphism_at rule.now n k) scratch.old }
     ensures { RoundsAnswer (morphism_at rule.now n k) scratch.old scratch.new result }
 {
+    // By number: counts the rounds.
     for round in 0..ROUNDS {
         let raised = raise_round(rule, n, k, scratch);
         if !raised {

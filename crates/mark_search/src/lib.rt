@@ -37,6 +37,7 @@ fn search_all(
     requires all_needs { AllNeeds (morphism_at rule.now n k) first second scratch.old }
     ensures { Escaped (morphism_at rule.now n k) least first second scratch.old scratch.new result }
 {
+    // By number: elements are the numbers below n.
     for s in 0..n {
         if let Some(entry) = search_from(rule, n, k, scratch, first, second, least, s) {
             return Some(Escape { start: s, entry });

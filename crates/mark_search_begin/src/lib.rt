@@ -36,6 +36,7 @@ pub fn begin(scratch: &mut [u8], n: usize, s: usize, first: usize, least: u8) ->
     ensures { Begun n s (level least (marks_from scratch.old first)) n scratch.old scratch.new result }
 {
     let mut count = 0;
+    // By number: elements are the numbers below n.
     for e in 0..n {
         count = begin_with(scratch, n, s, first, least, e, count);
     }

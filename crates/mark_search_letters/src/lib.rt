@@ -69,6 +69,7 @@ pub fn expand(
     ensures { Expanded (morphism_at rule.now n k) s scratch.old count from k scratch.new result }
 {
     let mut total = count;
+    // By number: letters are the numbers below k.
     for a in 0..k {
         total = take_letter(rule, n, k, scratch, s, total, from, a);
     }

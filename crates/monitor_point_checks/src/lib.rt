@@ -28,6 +28,7 @@ fn points_out_of_range(n: usize, points: &[u8]) -> bool
     requires { points_size ≤ length points.now }
     ensures { PointsAnswer n points.now result }
 {
+    // By number: names are the numbers below NAMES_COUNT.
     for name in 0..NAMES_COUNT {
         if name_out_of_range(n, points, name) {
             return true;

@@ -82,6 +82,7 @@ fn find_pair(scratch: &[u8], count: usize, tail: usize, whole: usize) -> Option<
     requires { (count ≤ 64) × (scratch_size ≤ length scratch.now) }
     ensures { FoundPair scratch.now count tail whole result }
 {
+    // By number: classes are the numbers below count.
     for i in 0..count {
         if same_pair(scratch, i, tail, whole) {
             return Some(i);
@@ -152,6 +153,7 @@ fn follow_entry(
     ensures { EntryFollowed (morphism_at rule.now n k) scratch.old scratch.new count from result }
 {
     let mut total = count;
+    // By number: letters are the numbers below k.
     for letter in 0..k {
         total = follow_letter(rule, n, k, scratch, total, from, letter)?;
     }

@@ -46,6 +46,7 @@ fn lay_grades(scratch: &mut [u8], count: usize)
     requires { PairsSmall count scratch.old }
     ensures { RowsFilled (λ s e byte. byte ≡ next_grade scratch.old s e) laid_marks_base 64 count count scratch.old scratch.new }
 {
+    // By number: elements are the numbers below count.
     for s in 0..count {
         grade_row(scratch, count, s);
     }

@@ -81,6 +81,7 @@ fn expand(
     ensures { Expanded first.now n1 second.now n2 k scratch.old scratch.new from result }
 {
     let mut total = count;
+    // By number: letters are the numbers below k.
     for letter in 0..k {
         total = try_letter(first, n1, second, n2, k, scratch, total, from, letter)?;
     }

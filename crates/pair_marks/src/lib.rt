@@ -71,6 +71,7 @@ pub fn lay_marks(operation: Operation, count: usize, scratch: &mut [u8])
     requires { HalvesNeeds 64 64 count scratch.old }
     ensures { RowsFilled (PairMark operation count scratch.old) laid_marks_base 64 count count scratch.old scratch.new }
 {
+    // By number: pairs are the numbers below count.
     for i in 0..count {
         marks_row(operation, count, scratch, i);
     }

@@ -84,6 +84,7 @@ pub fn lay_products(
     requires pairs_needs { PairsNeeds first.now n1 second.now n2 k count scratch.old }
     ensures { RowsFilled (λ i j byte. byte + 1 ≡ pair_product first.now n1 second.now n2 scratch.old i j) laid_products_base count count count scratch.old scratch.new }
 {
+    // By number: pairs are the numbers below count.
     for i in 0..count {
         products_row(first, n1, second, n2, k, count, scratch, i);
     }

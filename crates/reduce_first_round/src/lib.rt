@@ -45,6 +45,7 @@ pub fn outcome_column(rule: &[u8], n: usize, k: usize, scratch: &mut [u8], z: us
 {
     let power = idempotent_power(rule, n, k, z);
     let f = power.element;
+    // By index: each byte is worked out from the slice that it is written to.
     for s in 0..n {
         let found = outcome(rule, n, k, scratch, SECOND_BASE, s, f);
         scratch[OUTCOMES_BASE + (s * 64 + z)] = found;
@@ -58,6 +59,7 @@ pub fn outcomes(rule: &[u8], n: usize, k: usize, scratch: &mut [u8])
     requires scratch_size_in_bounds { scratch_size ≤ length scratch.old }
     ensures { OutcomesWritten (morphism_at rule.now n k) n scratch.old scratch.new }
 {
+    // By number: elements are the numbers below n.
     for z in 0..n {
         outcome_column(rule, n, k, scratch, z);
     }
@@ -79,6 +81,7 @@ pub fn same_outcomes(rule: &[u8], n: usize, k: usize, scratch: &[u8], s: usize, 
     requires scratch_size_in_bounds { scratch_size ≤ length scratch.now }
     ensures { Tells (SameOutcomes (morphism_at rule.now n k) (outcome_at scratch.now) s t) result }
 {
+    // By number: elements are the numbers below n.
     for z in 0..n {
         if outcome_at(scratch, s, z) != outcome_at(scratch, t, z) {
             return false;
@@ -97,6 +100,7 @@ pub fn first_alike(rule: &[u8], n: usize, k: usize, scratch: &[u8], s: usize) ->
     requires scratch_size_in_bounds { scratch_size ≤ length scratch.now }
     ensures { LeastRelated (SameOutcomes (morphism_at rule.now n k) (outcome_at scratch.now)) s result }
 {
+    // By number: elements are the numbers below n.
     for t in 0..s {
         if same_outcomes(rule, n, k, scratch, t, s) {
             return t;
@@ -111,6 +115,7 @@ pub fn first_blocks(rule: &[u8], n: usize, k: usize, scratch: &mut [u8])
     requires scratch_size_in_bounds { scratch_size ≤ length scratch.old }
     ensures { BlocksWritten n (Together (morphism_at rule.now n k) (outcome_at scratch.old) 0) blocks_base scratch.old scratch.new }
 {
+    // By index: each byte is worked out from the slice that it is written to.
     for s in 0..n {
         let t = first_alike(rule, n, k, scratch, s);
         scratch[BLOCKS_BASE + s] = t as u8;

@@ -51,6 +51,7 @@ pub fn marks_row(c: usize, scratch: &mut [u8], i: usize)
     requires i_lt_c { i < c }
     ensures { Filled (block_mark c scratch.old i) (laid_marks_base + i * 64) c scratch.old scratch.new }
 {
+    // By index: each byte is worked out from the slice that it is written to.
     for j in 0..c {
         let byte = mark_byte(c, scratch, i, j);
         scratch[LAID_MARKS_BASE + (i * 64 + j)] = byte;
@@ -62,6 +63,7 @@ pub fn lay_marks(c: usize, scratch: &mut [u8])
     requires { BlocksNeeds 64 c scratch.old }
     ensures { Grid (block_mark c scratch.old) laid_marks_base 64 c c scratch.old scratch.new }
 {
+    // By number: blocks are the numbers below c.
     for i in 0..c {
         marks_row(c, scratch, i);
     }

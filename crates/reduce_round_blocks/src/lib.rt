@@ -54,6 +54,7 @@ fn still_together(rule: &[u8], n: usize, k: usize, scratch: &[u8], s: usize, t: 
     if scratch[BLOCKS_BASE + s] != scratch[BLOCKS_BASE + t] {
         return false;
     }
+    // By number: letters are the numbers below k.
     for a in 0..k {
         if !products_together(rule, n, k, scratch, s, t, a) {
             return false;
@@ -69,6 +70,7 @@ fn first_kept(rule: &[u8], n: usize, k: usize, scratch: &[u8], s: usize) -> usiz
     requires scratch_size_in_bounds { scratch_size ≤ length scratch.now }
     ensures { LeastRelated (StillTogether (morphism_at rule.now n k) (InOneBlock scratch.now)) s result }
 {
+    // By number: elements are the numbers below n.
     for t in 0..s {
         if still_together(rule, n, k, scratch, t, s) {
             return t;
@@ -83,6 +85,7 @@ pub fn next_blocks(rule: &[u8], n: usize, k: usize, scratch: &mut [u8])
     requires scratch_size_in_bounds { scratch_size ≤ length scratch.old }
     ensures { BlocksWritten n (StillTogether (morphism_at rule.now n k) (InOneBlock scratch.old)) next_blocks_base scratch.old scratch.new }
 {
+    // By index: each byte is worked out from the slice that it is written to.
     for s in 0..n {
         let t = first_kept(rule, n, k, scratch, s);
         scratch[NEXT_BLOCKS_BASE + s] = t as u8;

@@ -30,6 +30,7 @@ pub fn refine(rule: &[u8], n: usize, k: usize, limit: usize, scratch: &mut [u8])
 {
     outcomes(rule, n, k, scratch);
     first_blocks(rule, n, k, scratch);
+    // By number: the rounds that are done are an answer.
     for rounds in 0..limit {
         if !look(rule, n, k, scratch) {
             return Refined {

@@ -39,6 +39,7 @@ pub fn table_row(rule: &[u8], n: usize, k: usize, c: usize, scratch: &mut [u8], 
     requires i_lt_c { i < c }
     ensures { Filled (block_product rule.now n scratch.old i) (laid_products_base + i * c) c scratch.old scratch.new }
 {
+    // By index: each byte is worked out from the slice that it is written to.
     for j in 0..c {
         let number = block_product(rule, n, k, c, scratch, i, j);
         scratch[LAID_PRODUCTS_BASE + (i * c + j)] = number;
@@ -51,6 +52,7 @@ pub fn lay_table(rule: &[u8], n: usize, k: usize, c: usize, scratch: &mut [u8])
     requires blocks_needs { BlocksNeeds n c scratch.old }
     ensures { Grid (block_product rule.now n scratch.old) laid_products_base c c c scratch.old scratch.new }
 {
+    // By number: blocks are the numbers below c.
     for i in 0..c {
         table_row(rule, n, k, c, scratch, i);
     }
@@ -62,6 +64,7 @@ pub fn lay_images(rule: &[u8], n: usize, k: usize, scratch: &mut [u8])
     requires scratch_size_in_bounds { scratch_size ≤ length scratch.old }
     ensures { Filled (block_image rule.now n scratch.old) laid_images_base k scratch.old scratch.new }
 {
+    // By index: each byte is worked out from the slice that it is written to.
     for a in 0..k {
         let s = image(rule, n, a);
         let number = scratch[NUMBERS_BASE + s];

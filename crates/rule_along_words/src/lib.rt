@@ -55,6 +55,7 @@ pub fn words_associate(
     requires letter_columns { LetterColumns rule.now n queue.now letters columns.now }
     ensures { WordsAnswer rule.now n k queue.now letters count result }
 {
+    // By index: each entry has its bytes in four parts of the queue.
     for i in letters..count {
         let from = queue[64 + i] as usize;
         let p = queue[from - 1] as usize;

@@ -129,6 +129,7 @@ pub fn list_successors(
     let h = image(rule, n, a);
     let turned = join(rule, n, k, s, e);
     let mut next = 0;
+    // By number: elements are the numbers below n.
     for t in 0..n {
         next = write_successor(rule, n, k, s, turned, h, t, out, next);
     }

@@ -37,6 +37,7 @@ pub fn letter_columns(
     ensures { LetterColumns rule.now n queue.now letters result }
 {
     let mut columns = [0u8; 1024];
+    // By index: the byte of x and of entry j is worked out from both.
     for j in 0..letters {
         let h = queue[j] as usize;
         for x in 0..n {

@@ -36,6 +36,7 @@ pub fn mark_fault(
     ensures refusal { FaultAnswer (λ input. mark_checks input (morphism_at rule.now n k) bytes.now at 0 count) result }
     ensures laid { MarksAnswer (morphism_at rule.now n k) bytes.now at count table.old table.new result }
 {
+    // By index: the place of a refusal is counted from it.
     for i in 0..count {
         let place = at + (2 + 3 * i);
         let s = bytes[place] as usize;

@@ -49,6 +49,7 @@ fn expand(rule: &[u8], n: usize, k: usize, queue: &mut [u8], count: usize, from:
     ensures { Expanded rule.now n k queue.old queue.new from result }
 {
     let mut found = count;
+    // By number: letters are the numbers below k.
     for letter in 0..k {
         let s = step(rule, n, queue, from, letter);
         found = add(queue, found, s, from, letter);
@@ -64,6 +65,7 @@ pub fn reach(rule: &[u8], n: usize, k: usize, queue: &mut [u8]) -> usize
 {
     let mut count = 0;
     let mut from = 0;
+    // A while: the list grows on the way, so that no range has its entries beforehand.
     while from <= count {
         count = expand(rule, n, k, queue, count, from);
         from += 1;

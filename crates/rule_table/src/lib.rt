@@ -31,6 +31,7 @@ pub fn first_not_associative(rule: &[u8], n: usize, k: usize) -> Option<(usize, 
     requires { Table rule.now n k }
     ensures { TripleAnswer rule.now n k result }
 {
+    // By number: elements are the numbers below n.
     for a in 0..n {
         for b in 0..n {
             let ab = product(rule, n, a, b);

@@ -17,6 +17,7 @@ fn places_in(
 ) -> bool
     ensures { result ≡ true → PlacesIn low top first second third least 32 }
 {
+    // By index: the three bytes of a triple are read in two arrays.
     for i in 0..32 {
         let place = 3 * i;
         if first <= top[place] as usize {
@@ -54,6 +55,7 @@ pub fn triples_in(
     let chunks = count / 32;
     let mut top = [0u8; 96];
     let mut low = [255u8; 96];
+    // By index: the compiler makes whole vectors of the inner loop as it stands.
     for c in 0..chunks {
         let start = 96 * c;
         for j in 0..96 {

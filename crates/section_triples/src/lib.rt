@@ -21,6 +21,7 @@ fn first_out(
     ensures { TriplesFound rest.now count first second third least result }
 {
     let known = triples_in(rest, count, first, second, third, least);
+    // By index: the answer is counted from it.
     for i in known..count {
         let start = 3 * i;
         if first <= rest[2 + start] as usize {

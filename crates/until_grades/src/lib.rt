@@ -93,6 +93,7 @@ pub fn lay_grades(
     requires { GradesNeeds first.now n1 second.now n2 k count scratch.old }
     ensures { RowsFilled (λ t z byte. byte ≡ both_grades first.now n1 second.now n2 k scratch.old t z) until_grades_base 64 count count scratch.old scratch.new }
 {
+    // By number: elements are the numbers below count.
     for t in 0..count {
         grades_row(first, n1, second, n2, k, count, scratch, t);
     }

@@ -69,6 +69,7 @@ fn follow_letters(
     ensures { EntryFollowed np k scratch.old scratch.new classes.old classes.new count from result }
 {
     let mut total = count;
+    // By number: letters are the numbers below k.
     for letter in 0..k {
         total = follow_letter(classes, scratch, np, k, total, from, letter)?;
     }

@@ -39,6 +39,7 @@ pub fn lay_until(classes: &[u8], scratch: &mut [u8], count: usize)
     requires { ClassesSmall count scratch.old classes.now }
     ensures { RowsFilled (λ s e byte. byte ≡ until_grade scratch.old classes.now s e) laid_marks_base 64 count count scratch.old scratch.new }
 {
+    // By number: elements are the numbers below count.
     for s in 0..count {
         grade_row(classes, scratch, count, s);
     }

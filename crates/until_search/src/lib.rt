@@ -28,6 +28,7 @@ fn same_rows(classes: &[u8], scratch: &[u8], np: usize, j: usize) -> bool
     requires j_bound { j < 64 }
     ensures { Tells (EachBelow (RowSame np scratch.now classes.now j) np) result }
 {
+    // By number: elements are the numbers below np.
     for t in 0..np {
         if !same_row(classes, scratch, np, j, t) {
             return false;
@@ -57,6 +58,7 @@ pub fn find_class(
     requires count_bound { count < 65 }
     ensures { FoundClass np scratch.now classes.now count pair result }
 {
+    // By number: classes are the numbers below count.
     for j in 0..count {
         if same_class(classes, scratch, np, j, pair) {
             return Some(j);
@@ -81,6 +83,7 @@ pub fn store_class(classes: &mut [u8], scratch: &[u8], np: usize, count: usize)
     requires { StoreNeeds np count scratch.now classes.old }
     ensures { RowsFilled (λ t z byte. byte ≡ new_at scratch.now t z) (count * 4096) 64 np np classes.old classes.new }
 {
+    // By number: elements are the numbers below np.
     for t in 0..np {
         store_row(classes, scratch, np, count, t);
     }

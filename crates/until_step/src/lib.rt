@@ -47,6 +47,7 @@ pub fn step_rows(classes: &[u8], scratch: &mut [u8], np: usize, from: usize)
     requires { StepNeeds np from scratch.old classes.now }
     ensures { RowsFilled (λ s z byte. byte ≡ stepped_byte classes.now scratch.old from s z) until_step_base 64 np np scratch.old scratch.new }
 {
+    // By number: elements are the numbers below np.
     for s in 0..np {
         step_row(classes, scratch, np, from, s);
     }
@@ -66,6 +67,7 @@ pub fn class_rows(scratch: &mut [u8], np: usize, element: usize)
     requires { LetterNeeds np element scratch.old }
     ensures { RowsFilled (λ t z byte. byte ≡ letter_byte scratch.old np element t z) until_class_base 64 np np scratch.old scratch.new }
 {
+    // By number: elements are the numbers below np.
     for t in 0..np {
         let row = scratch[LAID_PRODUCTS_BASE + (element * np + t)] as usize;
         class_row(scratch, np, row, t);

@@ -42,6 +42,7 @@ fn clear_unlinked(scratch: &mut [u8], count: usize)
     requires { GradesNeeds count scratch.old }
     ensures { RowsFilled (LinkedGrade count scratch.old) laid_marks_base 64 count count scratch.old scratch.new }
 {
+    // By number: elements are the numbers below count.
     for s in 0..count {
         clear_row(scratch, count, s);
     }
