@@ -10,9 +10,7 @@ pub fn copy(from: &[u8], count: usize, out: &mut [u8], at: usize) -> usize
     requires { CopyNeeds from.now count out.old at }
     ensures { Written out.old at (take count from.now) out.new result }
 {
-    for i in 0..count {
-        out[at + i] = from[i];
-    }
+    out[at..at + count].copy_from_slice(&from[..count]);
     at + count
 }
 
