@@ -79,11 +79,13 @@ pub fn advance(
 {
     let shape = match check_standing(rule, input, monitor, scratch) {
         Ok(shape) => shape,
-        Err(Refused {
-            refusal,
-            input,
-            place,
-        }) => {
+        Err(
+            Refused {
+                refusal,
+                input,
+                place,
+            },
+        ) => {
             return Advanced::Refused {
                 monitor,
                 refusal,
@@ -147,11 +149,13 @@ pub fn advance_word(
 {
     let shape = match check_standing(rule, input, monitor, scratch) {
         Ok(shape) => shape,
-        Err(Refused {
-            refusal,
-            input,
-            place,
-        }) => {
+        Err(
+            Refused {
+                refusal,
+                input,
+                place,
+            },
+        ) => {
             return Advanced::Refused {
                 monitor,
                 refusal,

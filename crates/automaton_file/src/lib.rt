@@ -42,9 +42,9 @@ fn repeated_fault(bytes: &[u8], at: usize, count: usize, table: &mut [u8]) -> Re
         let index = triple_index(bytes, at, count, i);
         if table[index] != 0 {
             return Err(Fault {
-            refusal: Refusal::Duplicate,
-            place: at + (2 + 3 * i),
-        });
+                refusal: Refusal::Duplicate,
+                place: at + (2 + 3 * i),
+            });
         }
         table[index] = 1;
     }

@@ -35,11 +35,13 @@ pub fn automaton_rule(automaton: &[u8], out: &mut [u8], scratch: &mut [u8]) -> W
     }
     match read_automaton(automaton, 1, scratch) {
         Ok(counts) => translate(automaton, counts.states, counts.letters, out, scratch),
-        Err(Refused {
-            refusal,
-            input,
-            place,
-        }) => Written::Refused {
+        Err(
+            Refused {
+                refusal,
+                input,
+                place,
+            },
+        ) => Written::Refused {
             refusal,
             input,
             place,

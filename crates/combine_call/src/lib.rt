@@ -31,11 +31,13 @@ pub fn combine(
         };
     }
     match check_both(first, second, scratch) {
-        Err(Refused {
-            refusal,
-            input,
-            place,
-        }) => Written::Refused {
+        Err(
+            Refused {
+                refusal,
+                input,
+                place,
+            },
+        ) => Written::Refused {
             refusal,
             input,
             place,

@@ -17,11 +17,13 @@ pub fn confirm(first: &[u8], second: &[u8], map: &[u8], scratch: &mut [u8]) -> C
     ensures { ConfirmPromise first.now second.now map.now scratch.old scratch.new result }
 {
     match check_both(first, second, scratch) {
-        Err(Refused {
-            refusal,
-            input,
-            place,
-        }) => Confirmation::Refused {
+        Err(
+            Refused {
+                refusal,
+                input,
+                place,
+            },
+        ) => Confirmation::Refused {
             refusal,
             input,
             place,

@@ -15,11 +15,13 @@ pub fn event(rule: &[u8], m: Monitor, letter: u8, scratch: &mut [u8]) -> Moved
 {
     let shape = match prepare(rule, m, scratch) {
         Ok(shape) => shape,
-        Err(Refused {
-            refusal,
-            input,
-            place,
-        }) => {
+        Err(
+            Refused {
+                refusal,
+                input,
+                place,
+            },
+        ) => {
             return Moved::Refused {
                 monitor: m,
                 refusal,
@@ -47,11 +49,13 @@ pub fn mark(rule: &[u8], m: Monitor, scratch: &mut [u8]) -> Moved
 {
     let shape = match prepare(rule, m, scratch) {
         Ok(shape) => shape,
-        Err(Refused {
-            refusal,
-            input,
-            place,
-        }) => {
+        Err(
+            Refused {
+                refusal,
+                input,
+                place,
+            },
+        ) => {
             return Moved::Refused {
                 monitor: m,
                 refusal,

@@ -14,11 +14,13 @@ pub fn feed(rule: &[u8], m: Monitor, word: &[u8], scratch: &mut [u8]) -> Moved
 {
     let shape = match prepare(rule, m, scratch) {
         Ok(shape) => shape,
-        Err(Refused {
-            refusal,
-            input,
-            place,
-        }) => {
+        Err(
+            Refused {
+                refusal,
+                input,
+                place,
+            },
+        ) => {
             return Moved::Refused {
                 monitor: m,
                 refusal,

@@ -11,8 +11,8 @@ ghost use Rattle.formula_promises.specs.FormulaRule.{FormulaPromise};
 ghost use Rattle.formula_slots.specs.Slots.{LentRoom, LentLengths};
 ghost use Rattle.formula_call.specs.Calling.{LentAnswer, LentCleared, FormulaTried, Told};
 
-use board_buffers::{clear, put};
 use answer::Fault;
+use board_buffers::{clear, put};
 pub use formula_promises::{LONGEST_FORMULA, STACK_SIZE};
 use formula_run::run_operations;
 use formula_scan::scan;

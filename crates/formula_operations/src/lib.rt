@@ -59,9 +59,7 @@ fn on_one(
             Ok(())
         }
         One::Next => told(next_in(slot, stack, spare, classes, scratch)),
-        One::Eventually => told(eventually_in(
-            letters, slot, free, stack, spare, classes, scratch,
-        )),
+        One::Eventually => told(eventually_in(letters, slot, free, stack, spare, classes, scratch)),
         One::Always => told(always_in(letters, slot, free, stack, spare, classes, scratch)),
     }
 }
@@ -89,13 +87,34 @@ fn on_two(
 {
     match operation {
         Two::Both => told(combine_into(
-            first, second, promises::Operation::Both, first, stack, spare, classes, scratch,
+            first,
+            second,
+            promises::Operation::Both,
+            first,
+            stack,
+            spare,
+            classes,
+            scratch,
         )),
         Two::Either => told(combine_into(
-            first, second, promises::Operation::Either, first, stack, spare, classes, scratch,
+            first,
+            second,
+            promises::Operation::Either,
+            first,
+            stack,
+            spare,
+            classes,
+            scratch,
         )),
         Two::Without => told(combine_into(
-            first, second, promises::Operation::Without, first, stack, spare, classes, scratch,
+            first,
+            second,
+            promises::Operation::Without,
+            first,
+            stack,
+            spare,
+            classes,
+            scratch,
         )),
         Two::Until => told(until_into(first, second, first, stack, spare, classes, scratch)),
         Two::Release => told(release_in(first, second, stack, spare, classes, scratch)),
@@ -123,13 +142,7 @@ pub fn apply(
 {
     match operation {
         Operation::Set { set, grade } => {
-            set_into(
-                letters,
-                usize::from(set),
-                usize::from(grade),
-                height,
-                stack,
-            );
+            set_into(letters, usize::from(set), usize::from(grade), height, stack);
             Ok(())
         }
         Operation::Constant { grade } => {

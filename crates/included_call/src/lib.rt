@@ -19,7 +19,13 @@ use scratch::{SECOND_BASE, TABLES_END};
 use sections::{zero, zero_part};
 
 // Checks the second marks and lays them out behind the first.
-fn lay_second(rule: &[u8], n: usize, k: usize, second: &[u8], scratch: &mut [u8]) -> Result<(), Fault>
+fn lay_second(
+    rule: &[u8],
+    n: usize,
+    k: usize,
+    second: &[u8],
+    scratch: &mut [u8],
+) -> Result<(), Fault>
     requires table { Table rule.now n k }
     requires n_value { (n ≡ elements_of rule.now) × (k ≡ letters_of rule.now) }
     requires scratch_size_in_bounds { scratch_size ≤ length scratch.old }
@@ -57,11 +63,13 @@ pub fn included(
     }
     let shape = match check(rule, 1, scratch) {
         Ok(shape) => shape,
-        Err(Refused {
-            refusal,
-            input,
-            place,
-        }) => {
+        Err(
+            Refused {
+                refusal,
+                input,
+                place,
+            },
+        ) => {
             return Inclusion::Refused {
                 refusal,
                 input,

@@ -21,11 +21,13 @@ pub fn inspect(rule: &[u8], scratch: &mut [u8]) -> Inspected
                 marks: shape.marks,
             }
         }
-        Err(Refused {
-            refusal,
-            input,
-            place,
-        }) => Inspected::Refused {
+        Err(
+            Refused {
+                refusal,
+                input,
+                place,
+            },
+        ) => Inspected::Refused {
             refusal,
             input,
             place,

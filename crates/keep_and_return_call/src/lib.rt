@@ -34,11 +34,13 @@ pub fn keep(rule: &[u8], m: Monitor, name: usize, points: &mut [u8], scratch: &m
 {
     let n = match begin(rule, points, scratch) {
         Ok(n) => n,
-        Err(Refused {
-            refusal,
-            input,
-            place,
-        }) => {
+        Err(
+            Refused {
+                refusal,
+                input,
+                place,
+            },
+        ) => {
             return Moved::Refused {
                 monitor: m,
                 refusal,
@@ -72,11 +74,13 @@ pub fn return_to(rule: &[u8], m: Monitor, name: usize, points: &[u8], scratch: &
 {
     let n = match begin(rule, points, scratch) {
         Ok(n) => n,
-        Err(Refused {
-            refusal,
-            input,
-            place,
-        }) => {
+        Err(
+            Refused {
+                refusal,
+                input,
+                place,
+            },
+        ) => {
             return Moved::Refused {
                 monitor: m,
                 refusal,

@@ -12,22 +12,42 @@ pub fn lasso_fault(u: &[u8], v: &[u8], k: usize) -> Result<(), Refused>
     ensures { LassoAnswer k u.now v.now result }
 {
     if LONGEST_WORD < u.len() {
-        return Err(Refused { refusal: Refusal::WordLength, input: 1, place: 0 });
+        return Err(Refused {
+            refusal: Refusal::WordLength,
+            input: 1,
+            place: 0,
+        });
     }
     if v.len() < 1 {
-        return Err(Refused { refusal: Refusal::WordLength, input: 2, place: 0 });
+        return Err(Refused {
+            refusal: Refusal::WordLength,
+            input: 2,
+            place: 0,
+        });
     }
     if LONGEST_WORD < v.len() {
-        return Err(Refused { refusal: Refusal::WordLength, input: 2, place: 0 });
+        return Err(Refused {
+            refusal: Refusal::WordLength,
+            input: 2,
+            place: 0,
+        });
     }
     match first_out(u, 0, u.len(), k) {
         Some(i) => {
-            return Err(Refused { refusal: Refusal::UnknownLetter, input: 1, place: i });
+            return Err(Refused {
+                refusal: Refusal::UnknownLetter,
+                input: 1,
+                place: i,
+            });
         }
         None => {}
     }
     match first_out(v, 0, v.len(), k) {
-        Some(i) => Err(Refused { refusal: Refusal::UnknownLetter, input: 2, place: i }),
+        Some(i) => Err(Refused {
+            refusal: Refusal::UnknownLetter,
+            input: 2,
+            place: i,
+        }),
         None => Ok(()),
     }
 }

@@ -71,11 +71,13 @@ pub fn list_classes(rule: &[u8], out: &mut [u8], scratch: &mut [u8]) -> Listed
     }
     let shape = match check(rule, 1, scratch) {
         Ok(shape) => shape,
-        Err(Refused {
-            refusal,
-            input,
-            place,
-        }) => {
+        Err(
+            Refused {
+                refusal,
+                input,
+                place,
+            },
+        ) => {
             return Listed::Refused {
                 refusal,
                 input,

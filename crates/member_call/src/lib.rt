@@ -43,11 +43,13 @@ pub fn member(rule: &[u8], u: &[u8], v: &[u8], scratch: &mut [u8]) -> LassoVerdi
 {
     let shape = match check(rule, 1, scratch) {
         Ok(shape) => shape,
-        Err(Refused {
-            refusal,
-            input,
-            place,
-        }) => {
+        Err(
+            Refused {
+                refusal,
+                input,
+                place,
+            },
+        ) => {
             return LassoVerdict::Refused {
                 refusal,
                 input,
@@ -59,11 +61,13 @@ pub fn member(rule: &[u8], u: &[u8], v: &[u8], scratch: &mut [u8]) -> LassoVerdi
     let k = shape.letters;
     match lasso_fault(u, v, k) {
         Ok(()) => {}
-        Err(Refused {
-            refusal,
-            input,
-            place,
-        }) => {
+        Err(
+            Refused {
+                refusal,
+                input,
+                place,
+            },
+        ) => {
             zero(scratch);
             return LassoVerdict::Refused {
                 refusal,

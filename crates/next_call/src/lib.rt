@@ -41,11 +41,13 @@ pub fn next(rule: &[u8], out: &mut [u8], scratch: &mut [u8]) -> Written
     }
     let shape = match check(rule, 1, scratch) {
         Ok(shape) => shape,
-        Err(Refused {
-            refusal,
-            input,
-            place,
-        }) => {
+        Err(
+            Refused {
+                refusal,
+                input,
+                place,
+            },
+        ) => {
             return Written::Refused {
                 refusal,
                 input,

@@ -35,11 +35,13 @@ pub fn reduce(rule: &[u8], out: &mut [u8], map: &mut [u8], scratch: &mut [u8]) -
     }
     let shape = match check(rule, 1, scratch) {
         Ok(shape) => shape,
-        Err(Refused {
-            refusal,
-            input,
-            place,
-        }) => {
+        Err(
+            Refused {
+                refusal,
+                input,
+                place,
+            },
+        ) => {
             return Written::Refused {
                 refusal,
                 input,

@@ -54,11 +54,13 @@ pub fn reduce_rounds(rule: &[u8], limit: usize, blocks: &mut [u8], scratch: &mut
     }
     let shape = match check(rule, 1, scratch) {
         Ok(shape) => shape,
-        Err(Refused {
-            refusal,
-            input,
-            place,
-        }) => {
+        Err(
+            Refused {
+                refusal,
+                input,
+                place,
+            },
+        ) => {
             return Partition::Refused {
                 refusal,
                 input,

@@ -22,12 +22,7 @@ use scratch::MARK_TABLE_SIZE;
 use sections::{zero, zero_part};
 
 // The first triple that does not associate, and without one what words tell of a table that associates.
-fn triples_fault(
-    rule: &[u8],
-    n: usize,
-    k: usize,
-    told: Result<(), Fault>,
-) -> Result<(), Fault>
+fn triples_fault(rule: &[u8], n: usize, k: usize, told: Result<(), Fault>) -> Result<(), Fault>
     requires table { Table rule.now n k }
     requires fault_answer { AllAssociate (morphism_at rule.now n k) → FaultAnswer (λ input. reach_checks input (morphism_at rule.now n k)) told }
     ensures { FaultAnswer (λ input. table_checks input (morphism_at rule.now n k)) result }

@@ -15,7 +15,13 @@ use rule_layout::marks_section;
 use rule_marks::mark_fault;
 
 // Checks the section, and lays its marks out in the blank table, the grade of each pair in its byte.
-pub fn second_marks(rule: &[u8], n: usize, k: usize, bytes: &[u8], table: &mut [u8]) -> Result<(), Fault>
+pub fn second_marks(
+    rule: &[u8],
+    n: usize,
+    k: usize,
+    bytes: &[u8],
+    table: &mut [u8],
+) -> Result<(), Fault>
     requires table { Table rule.now n k }
     requires n_value { (n ≡ elements_of rule.now) × (k ≡ letters_of rule.now) }
     requires marks_space { MarksSpace table.old }

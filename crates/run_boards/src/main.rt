@@ -123,14 +123,7 @@ fn run_all(
 ) -> io::Result<()> {
     let mut board = board::empty();
     for line in text.split(|byte| *byte == b'\n') {
-        board = run(
-            rt,
-            line,
-            first,
-            board,
-            files,
-            scratch,
-        )?;
+        board = run(rt, line, first, board, files, scratch)?;
     }
     Ok(())
 }

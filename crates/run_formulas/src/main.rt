@@ -78,14 +78,7 @@ fn run_all(
     scratch: &mut [u8],
 ) -> io::Result<()> {
     for line in text.split(|byte| *byte == b'\n') {
-        run(
-            rt,
-            line,
-            stack,
-            spare,
-            classes,
-            scratch,
-        )?;
+        run(rt, line, stack, spare, classes, scratch)?;
     }
     Ok(())
 }

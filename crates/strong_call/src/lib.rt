@@ -15,11 +15,13 @@ pub fn strong(rule: &[u8], scratch: &mut [u8]) -> Strength
 {
     let shape = match check(rule, 1, scratch) {
         Ok(shape) => shape,
-        Err(Refused {
-            refusal,
-            input,
-            place,
-        }) => {
+        Err(
+            Refused {
+                refusal,
+                input,
+                place,
+            },
+        ) => {
             return Strength::Refused {
                 refusal,
                 input,

@@ -16,11 +16,13 @@ pub fn state_kind(rule: &[u8], s: usize, e: usize, least: u8, scratch: &mut [u8]
 {
     let shape = match check(rule, 1, scratch) {
         Ok(shape) => shape,
-        Err(Refused {
-            refusal,
-            input,
-            place,
-        }) => {
+        Err(
+            Refused {
+                refusal,
+                input,
+                place,
+            },
+        ) => {
             return StateKind::Refused {
                 refusal,
                 input,
@@ -55,11 +57,13 @@ pub fn successors(
     }
     let shape = match check(rule, 1, scratch) {
         Ok(shape) => shape,
-        Err(Refused {
-            refusal,
-            input,
-            place,
-        }) => {
+        Err(
+            Refused {
+                refusal,
+                input,
+                place,
+            },
+        ) => {
             return SuccessorList::Refused {
                 refusal,
                 input,

@@ -27,7 +27,11 @@ fn check_second(second: &[u8], scratch: &mut [u8]) -> Result<Shape, Refused>
 
 // The size of scratch, the checks of the first file, then those of the second. Rules that pass leave their marks, the first's in front and
 // the second's from 61440 on; a refusal leaves zeros, but where scratch is too short.
-pub fn check_both(first: &[u8], second: &[u8], scratch: &mut [u8]) -> Result<(Shape, Shape), Refused>
+pub fn check_both(
+    first: &[u8],
+    second: &[u8],
+    scratch: &mut [u8],
+) -> Result<(Shape, Shape), Refused>
     ensures { BothPromise first.now second.now scratch.old scratch.new result }
 {
     let shape = check(first, 1, scratch)?;

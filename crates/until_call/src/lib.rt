@@ -25,11 +25,13 @@ fn until_long(
     ensures { UntilLong first.now second.now out.old out.new classes.old classes.new scratch.old scratch.new result }
 {
     match check_both(first, second, scratch) {
-        Err(Refused {
-            refusal,
-            input,
-            place,
-        }) => Written::Refused {
+        Err(
+            Refused {
+                refusal,
+                input,
+                place,
+            },
+        ) => Written::Refused {
             refusal,
             input,
             place,

@@ -51,11 +51,13 @@ pub fn verdict(rule: &[u8], monitor: Monitor, scratch: &mut [u8]) -> LassoVerdic
 {
     let shape = match check(rule, 1, scratch) {
         Ok(shape) => shape,
-        Err(Refused {
-            refusal,
-            input,
-            place,
-        }) => {
+        Err(
+            Refused {
+                refusal,
+                input,
+                place,
+            },
+        ) => {
             return LassoVerdict::Refused {
                 refusal,
                 input,
