@@ -7,6 +7,7 @@ use native.Mathlib.Omega.{arith}
 use native.Mathlib.Numerals.{add-one}
 use lib.ListN.{length, get_or, take, drop, drop_of_length-le}
 use lib.Seq.{take-suc, take_all, drop-cons}
+use Rattle.std.proofs.lemmas.Grind.{common_steps}
 use Rattle.theory.specs.Words.{Over, over_nil, over_cons}
 use Rattle.theory.specs.Rules.{Morphism, Lawful, Value, none, element, join, value}
 use Rattle.theory.proofs.Words.{over_take, over_drop, over_at}
@@ -49,6 +50,14 @@ value_before m w {j} {s} h e =
     ∙ value_cons m (get_or w j 0) (drop (suc j) w)
     ∙ ap (join m (element (m.image (get_or w j 0)))) e
     ∙ join_elements m (m.image (get_or w j 0)) s
+
+-- the letters of a word behind the first, as a slice has them
+module _ (w : List ℕ) where
+  pub letters_many : length (take (length w - 1) (drop 1 w)) ≡ length w - 1
+  letters_many = grind (arith, common_steps)
+
+  pub letter_item : (i : ℕ) → i + 1 < length w → get_or (take (length w - 1) (drop 1 w)) i 0 ≡ get_or w (i + 1) 0
+  letter_item i h = grind (arith, common_steps)
 
 -- what a pass over a word may use
 pub record Reading (bytes : List ℕ) (n k : ℕ) (w : List ℕ) : Type 0 where

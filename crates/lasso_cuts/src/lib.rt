@@ -27,8 +27,8 @@ pub fn word_value(rule: &[u8], n: usize, k: usize, w: &[u8]) -> usize
     ensures { value (morphism_at rule.now n k) w.now ≡ element result }
 {
     let mut s = image(rule, n, w[0] as usize);
-    for j in 1..w.len() {
-        let h = image(rule, n, w[j] as usize);
+    for letter in &w[1..] {
+        let h = image(rule, n, *letter as usize);
         s = product(rule, n, s, h);
     }
     s
@@ -46,6 +46,7 @@ fn beginnings(rule: &[u8], n: usize, k: usize, w: &[u8], scratch: &mut [u8], bas
 {
     let mut s = image(rule, n, w[0] as usize);
     scratch[base] = (s % 256) as u8;
+    // By index: a letter's place in the word and that of its value in scratch are both worked out from it.
     for j in 1..w.len() {
         let h = image(rule, n, w[j] as usize);
         s = product(rule, n, s, h);
@@ -63,11 +64,10 @@ fn ends(rule: &[u8], n: usize, k: usize, w: &[u8], scratch: &mut [u8], base: usi
     ensures values { Ends (morphism_at rule.now n k) w.now scratch.new base }
     ensures others { KeptAround scratch.old scratch.new base (length w.now) }
 {
-    let mut i = w.len() - 1;
-    let mut s = image(rule, n, w[i] as usize);
-    scratch[base + i] = (s % 256) as u8;
-    while 0 < i {
-        i -= 1;
+    let last = w.len() - 1;
+    let mut s = image(rule, n, w[last] as usize);
+    scratch[base + last] = (s % 256) as u8;
+    for i in (0..last).rev() {
         let h = image(rule, n, w[i] as usize);
         s = product(rule, n, h, s);
         scratch[base + i] = (s % 256) as u8;

@@ -21,11 +21,11 @@ others c =
     let b = c.loop-i.invariant in
     ends_others _ _ (omega (arith, b.ended.reading.word.some)) b (omega arith)
 
-pub overflow_sub-i : goal.overflow_sub-i
-overflow_sub-i c = omega (arith, c.requires.call_word.some)
+pub overflow_sub-last : goal.overflow_sub-last
+overflow_sub-last c = omega (arith, c.requires.call_word.some)
 
-pub bounds-w-i : goal.bounds-w-i
-bounds-w-i c = omega (arith, c.requires.call_word.some)
+pub bounds-w-last : goal.bounds-w-last
+bounds-w-last c = omega (arith, c.requires.call_word.some)
 
 pub overflow_cast-w : goal.overflow_cast-w
 overflow_cast-w c = Fits-8_64 (c.type_inv.w _)

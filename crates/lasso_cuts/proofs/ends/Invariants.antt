@@ -5,6 +5,3 @@ use Rattle.lasso_cuts.proofs.ends.Given as goal
 
 abbrev pub invariant-loop-i : goal.invariant-loop-i
 invariant-loop-i l = EndsFrom l.rule l.n l.k l.w l.initial.scratch l.scratch l.base l.s l.i
-
-abbrev pub decreases-loop-i : goal.decreases-loop-i
-decreases-loop-i l = l.i

@@ -1,9 +1,8 @@
--- The loop holds the value of the first j letters, and multiplies it by the next letter's element. Assumes nothing.
-use mathlib.Core.Path.{refl}
-use native.Mathlib.Omega.{arith}
+-- The loop holds the value of the letters that were passed, and multiplies it by the next letter's element. Assumes nothing.
+use Rattle.std.proofs.Common.{◌+◌, ◌<◌, length, arith}
 use mir.Facts.{Fits-8_64}
 use Rattle.rule_table.proofs.Facts.{table_place}
-use Rattle.lasso_cuts.proofs.Passes.{letter_place_lem, letter_inside, begun_start, begun_next, begun_inside, begun_all}
+use Rattle.lasso_cuts.proofs.Passes.{letter_place_lem, letter_inside, begun_start, begun_next, begun_inside, begun_all, letters_many, letter_item}
 use Rattle.lasso_cuts.proofs.word_value.Goals as goal
 
 pub bounds-w-0 : goal.bounds-w-0
@@ -16,26 +15,30 @@ pub image-s-requires : goal.image-s-requires
 image-s-requires c =
     letter_place_lem (record { table = c.requires.table; law = c.requires.lawful; word = c.requires.call_word }) 0 c.requires.call_word.some
 
-pub loop-j-init : goal.loop-j-init
-loop-j-init c =
-    (begun_start (record { table = c.requires.table; law = c.requires.lawful; word = c.requires.call_word }) c.image-s.ensures, refl)
-
-pub overflow_cast-w-in-loop-j : goal.overflow_cast-w-in-loop-j
-overflow_cast-w-in-loop-j c = Fits-8_64 (c.type_inv.w _)
+pub loop-letter-init : goal.loop-letter-init
+loop-letter-init c =
+    begun_start (record { table = c.requires.table; law = c.requires.lawful; word = c.requires.call_word }) c.image-s.ensures
 
 pub image-h-requires : goal.image-h-requires
-image-h-requires c = letter_place_lem c.loop-j.invariant.0.reading _ (omega arith)
+image-h-requires c =
+    let at : c.loop-letter.letter-index + 1 < length c.args.w.now =
+    omega (arith, c.loop-letter-test.true, letters_many c.args.w.now, c.requires.call_word.some) in
+    rw (letter_item c.args.w.now c.loop-letter.letter-index at) (letter_place_lem c.loop-letter.invariant.reading _ at)
 
 pub product-s-requires : goal.product-s-requires
 product-s-requires c =
-    let b = c.loop-j.invariant.0 in
-    table_place b.reading.table (begun_inside b) (letter_inside b.reading _ _ (omega arith) c.image-h.ensures)
+    let b = c.loop-letter.invariant in
+    let at : c.loop-letter.letter-index + 1 < length c.args.w.now =
+    omega (arith, c.loop-letter-test.true, letters_many c.args.w.now, c.requires.call_word.some) in
+    table_place b.reading.table (begun_inside b)
+    (letter_inside b.reading _ _ at (rw (letter_item c.args.w.now c.loop-letter.letter-index at) at c.image-h.ensures))
 
-pub loop-j-preserved : goal.loop-j-preserved
-loop-j-preserved c = (
-  begun_next c.loop-j.invariant.0 (omega arith) c.image-h.ensures c.product-s.ensures,
-  refl,
-)
+pub loop-letter-preserved : goal.loop-letter-preserved
+loop-letter-preserved c =
+    let at : c.loop-letter.letter-index + 1 < length c.args.w.now =
+    omega (arith, c.loop-letter-test.true, letters_many c.args.w.now, c.requires.call_word.some) in
+    begun_next c.loop-letter.invariant at
+    (rw (letter_item c.args.w.now c.loop-letter.letter-index at) at c.image-h.ensures) c.product-s.ensures
 
 pub returns : goal.returns
-returns c = begun_all c.loop-j.invariant.0 (omega arith)
+returns c = begun_all c.loop-letter.invariant (omega (arith, c.loop-letter-test.false, letters_many c.args.w.now))
