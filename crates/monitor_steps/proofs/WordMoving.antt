@@ -1,11 +1,12 @@
 -- What a word of events makes of a monitor by a checked table, and its checks. Assumes nothing.
 use Rattle.std.specs.Prelude.{Option, Some, None}
-use Prim.Native.Nat.{ℕ, zero, suc, ◌+◌, ◌≤◌, ◌<◌}
+use Prim.Native.Nat.{ℕ, zero, suc, ◌+◌, ◌-◌, ◌≤◌, ◌<◌}
 use mathlib.Core.Path.{◌≡◌, refl, sym, ap, ◌∙◌}
 use mathlib.Core.Logic.{inl}
 use mathlib.Core.List.{List, [], ◌∷◌}
 use native.Mathlib.Omega.{arith}
-use lib.ListN.{length, get_or, drop}
+use lib.ListN.{length, get_or, take, drop}
+use Rattle.std.proofs.lemmas.Grind.{common_steps}
 use Rattle.answer.specs.declared.Refusal.TheVariants.{UnknownLetter, WordLength}
 use Rattle.answer.specs.Checks.{refused, FirstFailure}
 use Rattle.answer.proofs.Order.{first_fails}
@@ -49,6 +50,14 @@ drop_all [] zero h = refl
 drop_all [] (suc i) h = refl
 drop_all (a ∷ w) zero h = absurd (let z : ⊥ = omega arith in z)
 drop_all (a ∷ w) (suc i) h = drop_all w i (omega arith)
+
+-- the letters of a word from a place on, as a slice has them
+module _ (w : List ℕ) (from : ℕ) (room : from ≤ length w) where
+  pub letters_many : length (take (length w - from) (drop from w)) ≡ length w - from
+  letters_many = grind (arith, common_steps)
+
+  pub letter_item : (i : ℕ) → from + i < length w → get_or (take (length w - from) (drop from w)) i 0 ≡ get_or w (from + i) 0
+  letter_item i h = grind (arith, common_steps)
 
 -- what is done of a word: the other letters make of the value what all make of the first one
 pub record Going (bytes : List ℕ) (n k since : ℕ) (w : List ℕ) (from value j : ℕ) : Type 0 where

@@ -73,8 +73,8 @@ fn along(rule: &[u8], n: usize, k: usize, since: usize, word: &[u8], from: usize
     ensures { Along (morphism_at rule.now n k) since (drop from word.now) result }
 {
     let mut value = since;
-    for j in from..word.len() {
-        value = product(rule, n, value, image(rule, n, word[j] as usize));
+    for letter in &word[from..] {
+        value = product(rule, n, value, image(rule, n, *letter as usize));
     }
     value
 }
