@@ -5,11 +5,10 @@
 ghost use Rattle.combine_pairs.specs.Steps.{PairsPromise};
 ghost use Rattle.combine_strengths.specs.Steps.{BothReady};
 
-use answer::Refusal;
 use combine_pairs::combine_strong;
 use promises::{Operation, Written};
 use rule_layout::Shape;
-use two_rules::{Strengths, decide_both};
+use two_rules::compare_both;
 
 // The checks behind those of the files, in their order, and the rule.
 pub fn combine_checked(
@@ -24,38 +23,12 @@ pub fn combine_checked(
     requires { BothReady first.now second.now one two scratch.old out.old }
     ensures { PairsPromise first.now second.now operation out.old out.new scratch.old scratch.new result }
 {
-    let first_letters = one.letters;
-    let second_letters = two.letters;
-    if first_letters != second_letters {
-        return Written::Refused {
-            refusal: Refusal::LettersDiffer,
-            input: 1,
-            place: 0,
-        };
-    }
-    match decide_both(
-        first,
-        one.elements,
-        first_letters,
-        second,
-        two.elements,
-        second_letters,
-        scratch,
-    ) {
-        Strengths::FirstWeak => {
-            return Written::Refused {
-                refusal: Refusal::NotStrong,
-                input: 1,
-                place: 0,
-            };
-        }
-        Strengths::SecondWeak => {
-            return Written::Refused {
-                refusal: Refusal::NotStrong,
-                input: 2,
-                place: 0,
-            };
-        }
-        Strengths::Strong => combine_strong(first, one, second, two, operation, scratch, out),
+    match compare_both(first, one, second, two, scratch) {
+        Err(refused) => Written::Refused {
+            refusal: refused.refusal,
+            input: refused.input,
+            place: refused.place,
+        },
+        Ok(()) => combine_strong(first, one, second, two, operation, scratch, out),
     }
 }

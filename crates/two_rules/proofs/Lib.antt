@@ -3,3 +3,4 @@ pub mod Moving
 pub mod Deciding
 pub mod Calling
 pub mod StrongFiles
+pub mod Comparing

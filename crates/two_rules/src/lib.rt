@@ -1,4 +1,4 @@
-// Two rule files in one scratch: checked beside each other, and whether both are strong.
+// Two rule files in one scratch: checked beside each other, and whether both are strong, over as many letters.
 #![tactic(auto)]
 
 ghost use Rattle.std.specs.Prelude.{◌≤◌, length};
@@ -9,8 +9,9 @@ ghost use Rattle.scratch.specs.Map.{search_end, mark_table_size};
 ghost use Rattle.mark_strong.specs.Deciding.{DecideNeeds};
 ghost use Rattle.two_rules.specs.Checking.{SecondVerdict, BothPromise};
 ghost use Rattle.two_rules.specs.Deciding.{TablesMoved, BothDecided};
+ghost use Rattle.two_rules.specs.Comparing.{BothChecked, BothCompared};
 
-use answer::Refused;
+use answer::{Refusal, Refused};
 use mark_strong::decide;
 use rule_check::{check, check_rule};
 use rule_layout::Shape;
@@ -90,4 +91,47 @@ pub fn decide_both(
         return Strengths::SecondWeak;
     }
     Strengths::Strong
+}
+
+// The checks of two checked files behind their own, in their order: the letter counts are compared, then both strengths are decided.
+pub fn compare_both(
+    first: &[u8],
+    one: Shape,
+    second: &[u8],
+    two: Shape,
+    scratch: &mut [u8],
+) -> Result<(), Refused>
+    requires { BothChecked first.now second.now one two scratch.old }
+    ensures { BothCompared first.now second.now one two scratch.old scratch.new result }
+{
+    let first_letters = one.letters;
+    let second_letters = two.letters;
+    if first_letters != second_letters {
+        return Err(Refused {
+            refusal: Refusal::LettersDiffer,
+            input: 1,
+            place: 0,
+        });
+    }
+    match decide_both(
+        first,
+        one.elements,
+        first_letters,
+        second,
+        two.elements,
+        second_letters,
+        scratch,
+    ) {
+        Strengths::FirstWeak => Err(Refused {
+            refusal: Refusal::NotStrong,
+            input: 1,
+            place: 0,
+        }),
+        Strengths::SecondWeak => Err(Refused {
+            refusal: Refusal::NotStrong,
+            input: 2,
+            place: 0,
+        }),
+        Strengths::Strong => Ok(()),
+    }
 }
