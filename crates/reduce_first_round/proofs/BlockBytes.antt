@@ -1,7 +1,18 @@
 -- The search for the least element that is related to another, the blocks while they are written, and blocks of relations that
 -- agree. Assumes nothing.
+use Rattle.std.specs.Prelude.{Option, Some, None}
+use Rattle.std.specs.Bool.{⊤}
+use Rattle.std.specs.Fn.{CalledAt}
+use Rattle.std.specs.Iterator.{YieldsThen}
+use Rattle.std.specs.List.{FoldsTo}
+use Rattle.std.specs.Option.{MatchOption, unwrap_or}
+use Rattle.std.specs.declared.ops.Range.{Range}
+use Rattle.std.proofs.iter.Yields.{nat_range_steps}
+use Rattle.std.proofs.lemmas.Iterator.{first_from_Range}
+use denote.Param.Members.{Mut}
+use denote.Ref.{Bor}
 use Prim.Native.Nat.{ℕ, ◌+◌, ◌≤◌, ◌<◌}
-use mathlib.Core.Path.{◌≡◌, sym, ap, ◌∙◌}
+use mathlib.Core.Path.{◌≡◌, refl, sym, ap, subst, ◌∙◌}
 use mathlib.Core.Bool.{Bool, true, false}
 use mathlib.Core.Logic.{◌≢◌, ◌↔◌}
 use mathlib.Core.List.{List}
@@ -17,29 +28,26 @@ use Rattle.finite.specs.Tells.{Tells}
 use Rattle.reduce_first_round.specs.Steps.{LeastRelated, BlocksWritten}
 use Rattle.scratch.proofs.Unchanged.{unchanged_none, unchanged_both, unchanged_set}
 
--- no element below t is related to s
-pub record NoneBelow (R : ℕ → ℕ → Type 0) (s t : ℕ) : Type 0 where
-  pub none : (u : ℕ) → u < t → R u s → ⊥
+-- what a search over the elements below s finds, or s itself where it finds none, if the answer of the closure tells of each whether it is related to s
+pub least_found : {F : Type 0} {g : Mut F (Bor ℕ × Unit {0}) Bool} {R : ℕ → ℕ → Type 0} {s : ℕ} {from : Range ℕ} (left : Range ℕ) (f : F) (found : Option ℕ)
+    → from ≡ record { start = 0; end = s }
+    → (xs : List ℕ) × (j : F) × YieldsThen nat_range_steps from xs found left × FoldsTo (λ p x q. CalledAt g p x false q) f xs j
+    × MatchOption found ⊤ (λ x. (h : F) × CalledAt g j x true h)
+    → ((x : ℕ) (b : Bool) (q : F) → CalledAt g f x b q → (q ≡ f) × Tells (R x s) b) → R s s → {r : ℕ} → r ≡ unwrap_or found s → LeastRelated R s r
+least_found {R = R} {s} {from} left f found e ran told itself said =
+    subst (LeastRelated R s) (sym said) (go found (first_from_Range from left f found (λ t. R t s) (λ t. R t s → ⊥) ran (λ x q k. (told x true q k).1.holds refl) (λ x q k. let t = told x false q k in (t.0, t.1.fails refl))))
+  where
+    starts : from.start ≡ 0
+    starts = ap (λ (r : Range ℕ). r.start) e
 
-module _ {R : ℕ → ℕ → Type 0} {s : ℕ} where
-  pub none_start : NoneBelow R s 0
-  none_start = record { none = λ u h. absurd (omega arith) }
+    ends : from.end ≡ s
+    ends = ap (λ (r : Range ℕ). r.end) e
 
-  -- nor is t
-  pub none_next : {t : ℕ} {answer : Bool} → NoneBelow R s t → Tells (R t s) answer → answer ≡ false → NoneBelow R s (t + 1)
-  none_next {t} w a e = record { none = λ u h. at u h (ℕ_discrete u t) }
-    where
-      at : (u : ℕ) → u < t + 1 → Dec (u ≡ t) → R u s → ⊥
-      at u h (yes q) r = a.fails e (rw q at r)
-      at u h (no g) r = let d : u ≢ t = g in w.none u (omega arith) r
-
-  -- t is
-  pub none_found : {t : ℕ} {answer : Bool} → NoneBelow R s t → t < s → Tells (R t s) answer → answer ≡ true → LeastRelated R s t
-  none_found w h a e = record { at_most = omega arith; related = a.holds e; least = w.none }
-
-  -- none is but s itself
-  pub none_all : {t : ℕ} → NoneBelow R s t → s ≤ t → R s s → LeastRelated R s s
-  none_all w h r = record { at_most = omega arith; related = r; least = λ u l. w.none u (omega arith) }
+    go : (found : Option ℕ)
+        → MatchOption found ((k : ℕ) → from.start ≤ k → k < from.end → R k s → ⊥) (λ i. (from.start ≤ i) × (i < from.end) × R i s × ((k : ℕ) → from.start ≤ k → k < i → R k s → ⊥))
+        → LeastRelated R s (unwrap_or found s)
+    go (Some t) a = record { at_most = let h = a.1 in omega (arith, ends); related = a.2; least = λ u h. a.3 u (omega (arith, starts)) h }
+    go None a = record { at_most = omega arith; related = itself; least = λ u h. a u (omega (arith, starts)) (omega (arith, ends)) }
 
 -- relations that agree have the same least element
 pub least_carry : {R S : ℕ → ℕ → Type 0} {s r : ℕ} → ((t : ℕ) → t ≤ s → R t s ↔ S t s) → LeastRelated R s r → LeastRelated S s r

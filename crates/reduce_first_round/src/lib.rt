@@ -100,13 +100,9 @@ pub fn first_alike(rule: &[u8], n: usize, k: usize, scratch: &[u8], s: usize) ->
     requires scratch_size_in_bounds { scratch_size ≤ length scratch.now }
     ensures { LeastRelated (SameOutcomes (morphism_at rule.now n k) (outcome_at scratch.now)) s result }
 {
-    // By number: elements are the numbers below n.
-    for t in 0..s {
-        if same_outcomes(rule, n, k, scratch, t, s) {
-            return t;
-        }
-    }
-    s
+    (0..s)
+        .find(|t| same_outcomes(rule, n, k, scratch, *t, s))
+        .unwrap_or(s)
 }
 
 // The blocks of round 0.

@@ -70,13 +70,9 @@ fn first_kept(rule: &[u8], n: usize, k: usize, scratch: &[u8], s: usize) -> usiz
     requires scratch_size_in_bounds { scratch_size ≤ length scratch.now }
     ensures { LeastRelated (StillTogether (morphism_at rule.now n k) (InOneBlock scratch.now)) s result }
 {
-    // By number: elements are the numbers below n.
-    for t in 0..s {
-        if still_together(rule, n, k, scratch, t, s) {
-            return t;
-        }
-    }
-    s
+    (0..s)
+        .find(|t| still_together(rule, n, k, scratch, *t, s))
+        .unwrap_or(s)
 }
 
 // The blocks after one round more, worked out beside those before it.
