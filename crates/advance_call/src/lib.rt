@@ -68,6 +68,9 @@ fn step_answer(
 
 // Checks a rule, which is the input of the given number, a monitor's values, the rule's strength and a step, moves the monitor by the step and says the grade of
 // its lassos. Scratch ends as zeros, but where it is too short.
+//
+// `advance_word` reads alike, with a word in place of the step. A form for both would be generic over a trait of moves, with their checks and what they make of a
+// monitor as ghost members and an `impl` for each: more to read than these lines.
 pub fn advance(
     rule: &[u8],
     input: usize,

@@ -16,7 +16,8 @@ use formula_pushes::constant_into;
 use formula_steps::{combine_into, is_refusal, negate, until_into};
 use promises::{Operation, Written};
 
-// Negates what was made in a slot, unless it was refused.
+// Negates what was made in a slot, unless it was refused. It reads like formula_steps::settle: a form for both would take the step as a closure that all
+// buffers are lent to again, and its promise would be that of the closure.
 fn negate_made(
     made: Written,
     slot: usize,

@@ -44,7 +44,8 @@ pub fn is_refusal(answer: Written) -> bool
     }
 }
 
-// Reduces what was made in spare into a slot, unless it was refused.
+// Reduces what was made in spare into a slot, unless it was refused. It reads like formula_derived::negate_made: a form for both would take the step as a
+// closure that all buffers are lent to again, and its promise would be that of the closure.
 fn settle(
     made: Written,
     spare: &[u8],

@@ -1,4 +1,7 @@
 // Answers that count, packed into one number: what a file has, the bytes of a rule, classes, rounds, successors.
+//
+// A function for each answer, though some read alike: each answer is a type of its own with cases of its own, so that a trait over them would ask for the
+// same match in each `impl`, and for its law beside.
 #![tactic(auto)]
 
 ghost use Rattle.std.specs.Prelude.{◌≡◌};

@@ -1,4 +1,6 @@
 // Answers that decide, packed into one number: strong or weak, a grade, inclusion, yes or no, the kind of a state.
+//
+// A function for each answer, as in packing_counts: a trait over the answers would ask for the same match in each `impl`, and for its law beside.
 #![tactic(auto)]
 
 ghost use Rattle.std.specs.Prelude.{◌≡◌};
