@@ -92,13 +92,7 @@ fn products(first: &[u8], n1: usize, second: &[u8], n2: usize, k: usize, map: &[
     requires { MapNeeds first.now n1 second.now n2 k map.now }
     ensures { Tells (EachBelow (λ s. EachBelow (ProductCarried (morphism_at first.now n1 k) (morphism_at second.now n2 k) (map_of map.now) s) n1) n1) result }
 {
-    // By number: elements are the numbers below n1.
-    for s in 0..n1 {
-        if !products_from(first, n1, second, n2, k, map, s) {
-            return false;
-        }
-    }
-    true
+    (0..n1).all(|s| products_from(first, n1, second, n2, k, map, s))
 }
 
 // Whether the elements of all letters are.
