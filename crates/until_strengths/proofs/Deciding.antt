@@ -1,72 +1,32 @@
--- What is promised of two checked files, from what the verdicts on their strengths and the rule of the classes promise. Assumes nothing.
+-- What is promised of two checked files, from what the checks behind theirs and the rule of the classes promise. Assumes nothing.
+use Rattle.std.specs.Prelude.{Result, Ok, Err}
 use Prim.Native.Nat.{ℕ}
-use mathlib.Core.Path.{◌≡◌, refl, sym, ◌∙◌}
+use mathlib.Core.Path.{◌≡◌, refl, ◌∙◌}
 use mathlib.Core.List.{List}
-use Rattle.answer.specs.declared.Refusal.TheVariants.{LettersDiffer, NotStrong}
-use Rattle.formats.specs.RuleFile.{letters_of}
-use Rattle.formats.specs.Table.{morphism_at}
+use Rattle.answer.specs.declared.Refused.{Refused}
 use Rattle.rule_layout.specs.declared.Shape.{Shape}
-use Rattle.two_rules.specs.declared.Strengths.{Strengths}
-use Rattle.two_rules.specs.declared.Strengths.TheVariants.{Strong, FirstWeak, SecondWeak}
-use Rattle.two_rules.specs.Deciding.{BothDecided}
-use Rattle.two_rules.proofs.Calling.{first_file_weak, second_file_weak, strong_files}
-use Rattle.promises.proofs.CombineOrder.{letters_first, weak_first, weak_second}
+use Rattle.two_rules.specs.Comparing.{BothCompared}
+use Rattle.two_rules.proofs.Comparing.{compared_strong, compared_refused}
 use Rattle.promises.specs.declared.Written.{Written}
-use Rattle.promises.specs.declared.Written.TheVariants.{Refused}
+use Rattle.promises.specs.declared.Written.TheVariants.{Refused as Not-written}
 use Rattle.temporal_promises.proofs.UntilOrder.{pairs_refused}
 use Rattle.until_strong.specs.Steps.{UntilReady, UntilOwn}
 use Rattle.until_strengths.specs.Steps.{BothReady}
 
-module _ {first second : List ℕ} {one two : Shape} {scratch classes out : List ℕ} (r : BothReady first second one two scratch classes out) where
-  letters_of_first : one.letters ≡ letters_of first
-  letters_of_first = r.checked.scratch.first_shape.letters
+module _ {first second : List ℕ} {one two : Shape} {scratch classes out decided : List ℕ} {answer : Result Unit Refused}
+    (d : BothCompared first second one two scratch decided answer) where
+  -- a refusal is handed on
+  pub not_compared : {r : Refused} → answer ≡ Err r → UntilOwn first second out out classes classes scratch decided (Not-written r.refusal r.input r.place)
+  not_compared {r} e =
+      let p = compared_refused d e in
+      record { refusal = pairs_refused first second r.refusal r.input r.place p.compared; answered = refl; classes_length = refl; same_length = p.same_length }
 
-  letters_of_second : two.letters ≡ letters_of second
-  letters_of_second = r.checked.scratch.second_shape.letters
+  -- both are strong
+  pub strong_place : {done : Unit} → BothReady first second one two scratch classes out → answer ≡ Ok done → UntilReady first second one two decided classes out
+  strong_place r e =
+      let p = compared_strong d e in
+      record { files = p.compared.files; same_letters = p.compared.same_letters; out_room = r.out_room; classes_room = r.classes_room }
 
-  -- the letter counts differ
-  pub letters_differ : (one.letters ≡ two.letters → ⊥) → UntilOwn first second out out classes classes scratch scratch (Refused LettersDiffer 1 0)
-  letters_differ f = record {
-    refusal = pairs_refused first second LettersDiffer 1 0 (letters_first first second (λ e. f (letters_of_first ∙ e ∙ sym letters_of_second)));
-    answered = refl;
-    classes_length = refl;
-    same_length = refl;
-  }
-
-  module _ (same : one.letters ≡ two.letters) {decided : List ℕ} (answer : Strengths)
-      (d : BothDecided (morphism_at first one.elements one.letters) (morphism_at second two.elements two.letters) scratch decided answer) where
-    letters_agree : letters_of first ≡ letters_of second
-    letters_agree = sym letters_of_first ∙ same ∙ letters_of_second
-
-    -- the first is weak
-    pub first_weak : answer ≡ FirstWeak → UntilOwn first second out out classes classes scratch decided (Refused NotStrong 1 0)
-    first_weak e = record {
-      refusal = pairs_refused first second NotStrong 1 0 (weak_first first second letters_agree (first_file_weak first second r.entry r.checked d e));
-      answered = refl;
-      classes_length = refl;
-      same_length = d.same_length;
-    }
-
-    -- the second is
-    pub second_weak : answer ≡ SecondWeak → UntilOwn first second out out classes classes scratch decided (Refused NotStrong 2 0)
-    second_weak e =
-        let w = second_file_weak first second r.entry r.checked d e in
-        record {
-          refusal = pairs_refused first second NotStrong 2 0 (weak_second first second letters_agree w.first_strong w.second_weak);
-          answered = refl;
-          classes_length = refl;
-          same_length = d.same_length;
-        }
-
-    -- both are strong
-    pub strong_place : answer ≡ Strong → UntilReady first second one two decided classes out
-    strong_place e = record {
-      files = strong_files first second r.entry r.checked d e;
-      same_letters = same;
-      out_room = r.out_room;
-      classes_room = r.classes_room;
-    }
-
-    pub strong_made : {after classes' exit : List ℕ} {result : Written} → UntilOwn first second out after classes classes' decided exit result
-        → UntilOwn first second out after classes classes' scratch exit result
-    strong_made p = record { refusal = p.refusal; answered = p.answered; classes_length = p.classes_length; same_length = p.same_length ∙ d.same_length }
+  pub strong_made : {after classes' exit : List ℕ} {result : Written} → UntilOwn first second out after classes classes' decided exit result
+      → UntilOwn first second out after classes classes' scratch exit result
+  strong_made p = record { refusal = p.refusal; answered = p.answered; classes_length = p.classes_length; same_length = p.same_length ∙ d.same_length }
