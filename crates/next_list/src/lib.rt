@@ -169,7 +169,8 @@ pub fn list_next(rule: &[u8], n: usize, k: usize, scratch: &mut [u8]) -> Option<
 {
     let mut count = 0;
     let mut from = 0;
-    // A while: the list grows on the way, so that no range has its entries beforehand.
+    // A while: the list grows on the way, so that no range has its entries beforehand. As in until_list, over other bytes: a loop for both would
+    // take the step as a closure that changes what is lent to it, and what that did would have to be a law of a trait.
     while from <= count {
         count = follow_entry(rule, n, k, scratch, count, from)?;
         from += 1;

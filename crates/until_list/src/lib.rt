@@ -99,7 +99,8 @@ pub fn list_until(classes: &mut [u8], scratch: &mut [u8], np: usize, k: usize) -
 {
     let mut count = 0;
     let mut from = 0;
-    // A while: the list grows on the way, so that no range has its entries beforehand.
+    // A while: the list grows on the way, so that no range has its entries beforehand. As in next_list, over other bytes: a loop for both would
+    // take the step as a closure that changes what is lent to it, and what that did would have to be a law of a trait.
     while from <= count {
         count = follow_entry(classes, scratch, np, k, count, from)?;
         from += 1;
