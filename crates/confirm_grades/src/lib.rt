@@ -53,11 +53,5 @@ pub fn grades_kept(
     requires { GradesNeeds first.now n1 k1 map.now n2 scratch.now }
     ensures { Tells (GradesKept (morphism_at first.now n1 k1) map.now scratch.now) result }
 {
-    // By number: elements are the numbers below n1.
-    for z in 0..n1 {
-        if !column_kept(first, n1, k1, map, n2, scratch, z) {
-            return false;
-        }
-    }
-    true
+    (0..n1).all(|z| column_kept(first, n1, k1, map, n2, scratch, z))
 }
