@@ -22,7 +22,7 @@ no_part : part_of 58 3 line ≡ []
 unfolding line part_of up_to after
 no_part = refl
 
-letter : command_of line ≡ 109
+letter : command_of line ≡ 109 ∷ []
 unfolding line part_of up_to after
 letter = refl
 

@@ -1,5 +1,5 @@
 -- The number of a text in decimal digits, and what the parts of a line say by a number or a letter. Assumes nothing.
-use Rattle.std.specs.Prelude.{ℕ, ◌+◌, ◌*◌, ◌-◌, ◌≡◌, cond, List, [], ◌∷◌, ltb, get_or}
+use Rattle.std.specs.Prelude.{ℕ, ◌+◌, ◌*◌, ◌-◌, ◌≡◌, cond, List, [], ◌∷◌, ltb, drop}
 use Rattle.std.specs.Char.{is_ascii_digit}
 use Rattle.example_parts.specs.Parts.{part_of}
 
@@ -28,6 +28,6 @@ colon = 58
 abbrev pub number_in_part : List ℕ → ℕ → ℕ
 number_in_part line k = decimal_of (part_of colon k line)
 
--- the first letter of a line's command, after a space; 0 where there is none
-abbrev pub command_of : List ℕ → ℕ
-command_of line = get_or (part_of colon 1 line) 1 0
+-- a line's command, after a space; empty where there is none
+abbrev pub command_of : List ℕ → List ℕ
+command_of line = drop 1 (part_of colon 1 line)

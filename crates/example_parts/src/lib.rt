@@ -3,7 +3,7 @@
 // A line of examples has parts with `:` between them: a label, a command, and lists of numbers. A line with no `:` is a comment.
 #![tactic(auto)]
 
-ghost use Rattle.std.specs.Prelude.{◌≡◌, get_or, take};
+ghost use Rattle.std.specs.Prelude.{◌≡◌, ◌%◌, get_or, take};
 ghost use Rattle.example_parts.specs.Parts.{part_of};
 ghost use Rattle.example_parts.specs.Digits.{decimal_of, number_in_part, command_of, DigitAdded};
 
@@ -28,11 +28,11 @@ pub fn front(buffer: &[u8], count: usize) -> &[u8]
     buffer.get(..count).unwrap_or(buffer)
 }
 
-// The first letter of a line's command, which stands after a space; 0 for a line with no example.
-pub fn command(line: &[u8]) -> u8
-    ensures { result ≡ command_of line.now }
+// A line's command, which stands after a space; nothing for a line with no example.
+pub fn command(line: &[u8]) -> &[u8]
+    ensures { result.now ≡ command_of line.now }
 {
-    byte_at(part(line, b':', 1), 1)
+    part(line, b':', 1).get(1..).unwrap_or(&[])
 }
 
 // A number with one more digit, at most the largest. Bytes that are no digit add nothing.
@@ -64,4 +64,11 @@ pub fn number(line: &[u8], k: usize) -> usize
     ensures { result ≡ number_in_part line.now k }
 {
     decimal(part(line, b':', k))
+}
+
+// The last byte of the number that a part of a line has.
+pub fn byte(line: &[u8], k: usize) -> u8
+    ensures { result ≡ number_in_part line.now k % 256 }
+{
+    (number(line, k) % 256) as u8
 }

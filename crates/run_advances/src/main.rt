@@ -12,9 +12,8 @@ fn advanced_line(rt: &impl Print, line: &[u8], answer: Advanced) -> io::Result<M
             grade,
             turns,
         } => {
-            example_text::two(rt, b"before ", monitor.before, b" since ", monitor.since)?;
-            example_text::word(rt, b": ")?;
-            example_text::graded_line(rt, grade, turns)?;
+            print!(rt; "before {} since {}: ", monitor.before, monitor.since)?;
+            println!(rt; "grade {grade}, turns {turns}")?;
             Ok(monitor)
         }
         Advanced::Refused {
@@ -23,7 +22,7 @@ fn advanced_line(rt: &impl Print, line: &[u8], answer: Advanced) -> io::Result<M
             input,
             place,
         } => {
-            example_text::refused_line(rt, rules::number(refusal), input, place)?;
+            example_text::refused_line(rt, refusal, input, place)?;
             Ok(monitor)
         }
     }
@@ -62,32 +61,24 @@ fn advanced(
 fn run(rt: &impl Print, line: &[u8], m: Monitor, scratch: &mut [u8]) -> io::Result<Monitor> {
     let mut rule = [0u8; 64];
     let length = example_text::numbers(line, 2, &mut rule);
-    let letter = (example_text::number(line, 3) % 256) as u8;
+    let letter = example_text::byte(line, 3);
     match example_text::command(line) {
-        b'p' => Ok(Monitor {
+        b"put" => Ok(Monitor {
             before: example_text::number(line, 2),
             since: example_text::number(line, 3),
         }),
-        b'e' => advanced(rt, line, &rule[..length], m, Step::Event(letter), scratch),
-        b'm' => advanced(rt, line, &rule[..length], m, Step::Mark, scratch),
-        b's' => advanced(rt, line, &rule[..length], m, Step::Stay, scratch),
-        b'w' => advanced_by_word(rt, line, &rule[..length], m, scratch),
+        b"event" => advanced(rt, line, &rule[..length], m, Step::Event(letter), scratch),
+        b"mark" => advanced(rt, line, &rule[..length], m, Step::Mark, scratch),
+        b"stay" => advanced(rt, line, &rule[..length], m, Step::Stay, scratch),
+        b"word" => advanced_by_word(rt, line, &rule[..length], m, scratch),
         _ => Ok(m),
     }
 }
 
-fn run_all(rt: &impl Print, text: &[u8], scratch: &mut [u8]) -> io::Result<()> {
-    let mut m = rules::fresh();
-    for line in text.split(|byte| *byte == b'\n') {
-        m = run(rt, line, m, scratch)?;
-    }
-    Ok(())
-}
-
 fn main(rt: HostRuntime) -> io::Result<()> {
     let mut scratch = [7u8; SCRATCH_SIZE];
-    run_all(
-        &rt,
+    let mut m = rules::fresh();
+    example_text::each_line(
         b"# A monitor of W: as it is, by a letter, by words, by a mark. Grade 4 and no turns where nothing came since.\n\
         stay: stay: 2 0 0 0 1 2 0 1 1 0 0 0 3\n\
         letter 1: event: 2 0 0 0 1 2 0 1 1 0 0 0 3: 1\n\
@@ -112,6 +103,9 @@ fn main(rt: HostRuntime) -> io::Result<()> {
         : put: 64: 64\n\
         word 0 0 0: word: 2 0 1 1 0 1 1 0 0: 0 0 0\n\
         letter 0: event: 2 0 1 1 0 1 1 0 0: 0\n",
-        &mut scratch,
+        |line| {
+            m = run(&rt, line, m, &mut scratch)?;
+            Ok(())
+        },
     )
 }

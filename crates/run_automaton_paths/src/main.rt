@@ -8,7 +8,7 @@
 
 ghost use Rattle.std.specs.Prelude.{◌<◌};
 
-use rules::{RULE_SIZE, SCRATCH_SIZE, Written};
+use rules::{RULE_SIZE, SCRATCH_SIZE};
 use std::io;
 
 // The entry of a path that goes on to a state, by the one that it had before.
@@ -134,15 +134,9 @@ fn count_alike(known: &[u8], from: usize, to: usize) -> usize {
 fn counts_line(rt: &impl Print, entries: &[u8], values: &[u8]) -> io::Result<()> {
     let mut known = [0u8; 2304];
     let count = count_differing(entries, values, &mut known);
-    example_text::three_line(
-        rt,
-        b"entries that differ ",
-        count,
-        b", elements met ",
-        count_alike(&known, 0, 64),
-        b", alike ",
-        count_alike(&known, 64, 4096),
-    )
+    let met = count_alike(&known, 0, 64);
+    let alike = count_alike(&known, 64, 4096);
+    println!(rt; "entries that differ {count}, elements met {met}, alike {alike}")
 }
 
 fn compare(rt: &impl Print, file: &[u8], rule: &[u8]) -> io::Result<()> {
@@ -153,32 +147,14 @@ fn compare(rt: &impl Print, file: &[u8], rule: &[u8]) -> io::Result<()> {
     counts_line(rt, &entries, &values)
 }
 
-fn rule_line(rt: &impl Print, answer: Written, rule: &[u8]) -> io::Result<()> {
-    match answer {
-        Written::Rule(length) => {
-            example_text::word_and(rt, b"bytes ", length)?;
-            example_text::row(rt, b", elements", rule, 1)?;
-            example_text::word(rt, b"\n")
-        }
-        Written::Refused {
-            refusal,
-            input,
-            place,
-        } => example_text::refused_line(rt, rules::number(refusal), input, place),
-    }
-}
-
 fn run(rt: &impl Print, line: &[u8]) -> io::Result<()> {
     let mut file = [0u8; 82];
     let mut rule = [9u8; RULE_SIZE];
     let mut scratch = [7u8; SCRATCH_SIZE];
     example_text::numbers(line, 2, &mut file);
     example_text::label(rt, line)?;
-    rule_line(
-        rt,
-        rules::automaton_rule(&file, &mut rule, &mut scratch),
-        &rule,
-    )?;
+    let answer = rules::automaton_rule(&file, &mut rule, &mut scratch);
+    example_text::written_line(rt, answer, &rule, 0)?;
     compare(rt, &file, &rule)
 }
 

@@ -11,15 +11,12 @@ fn posted_line(rt: &impl Print, line: &[u8], answer: Posted) -> io::Result<Board
     let board = answer.board;
     let notice = answer.notice;
     match notice {
-        Notice::Done => {
-            example_text::word_and(rt, b"lowest ", board.lowest)?;
-            example_text::word(rt, b"\n")?;
-        }
+        Notice::Done => println!(rt; "lowest {}", board.lowest)?,
         Notice::Refused {
             refusal,
             input,
             place,
-        } => example_text::refused_line(rt, rules::number(refusal), input, place)?,
+        } => example_text::refused_line(rt, refusal, input, place)?,
     }
     Ok(board)
 }
@@ -59,20 +56,26 @@ fn moved(
     files: &[u8],
     scratch: &mut [u8],
 ) -> io::Result<Board> {
-    let n = example_text::number(line, 2);
-    let letter = (n % 256) as u8;
     match example_text::command(line) {
-        b'l' => posted_line(
+        b"leave" => posted_line(
             rt,
             line,
             board::leave(board, name(line, first), files, scratch),
         ),
-        b'e' => posted_line(rt, line, board::event(board, letter, files, scratch)),
-        b'm' => posted_line(rt, line, board::mark(board, files, scratch)),
-        b's' => posted_line(
+        b"event" => posted_line(
             rt,
             line,
-            board::mark(board, example_text::front(files, n), scratch),
+            board::event(board, example_text::byte(line, 2), files, scratch),
+        ),
+        b"mark" => posted_line(rt, line, board::mark(board, files, scratch)),
+        b"short" => posted_line(
+            rt,
+            line,
+            board::mark(
+                board,
+                example_text::front(files, example_text::number(line, 2)),
+                scratch,
+            ),
         ),
         _ => Ok(board),
     }
@@ -104,12 +107,12 @@ fn run(
     scratch: &mut [u8],
 ) -> io::Result<Board> {
     match example_text::command(line) {
-        b'i' => enter(rt, line, first, board, files, scratch),
-        b'b' => {
+        b"in" => enter(rt, line, first, board, files, scratch),
+        b"byte" => {
             set_byte(line, first, files);
             Ok(board)
         }
-        b'p' => Ok(with_monitor(line, first, board)),
+        b"put" => Ok(with_monitor(line, first, board)),
         _ => moved(rt, line, first, board, files, scratch),
     }
 }
@@ -122,10 +125,10 @@ fn run_all(
     scratch: &mut [u8],
 ) -> io::Result<()> {
     let mut board = board::empty();
-    for line in text.split(|byte| *byte == b'\n') {
+    example_text::each_line(text, |line| {
         board = run(rt, line, first, board, files, scratch)?;
-    }
-    Ok(())
+        Ok(())
+    })
 }
 
 // The same text with each name as its first.
@@ -136,8 +139,7 @@ fn run_at_each_name(
     scratch: &mut [u8],
 ) -> io::Result<()> {
     for first in 0..8 {
-        example_text::word_and(rt, b"name ", first)?;
-        example_text::word(rt, b"\n")?;
+        println!(rt; "name {first}")?;
         run_all(rt, text, first, files, scratch)?;
     }
     Ok(())

@@ -1,35 +1,13 @@
 // Runs `rules::combine` over pairs of small rules in all three ways, and writes a line for each.
 #![tactic(auto)]
 
-use rules::{Operation, RULE_SIZE, SCRATCH_SIZE, Written};
+use rules::{Operation, RULE_SIZE, SCRATCH_SIZE};
 use std::io;
-
-// What was written: its bytes where they are few, and else how many there are and the number of its elements.
-fn written_line(rt: &impl Print, out: &[u8], length: usize) -> io::Result<()> {
-    example_text::word_and(rt, b"bytes ", length)?;
-    if length < 48 {
-        example_text::row(rt, b":", out, length)?;
-    } else {
-        example_text::row(rt, b", elements", out, 1)?;
-    }
-    example_text::word(rt, b"\n")
-}
-
-fn combined_line(rt: &impl Print, answer: Written, out: &[u8]) -> io::Result<()> {
-    match answer {
-        Written::Rule(length) => written_line(rt, out, length),
-        Written::Refused {
-            refusal,
-            input,
-            place,
-        } => example_text::refused_line(rt, rules::number(refusal), input, place),
-    }
-}
 
 fn operation_of(line: &[u8]) -> Operation {
     match example_text::command(line) {
-        b'b' => Operation::Both,
-        b'e' => Operation::Either,
+        b"both" => Operation::Both,
+        b"either" => Operation::Either,
         _ => Operation::Without,
     }
 }
@@ -43,11 +21,8 @@ fn answer(
 ) -> io::Result<()> {
     let mut out = [9u8; RULE_SIZE];
     example_text::label(rt, line)?;
-    combined_line(
-        rt,
-        rules::combine(first, second, operation_of(line), &mut out, scratch),
-        &out,
-    )
+    let written = rules::combine(first, second, operation_of(line), &mut out, scratch);
+    example_text::written_line(rt, written, &out, 48)
 }
 
 fn run(rt: &impl Print, line: &[u8], scratch: &mut [u8]) -> io::Result<()> {
@@ -55,23 +30,15 @@ fn run(rt: &impl Print, line: &[u8], scratch: &mut [u8]) -> io::Result<()> {
     let mut second = [0u8; RULE_SIZE];
     let one = example_text::numbers(line, 2, &mut first);
     let two = example_text::numbers(line, 3, &mut second);
-    if example_text::command(line) != 0 {
+    if !example_text::command(line).is_empty() {
         answer(rt, line, &first[..one], &second[..two], scratch)?;
-    }
-    Ok(())
-}
-
-fn run_all(rt: &impl Print, text: &[u8], scratch: &mut [u8]) -> io::Result<()> {
-    for line in text.split(|byte| *byte == b'\n') {
-        run(rt, line, scratch)?;
     }
     Ok(())
 }
 
 fn main(rt: HostRuntime) -> io::Result<()> {
     let mut scratch = [7u8; SCRATCH_SIZE];
-    run_all(
-        &rt,
+    example_text::each_line(
         b"# W gives 3 where letter 0 comes without end; its complement gives 3 to the other lassos.\n\
         W and its complement: both: 2 0 0 0 1 2 0 1 1 0 0 0 3: 2 0 0 0 1 2 0 1 2 0 0 1 3 1 1 3\n\
         W or its complement: either: 2 0 0 0 1 2 0 1 1 0 0 0 3: 2 0 0 0 1 2 0 1 2 0 0 1 3 1 1 3\n\
@@ -88,6 +55,6 @@ fn main(rt: HostRuntime) -> io::Result<()> {
         a weak second: both: 2 0 0 0 1 2 0 1 1 0 0 0 3: 2 0 1 1 0 2 1 0 1 0 0 0 3\n\
         both weak: either: 2 0 1 1 0 2 1 0 1 0 0 0 3: 2 0 1 1 0 2 1 0 1 0 0 0 3\n\
         a second that is not associative: both: 2 0 1 1 0 2 1 0 1 0 0 0 3: 2 1 0 0 0 1 0 0 0\n",
-        &mut scratch,
+        |line| run(&rt, line, &mut scratch),
     )
 }

@@ -1,40 +1,32 @@
 // Runs `rules::confirm` over rules, reductions and maps, right and wrong ones, and writes a line for each.
 #![tactic(auto)]
 
-use rules::{Confirmation, MAP_SIZE, RULE_SIZE, SCRATCH_SIZE, Written};
+use rules::{Confirmation, MAP_SIZE, RULE_SIZE, SCRATCH_SIZE};
 use std::io;
 
 fn confirmed_line(rt: &impl Print, answer: Confirmation) -> io::Result<()> {
     match answer {
-        Confirmation::Yes => example_text::word(rt, b"yes\n"),
-        Confirmation::No => example_text::word(rt, b"no\n"),
+        Confirmation::Yes => print!(rt; "yes\n"),
+        Confirmation::No => print!(rt; "no\n"),
         Confirmation::Refused {
             refusal,
             input,
             place,
-        } => example_text::refused_line(rt, rules::number(refusal), input, place),
+        } => example_text::refused_line(rt, refusal, input, place),
     }
-}
-
-// How many bytes a reduction wrote, 0 for a refusal.
-fn length_of(answer: Written) -> usize {
-    let Written::Rule(length) = answer else {
-        return 0;
-    };
-    length
 }
 
 // Asks for what `rules::reduce` writes.
 fn own(rt: &impl Print, first: &[u8], scratch: &mut [u8]) -> io::Result<()> {
     let mut out = [9u8; RULE_SIZE];
     let mut map = [9u8; MAP_SIZE];
-    let length = length_of(rules::reduce(first, &mut out, &mut map, scratch));
+    let written = rules::reduce(first, &mut out, &mut map, scratch);
     let elements = example_text::byte_at(first, 0) as usize;
     confirmed_line(
         rt,
         rules::confirm(
             first,
-            example_text::front(&out, length),
+            example_text::written_part(written, &out),
             example_text::front(&map, elements),
             scratch,
         ),
@@ -51,7 +43,7 @@ fn answer(
 ) -> io::Result<()> {
     example_text::label(rt, line)?;
     match example_text::command(line) {
-        b'o' => own(rt, first, scratch),
+        b"own" => own(rt, first, scratch),
         _ => confirmed_line(rt, rules::confirm(first, second, map, scratch)),
     }
 }
@@ -63,7 +55,7 @@ fn run(rt: &impl Print, line: &[u8], scratch: &mut [u8]) -> io::Result<()> {
     let one = example_text::numbers(line, 2, &mut first);
     let two = example_text::numbers(line, 3, &mut second);
     let three = example_text::numbers(line, 4, &mut map);
-    if example_text::command(line) != 0 {
+    if !example_text::command(line).is_empty() {
         answer(
             rt,
             line,
@@ -76,17 +68,9 @@ fn run(rt: &impl Print, line: &[u8], scratch: &mut [u8]) -> io::Result<()> {
     Ok(())
 }
 
-fn run_all(rt: &impl Print, text: &[u8], scratch: &mut [u8]) -> io::Result<()> {
-    for line in text.split(|byte| *byte == b'\n') {
-        run(rt, line, scratch)?;
-    }
-    Ok(())
-}
-
 fn main(rt: HostRuntime) -> io::Result<()> {
     let mut scratch = [7u8; SCRATCH_SIZE];
-    run_all(
-        &rt,
+    example_text::each_line(
         b"# What the library writes itself.\n\
         W: own: 2 0 0 0 1 2 0 1 1 0 0 0 3\n\
         Z with letter 0 only: own: 2 0 1 1 0 1 1 1 0 0 0 3\n\
@@ -122,6 +106,6 @@ fn main(rt: HostRuntime) -> io::Result<()> {
         a second that is not associative: confirm: 2 0 1 1 0 2 1 0 1 0 0 0 3: 2 1 0 0 0 1 0 0 0: 0 1\n\
         a second with an element that no word has: confirm: 2 0 0 0 1 2 0 1 1 0 0 0 3: 2 0 0 0 1 1 0 0 0: 0 1\n\
         a first that is cut: confirm: 2 0 0 0: 2 1 0 0 0 1 0 0 0: 0 1\n",
-        &mut scratch,
+        |line| run(&rt, line, &mut scratch),
     )
 }

@@ -2,30 +2,8 @@
 #![tactic(auto)]
 
 use formula_call::STACK_SIZE;
-use rules::{RULE_SIZE, SCRATCH_SIZE, UNTIL_CLASSES_SIZE, Written};
+use rules::{RULE_SIZE, SCRATCH_SIZE, UNTIL_CLASSES_SIZE};
 use std::io;
-
-// What was written: its bytes where they are few, and else how many there are and the number of its elements.
-fn bytes_line(rt: &impl Print, out: &[u8], length: usize) -> io::Result<()> {
-    example_text::word_and(rt, b"bytes ", length)?;
-    if length < 80 {
-        example_text::row(rt, b":", out, length)?;
-    } else {
-        example_text::row(rt, b", elements", out, 1)?;
-    }
-    example_text::word(rt, b"\n")
-}
-
-fn written_line(rt: &impl Print, answer: Written, out: &[u8]) -> io::Result<()> {
-    match answer {
-        Written::Rule(length) => bytes_line(rt, out, length),
-        Written::Refused {
-            refusal,
-            input,
-            place,
-        } => example_text::refused_line(rt, rules::number(refusal), input, place),
-    }
-}
 
 fn answer(
     rt: &impl Print,
@@ -38,19 +16,16 @@ fn answer(
 ) -> io::Result<()> {
     let mut out = [9u8; RULE_SIZE];
     example_text::label(rt, line)?;
-    written_line(
-        rt,
-        formula_call::formula_rule(
-            example_text::number(line, 2),
-            formula,
-            &mut out,
-            stack,
-            spare,
-            classes,
-            scratch,
-        ),
-        &out,
-    )
+    let written = formula_call::formula_rule(
+        example_text::number(line, 2),
+        formula,
+        &mut out,
+        stack,
+        spare,
+        classes,
+        scratch,
+    );
+    example_text::written_line(rt, written, &out, 80)
 }
 
 fn run(
@@ -63,22 +38,8 @@ fn run(
 ) -> io::Result<()> {
     let mut formula = [0u8; 128];
     let length = example_text::numbers(line, 3, &mut formula);
-    if example_text::command(line) != 0 {
+    if !example_text::command(line).is_empty() {
         answer(rt, line, &formula[..length], stack, spare, classes, scratch)?;
-    }
-    Ok(())
-}
-
-fn run_all(
-    rt: &impl Print,
-    text: &[u8],
-    stack: &mut [u8],
-    spare: &mut [u8],
-    classes: &mut [u8],
-    scratch: &mut [u8],
-) -> io::Result<()> {
-    for line in text.split(|byte| *byte == b'\n') {
-        run(rt, line, stack, spare, classes, scratch)?;
     }
     Ok(())
 }
@@ -88,8 +49,7 @@ fn main(rt: HostRuntime) -> io::Result<()> {
     let mut spare = [4u8; RULE_SIZE];
     let mut classes = [5u8; UNTIL_CLASSES_SIZE];
     let mut scratch = [7u8; SCRATCH_SIZE];
-    run_all(
-        &rt,
+    example_text::each_line(
         b"# A set is 0, its grade and two bytes; a constant 1 and its grade. Over two letters the set of letter 0 is 1 0, that of letter 1 is 2 0.\n\
         letter 0: formula: 2: 0 3 1 0\n\
         every lasso: formula: 2: 1 3\n\
@@ -126,9 +86,15 @@ fn main(rt: HostRuntime) -> io::Result<()> {
         # A step that would be too large is refused at its own byte.\n\
         five times next: formula: 2: 0 3 1 0 6 6 6 6 6\n\
         too many pairs: formula: 3: 0 3 1 0 6 6 6 6 0 3 2 0 6 6 6 6 3\n",
-        &mut stack,
-        &mut spare,
-        &mut classes,
-        &mut scratch,
+        |line| {
+            run(
+                &rt,
+                line,
+                &mut stack,
+                &mut spare,
+                &mut classes,
+                &mut scratch,
+            )
+        },
     )
 }

@@ -2,19 +2,8 @@
 // each. A word is written as its letters in a row.
 #![tactic(auto)]
 
-use rules::{LassoVerdict, Monitor, Moved, SCRATCH_SIZE};
+use rules::{Monitor, SCRATCH_SIZE};
 use std::io;
-
-fn answer_line(rt: &impl Print, answer: LassoVerdict) -> io::Result<()> {
-    match answer {
-        LassoVerdict::Decided { grade, turns } => example_text::graded_line(rt, grade, turns),
-        LassoVerdict::Refused {
-            refusal,
-            input,
-            place,
-        } => example_text::refused_line(rt, rules::number(refusal), input, place),
-    }
-}
 
 // A word has room for one letter more than it may have.
 fn member(rt: &impl Print, line: &[u8], rule: &[u8], scratch: &mut [u8]) -> io::Result<()> {
@@ -23,12 +12,14 @@ fn member(rt: &impl Print, line: &[u8], rule: &[u8], scratch: &mut [u8]) -> io::
     let m = example_text::numbers(line, 3, &mut u);
     let n = example_text::numbers(line, 4, &mut v);
     example_text::label(rt, line)?;
-    answer_line(rt, rules::member(rule, &u[..m], &v[..n], scratch))
+    example_text::verdict_line(rt, rules::member(rule, &u[..m], &v[..n], scratch))
 }
 
 fn word_line(rt: &impl Print, word: &[u8]) -> io::Result<()> {
-    example_text::each(rt, b"", word, word.len())?;
-    example_text::word(rt, b"\n")
+    for letter in word {
+        rt.print(*letter)?;
+    }
+    print!(rt; "\n")
 }
 
 fn stretch(rt: &impl Print, line: &[u8], u: &[u8]) -> io::Result<()> {
@@ -41,25 +32,6 @@ fn stretch(rt: &impl Print, line: &[u8], u: &[u8]) -> io::Result<()> {
     )
 }
 
-fn monitor_line(rt: &impl Print, moved: Moved) -> io::Result<Monitor> {
-    match moved {
-        Moved::To(m) => {
-            example_text::two(rt, b"before ", m.before, b" since ", m.since)?;
-            example_text::word(rt, b"\n")?;
-            Ok(m)
-        }
-        Moved::Refused {
-            monitor,
-            refusal,
-            input,
-            place,
-        } => {
-            example_text::refused_line(rt, rules::number(refusal), input, place)?;
-            Ok(monitor)
-        }
-    }
-}
-
 // Events and marks move the monitor on, and `put` puts another in its place.
 fn moved(
     rt: &impl Print,
@@ -69,17 +41,12 @@ fn moved(
     scratch: &mut [u8],
 ) -> io::Result<Monitor> {
     match example_text::command(line) {
-        b'e' => monitor_line(
+        b"event" => example_text::monitor_line(
             rt,
-            rules::event(
-                rule,
-                m,
-                (example_text::number(line, 3) % 256) as u8,
-                scratch,
-            ),
+            rules::event(rule, m, example_text::byte(line, 3), scratch),
         ),
-        b'm' => monitor_line(rt, rules::mark(rule, m, scratch)),
-        b'p' => Ok(Monitor {
+        b"mark" => example_text::monitor_line(rt, rules::mark(rule, m, scratch)),
+        b"put" => Ok(Monitor {
             before: example_text::number(line, 3),
             since: example_text::number(line, 4),
         }),
@@ -91,11 +58,11 @@ fn run(rt: &impl Print, line: &[u8], m: Monitor, scratch: &mut [u8]) -> io::Resu
     let mut first = [0u8; 4225];
     let length = example_text::numbers(line, 2, &mut first);
     match example_text::command(line) {
-        b'l' => {
+        b"lasso" => {
             member(rt, line, &first[..length], scratch)?;
             Ok(m)
         }
-        b's' => {
+        b"stretch" => {
             stretch(rt, line, &first[..length])?;
             Ok(m)
         }
@@ -103,18 +70,10 @@ fn run(rt: &impl Print, line: &[u8], m: Monitor, scratch: &mut [u8]) -> io::Resu
     }
 }
 
-fn run_all(rt: &impl Print, text: &[u8], scratch: &mut [u8]) -> io::Result<()> {
-    let mut m = rules::fresh();
-    for line in text.split(|byte| *byte == b'\n') {
-        m = run(rt, line, m, scratch)?;
-    }
-    Ok(())
-}
-
 fn main(rt: HostRuntime) -> io::Result<()> {
     let mut scratch = [7u8; SCRATCH_SIZE];
-    run_all(
-        &rt,
+    let mut m = rules::fresh();
+    example_text::each_line(
         b"M2 W, u 1, v 0: lasso: 2 0 0 0 1 2 0 1 1 0 0 0 3: 1: 0\n\
         M3 W, u 0, v 1: lasso: 2 0 0 0 1 2 0 1 1 0 0 0 3: 0: 1\n\
         W, u 0, v 0 1: lasso: 2 0 0 0 1 2 0 1 1 0 0 0 3: 0: 0 1\n\
@@ -179,6 +138,9 @@ fn main(rt: HostRuntime) -> io::Result<()> {
         : event: 2 0 1 1 0 2 1 0 1 0 0 0 3: 0\n\
         : put: : 64: 65\n\
         : mark: 2 0 1 1 0 2 1 0 1 0 0 0 3\n",
-        &mut scratch,
+        |line| {
+            m = run(&rt, line, m, &mut scratch)?;
+            Ok(())
+        },
     )
 }

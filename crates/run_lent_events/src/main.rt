@@ -38,19 +38,17 @@ fn left(rt: &impl Print, moved: Moved) -> io::Result<Monitor> {
             input,
             place,
         } => {
-            let number = rules::number(refusal) as usize;
-            example_text::two(rt, b"refused ", number, b" in ", input)?;
-            example_text::word_and(rt, b" at ", place)?;
-            example_text::word(rt, b", ")?;
+            let number = rules::number(refusal);
+            print!(rt; "refused {number} in {input} at {place}, ")?;
             Ok(monitor)
         }
     }
 }
 
-fn written(rt: &impl Print, start: &[u8], moved: Moved) -> io::Result<Monitor> {
-    example_text::word(rt, start)?;
+fn written(rt: &impl Print, start: &str, moved: Moved) -> io::Result<Monitor> {
+    rt.print(start)?;
     let m = left(rt, moved)?;
-    example_text::two(rt, b"before ", m.before, b" since ", m.since)?;
+    print!(rt; "before {} since {}", m.before, m.since)?;
     Ok(m)
 }
 
@@ -61,22 +59,22 @@ fn event(
     letter: u8,
     scratch: &mut [u8],
 ) -> io::Result<Monitor> {
-    written(rt, b"by value ", rules::event(rule, m, letter, scratch))?;
-    let next = written(rt, b"; lent ", lent(rule, m, letter, scratch))?;
-    example_text::word(rt, b"\n")?;
+    written(rt, "by value ", rules::event(rule, m, letter, scratch))?;
+    let next = written(rt, "; lent ", lent(rule, m, letter, scratch))?;
+    print!(rt; "\n")?;
     Ok(next)
 }
 
 fn run(rt: &impl Print, line: &[u8], m: Monitor, scratch: &mut [u8]) -> io::Result<Monitor> {
     let mut rule = [0u8; 64];
     let length = example_text::numbers(line, 2, &mut rule);
-    let letter = (example_text::number(line, 3) % 256) as u8;
+    let letter = example_text::byte(line, 3);
     match example_text::command(line) {
-        b'e' => {
+        b"event" => {
             example_text::label(rt, line)?;
             event(rt, &rule[..length], m, letter, scratch)
         }
-        b'p' => Ok(Monitor {
+        b"put" => Ok(Monitor {
             before: example_text::number(line, 2),
             since: example_text::number(line, 3),
         }),
@@ -84,18 +82,10 @@ fn run(rt: &impl Print, line: &[u8], m: Monitor, scratch: &mut [u8]) -> io::Resu
     }
 }
 
-fn run_all(rt: &impl Print, text: &[u8], scratch: &mut [u8]) -> io::Result<()> {
-    let mut m = rules::fresh();
-    for line in text.split(|byte| *byte == b'\n') {
-        m = run(rt, line, m, scratch)?;
-    }
-    Ok(())
-}
-
 fn main(rt: HostRuntime) -> io::Result<()> {
     let mut scratch = [7u8; SCRATCH_SIZE];
-    run_all(
-        &rt,
+    let mut m = rules::fresh();
+    example_text::each_line(
         b"# Events of W from a fresh monitor on, a letter that is none of W's, and a rule that does not associate.\n\
         W, 1: event: 2 0 0 0 1 2 0 1 1 0 0 0 3: 1\n\
         W, 1: event: 2 0 0 0 1 2 0 1 1 0 0 0 3: 1\n\
@@ -117,6 +107,9 @@ fn main(rt: HostRuntime) -> io::Result<()> {
         Z, 0: event: 2 0 1 1 0 2 1 0 1 0 0 0 3: 0\n\
         : put: 0: 65\n\
         Z, 0: event: 2 0 1 1 0 2 1 0 1 0 0 0 3: 0\n",
-        &mut scratch,
+        |line| {
+            m = run(&rt, line, m, &mut scratch)?;
+            Ok(())
+        },
     )
 }

@@ -3,14 +3,9 @@
 #![tactic(auto)]
 
 use rules::{
-    CYCLE_SIZE, Inclusion, LassoVerdict, Listed, Monitor, RULE_SIZE, Refusal, SCRATCH_SIZE,
-    START_SIZE, Strength, Written,
+    CYCLE_SIZE, Inclusion, Listed, Monitor, RULE_SIZE, SCRATCH_SIZE, START_SIZE, Strength, Written,
 };
 use std::io;
-
-fn refused(rt: &impl Print, refusal: Refusal, input: usize, place: usize) -> io::Result<()> {
-    example_text::refused_line(rt, rules::number(refusal), input, place)
-}
 
 fn classes_line(rt: &impl Print, answer: Listed) -> io::Result<()> {
     match answer {
@@ -18,32 +13,24 @@ fn classes_line(rt: &impl Print, answer: Listed) -> io::Result<()> {
             linked,
             classes,
             joins,
-        } => example_text::three_line(
-            rt,
-            b"linked ",
-            linked,
-            b" classes ",
-            classes,
-            b" joins ",
-            joins,
-        ),
+        } => println!(rt; "linked {linked} classes {classes} joins {joins}"),
         Listed::Refused {
             refusal,
             input,
             place,
-        } => refused(rt, refusal, input, place),
+        } => example_text::refused_line(rt, refusal, input, place),
     }
 }
 
 fn strength_line(rt: &impl Print, answer: Strength) -> io::Result<()> {
     match answer {
-        Strength::Strong => example_text::word(rt, b"strong\n"),
-        Strength::Weak => example_text::word(rt, b"weak\n"),
+        Strength::Strong => print!(rt; "strong\n"),
+        Strength::Weak => print!(rt; "weak\n"),
         Strength::Refused {
             refusal,
             input,
             place,
-        } => refused(rt, refusal, input, place),
+        } => example_text::refused_line(rt, refusal, input, place),
     }
 }
 
@@ -51,17 +38,17 @@ fn strength_line(rt: &impl Print, answer: Strength) -> io::Result<()> {
 fn complement_line(rt: &impl Print, answer: Written, out: &[u8]) -> io::Result<()> {
     match answer {
         Written::Rule(length) => {
-            example_text::word_and(rt, b"complement of bytes ", length)?;
+            print!(rt; "complement of bytes {length}")?;
             if length < 64 {
                 example_text::row(rt, b":", out, length)?;
             }
-            example_text::word(rt, b"\n")
+            print!(rt; "\n")
         }
         Written::Refused {
             refusal,
             input,
             place,
-        } => refused(rt, refusal, input, place),
+        } => example_text::refused_line(rt, refusal, input, place),
     }
 }
 
@@ -73,17 +60,17 @@ fn witness_line(
     v: &[u8],
     v_letters: usize,
 ) -> io::Result<()> {
-    example_text::two(rt, b"not included: u of ", u_letters, b", v of ", v_letters)?;
+    print!(rt; "not included: u of {u_letters}, v of {v_letters}")?;
     if v_letters < 10 {
         example_text::row(rt, b": u", u, u_letters)?;
         example_text::row(rt, b" v", v, v_letters)?;
     }
-    example_text::word(rt, b"\n")
+    print!(rt; "\n")
 }
 
 fn inclusion_line(rt: &impl Print, answer: Inclusion, u: &[u8], v: &[u8]) -> io::Result<()> {
     match answer {
-        Inclusion::Included => example_text::word(rt, b"included\n"),
+        Inclusion::Included => print!(rt; "included\n"),
         Inclusion::NotIncluded {
             u: u_letters,
             v: v_letters,
@@ -92,18 +79,7 @@ fn inclusion_line(rt: &impl Print, answer: Inclusion, u: &[u8], v: &[u8]) -> io:
             refusal,
             input,
             place,
-        } => refused(rt, refusal, input, place),
-    }
-}
-
-fn verdict_line(rt: &impl Print, answer: LassoVerdict) -> io::Result<()> {
-    match answer {
-        LassoVerdict::Decided { grade, turns } => example_text::graded_line(rt, grade, turns),
-        LassoVerdict::Refused {
-            refusal,
-            input,
-            place,
-        } => refused(rt, refusal, input, place),
+        } => example_text::refused_line(rt, refusal, input, place),
     }
 }
 
@@ -136,9 +112,8 @@ fn verdict(
     since: usize,
     scratch: &mut [u8],
 ) -> io::Result<()> {
-    example_text::two(rt, b"before ", before, b" since ", since)?;
-    example_text::word(rt, b" ")?;
-    verdict_line(rt, rules::verdict(rule, Monitor { before, since }, scratch))
+    print!(rt; "before {before} since {since} ")?;
+    example_text::verdict_line(rt, rules::verdict(rule, Monitor { before, since }, scratch))
 }
 
 // The marks of the second marking of an inclusion are a list of their own.
@@ -151,10 +126,10 @@ fn inclusion_of(rt: &impl Print, line: &[u8], rule: &[u8], scratch: &mut [u8]) -
 fn answer(rt: &impl Print, line: &[u8], rule: &[u8], scratch: &mut [u8]) -> io::Result<()> {
     example_text::label(rt, line)?;
     match example_text::command(line) {
-        b'c' => complement(rt, rule, scratch),
-        b'i' => inclusion_of(rt, line, rule, scratch),
-        b'l' => classes(rt, rule, scratch),
-        b's' => strength_line(rt, rules::strong(rule, scratch)),
+        b"complement" => complement(rt, rule, scratch),
+        b"inclusion" => inclusion_of(rt, line, rule, scratch),
+        b"list" => classes(rt, rule, scratch),
+        b"strength" => strength_line(rt, rules::strong(rule, scratch)),
         _ => verdict(
             rt,
             rule,
@@ -165,26 +140,9 @@ fn answer(rt: &impl Print, line: &[u8], rule: &[u8], scratch: &mut [u8]) -> io::
     }
 }
 
-fn run(rt: &impl Print, line: &[u8], scratch: &mut [u8]) -> io::Result<()> {
-    let mut rule = [0u8; 4224];
-    let length = example_text::numbers(line, 2, &mut rule);
-    if example_text::command(line) != 0 {
-        answer(rt, line, &rule[..length], scratch)?;
-    }
-    Ok(())
-}
-
-fn run_all(rt: &impl Print, text: &[u8], scratch: &mut [u8]) -> io::Result<()> {
-    for line in text.split(|byte| *byte == b'\n') {
-        run(rt, line, scratch)?;
-    }
-    Ok(())
-}
-
 fn main(rt: HostRuntime) -> io::Result<()> {
     let mut scratch = [7u8; SCRATCH_SIZE];
-    run_all(
-        &rt,
+    example_text::each_example::<4224, _>(
         b"M1 W: list: 2 0 0 0 1 2 0 1 1 0 0 0 3\n\
         M1 W: strength: 2 0 0 0 1 2 0 1 1 0 0 0 3\n\
         M1 W: complement: 2 0 0 0 1 2 0 1 1 0 0 0 3\n\
@@ -253,6 +211,6 @@ fn main(rt: HostRuntime) -> io::Result<()> {
         words and remainders by 2: strength: 64 words 16 0 1 2 3 4 5 6 7 8 9 10 11 0 1 2 3 1 0 62 62 3\n\
         words and remainders by 2: complement: 64 words 16 0 1 2 3 4 5 6 7 8 9 10 11 0 1 2 3 1 0 62 62 3\n\
         words and remainders by 2 in no marks: inclusion: 64 words 16 0 1 2 3 4 5 6 7 8 9 10 11 0 1 2 3 1 0 62 62 3: 0 0\n",
-        &mut scratch,
+        |line, rule| answer(&rt, line, rule, &mut scratch),
     )
 }

@@ -1,39 +1,12 @@
 // Runs `rules::keep` and `rules::return_to` among events, marks and verdicts, on one monitor and its points, and writes a line for each.
 #![tactic(auto)]
 
-use rules::{LassoVerdict, Monitor, Moved, POINTS_SIZE, SCRATCH_SIZE};
+use rules::{Monitor, Moved, POINTS_SIZE, SCRATCH_SIZE};
 use std::io;
 
 fn monitor_line(rt: &impl Print, line: &[u8], moved: Moved) -> io::Result<Monitor> {
     example_text::label(rt, line)?;
-    match moved {
-        Moved::To(m) => {
-            example_text::two(rt, b"before ", m.before, b" since ", m.since)?;
-            example_text::word(rt, b"\n")?;
-            Ok(m)
-        }
-        Moved::Refused {
-            monitor,
-            refusal,
-            input,
-            place,
-        } => {
-            example_text::refused_line(rt, rules::number(refusal), input, place)?;
-            Ok(monitor)
-        }
-    }
-}
-
-fn verdict_line(rt: &impl Print, line: &[u8], answer: LassoVerdict) -> io::Result<()> {
-    example_text::label(rt, line)?;
-    match answer {
-        LassoVerdict::Decided { grade, turns } => example_text::graded_line(rt, grade, turns),
-        LassoVerdict::Refused {
-            refusal,
-            input,
-            place,
-        } => example_text::refused_line(rt, rules::number(refusal), input, place),
-    }
+    example_text::monitor_line(rt, moved)
 }
 
 // Calls that are not handed the points.
@@ -45,19 +18,15 @@ fn moved(
     scratch: &mut [u8],
 ) -> io::Result<Monitor> {
     match example_text::command(line) {
-        b'e' => monitor_line(
+        b"event" => monitor_line(
             rt,
             line,
-            rules::event(
-                rule,
-                m,
-                (example_text::number(line, 3) % 256) as u8,
-                scratch,
-            ),
+            rules::event(rule, m, example_text::byte(line, 3), scratch),
         ),
-        b'm' => monitor_line(rt, line, rules::mark(rule, m, scratch)),
-        b'v' => {
-            verdict_line(rt, line, rules::verdict(rule, m, scratch))?;
+        b"mark" => monitor_line(rt, line, rules::mark(rule, m, scratch)),
+        b"verdict" => {
+            example_text::label(rt, line)?;
+            example_text::verdict_line(rt, rules::verdict(rule, m, scratch))?;
             Ok(m)
         }
         _ => Ok(m),
@@ -75,8 +44,8 @@ fn pointed(
 ) -> io::Result<Monitor> {
     let name = example_text::number(line, 3);
     match example_text::command(line) {
-        b'k' => monitor_line(rt, line, rules::keep(rule, m, name, points, scratch)),
-        b'r' => monitor_line(rt, line, rules::return_to(rule, m, name, points, scratch)),
+        b"keep" => monitor_line(rt, line, rules::keep(rule, m, name, points, scratch)),
+        b"return" => monitor_line(rt, line, rules::return_to(rule, m, name, points, scratch)),
         _ => moved(rt, line, rule, m, scratch),
     }
 }
@@ -85,7 +54,7 @@ fn pointed(
 fn set_byte(line: &[u8], points: &mut [u8]) {
     let place = example_text::number(line, 2);
     if place < points.len() {
-        points[place] = (example_text::number(line, 3) % 256) as u8;
+        points[place] = example_text::byte(line, 3);
     }
 }
 
@@ -100,36 +69,28 @@ fn run(
     let mut rule = [0u8; 64];
     let length = example_text::numbers(line, 2, &mut rule);
     match example_text::command(line) {
-        b'p' => Ok(Monitor {
+        b"put" => Ok(Monitor {
             before: example_text::number(line, 2),
             since: example_text::number(line, 3),
         }),
-        b'b' => {
+        b"byte" => {
             set_byte(line, points);
             Ok(m)
         }
-        b's' => {
+        b"show" => {
             example_text::row(rt, b"points", points, points.len())?;
-            example_text::word(rt, b"\n")?;
+            print!(rt; "\n")?;
             Ok(m)
         }
         _ => pointed(rt, line, &rule[..length], m, points, scratch),
     }
 }
 
-fn run_all(rt: &impl Print, text: &[u8], points: &mut [u8], scratch: &mut [u8]) -> io::Result<()> {
-    let mut m = rules::fresh();
-    for line in text.split(|byte| *byte == b'\n') {
-        m = run(rt, line, m, points, scratch)?;
-    }
-    Ok(())
-}
-
 fn main(rt: HostRuntime) -> io::Result<()> {
     let mut points = [0u8; POINTS_SIZE];
     let mut scratch = [7u8; SCRATCH_SIZE];
-    run_all(
-        &rt,
+    let mut m = rules::fresh();
+    example_text::each_line(
         b"# A log of W, kept as 7 after letter 1, a mark and letter 0; then a mark and letter 1; then back, twice.\n\
         letter 1: event: 2 0 0 0 1 2 0 1 1 0 0 0 3: 1\n\
         mark: mark: 2 0 0 0 1 2 0 1 1 0 0 0 3\n\
@@ -167,7 +128,9 @@ fn main(rt: HostRuntime) -> io::Result<()> {
         return 7: return: 2 0 0 0 1 2 0 1 1 0 0 0 3: 7\n\
         keep 0: keep: 2 0 0 0 1 2 0 1 1 0 0 0 3: 0\n\
         : show\n",
-        &mut points,
-        &mut scratch,
+        |line| {
+            m = run(&rt, line, m, &mut points, &mut scratch)?;
+            Ok(())
+        },
     )
 }

@@ -13,18 +13,13 @@ fn written_line(
     map: &[u8],
     elements: usize,
 ) -> io::Result<()> {
-    example_text::word_and(rt, b"bytes ", length)?;
-    if length < 32 {
-        example_text::row(rt, b":", out, length)?;
-    } else {
-        example_text::row(rt, b", elements", out, 1)?;
-    }
+    example_text::rule_part(rt, out, length, 32)?;
     if elements < 8 {
         example_text::row(rt, b"; to", map, elements)?;
     } else {
         example_text::row(rt, b"; first to", map, 8)?;
     }
-    example_text::word(rt, b"\n")
+    print!(rt; "\n")
 }
 
 fn reduced_line(
@@ -40,7 +35,7 @@ fn reduced_line(
             refusal,
             input,
             place,
-        } => example_text::refused_line(rt, rules::number(refusal), input, place),
+        } => example_text::refused_line(rt, refusal, input, place),
     }
 }
 
@@ -57,50 +52,25 @@ fn tell(rt: &impl Print, rule: &[u8], scratch: &mut [u8]) -> io::Result<()> {
     )
 }
 
-// How many bytes a reduction wrote, 0 for a refusal.
-fn length_of(answer: Written) -> usize {
-    let Written::Rule(length) = answer else {
-        return 0;
-    };
-    length
-}
-
 // Reduces what a reduction wrote.
 fn tell_again(rt: &impl Print, rule: &[u8], scratch: &mut [u8]) -> io::Result<()> {
     let mut out = [9u8; RULE_SIZE];
     let mut map = [9u8; MAP_SIZE];
-    let length = length_of(rules::reduce(rule, &mut out, &mut map, scratch));
-    tell(rt, example_text::front(&out, length), scratch)
+    let written = rules::reduce(rule, &mut out, &mut map, scratch);
+    tell(rt, example_text::written_part(written, &out), scratch)
 }
 
 fn answer(rt: &impl Print, line: &[u8], rule: &[u8], scratch: &mut [u8]) -> io::Result<()> {
     example_text::label(rt, line)?;
     match example_text::command(line) {
-        b'a' => tell_again(rt, rule, scratch),
+        b"again" => tell_again(rt, rule, scratch),
         _ => tell(rt, rule, scratch),
     }
 }
 
-fn run(rt: &impl Print, line: &[u8], scratch: &mut [u8]) -> io::Result<()> {
-    let mut rule = [0u8; RULE_SIZE];
-    let length = example_text::numbers(line, 2, &mut rule);
-    if example_text::command(line) != 0 {
-        answer(rt, line, &rule[..length], scratch)?;
-    }
-    Ok(())
-}
-
-fn run_all(rt: &impl Print, text: &[u8], scratch: &mut [u8]) -> io::Result<()> {
-    for line in text.split(|byte| *byte == b'\n') {
-        run(rt, line, scratch)?;
-    }
-    Ok(())
-}
-
 fn main(rt: HostRuntime) -> io::Result<()> {
     let mut scratch = [7u8; SCRATCH_SIZE];
-    run_all(
-        &rt,
+    example_text::each_example::<RULE_SIZE, _>(
         b"M1 W: reduce: 2 0 0 0 1 2 0 1 1 0 0 0 3\n\
         M4 W with all pairs: reduce: 2 0 0 0 1 2 0 1 3 0 0 0 3 0 1 3 1 1 3\n\
         M6 Z: reduce: 2 0 1 1 0 2 1 0 1 0 0 0 3\n\
@@ -128,6 +98,6 @@ fn main(rt: HostRuntime) -> io::Result<()> {
         64 remainders: reduce: 64 sums 16 16*1 1 3*0 3\n\
         # How often letter 0 occurs, up to five times, with grade 3 from five on. Blocks split one at a time, so three rounds are needed.\n\
         five times: reduce: 6 0 1 2 3 4 5 1 2 3 4 5 5 2 3 4 5 5 5 3 4 5 5 5 5 4 5 5 5 5 5 5 5 5 5 5 5 2 1 0 2 0 5 0 3 5 5 3\n",
-        &mut scratch,
+        |line, rule| answer(&rt, line, rule, &mut scratch),
     )
 }

@@ -6,67 +6,43 @@
 use rules::{Inspected, RULE_SIZE, SCRATCH_SIZE};
 use std::io;
 
+// A file has room for one byte more than it may have.
+const FILE_SIZE: usize = RULE_SIZE + 1;
+
 fn answer_line(rt: &impl Print, answer: Inspected) -> io::Result<()> {
     match answer {
         Inspected::Rule {
             elements,
             letters,
             marks,
-        } => example_text::three_line(
-            rt,
-            b"elements ",
-            elements,
-            b" letters ",
-            letters,
-            b" marks ",
-            marks,
-        ),
+        } => println!(rt; "elements {elements} letters {letters} marks {marks}"),
         Inspected::Refused {
             refusal,
             input: _,
             place,
-        } => {
-            example_text::two(
-                rt,
-                b"refused ",
-                rules::number(refusal) as usize,
-                b" at ",
-                place,
-            )?;
-            example_text::word(rt, b"\n")
-        }
+        } => println!(rt; "refused {} at {place}", rules::number(refusal)),
     }
-}
-
-// Writes the line of an example: its label and the answer. A file has room for one byte more than it may have.
-fn tell(rt: &impl Print, line: &[u8], scratch: &mut [u8]) -> io::Result<()> {
-    let mut rule = [0u8; RULE_SIZE + 1];
-    let length = example_text::numbers(line, 2, &mut rule);
-    example_text::label(rt, line)?;
-    answer_line(rt, rules::inspect(&rule[..length], scratch))
 }
 
 // An example asks for scratch of its full size, or for scratch that is a byte too short.
-fn run(rt: &impl Print, line: &[u8], scratch: &mut [u8], short: &mut [u8]) -> io::Result<()> {
+fn answer(
+    rt: &impl Print,
+    line: &[u8],
+    rule: &[u8],
+    scratch: &mut [u8],
+    short: &mut [u8],
+) -> io::Result<()> {
+    example_text::label(rt, line)?;
     match example_text::command(line) {
-        b'i' => tell(rt, line, scratch),
-        b's' => tell(rt, line, short),
-        _ => Ok(()),
+        b"short" => answer_line(rt, rules::inspect(rule, short)),
+        _ => answer_line(rt, rules::inspect(rule, scratch)),
     }
-}
-
-fn run_all(rt: &impl Print, text: &[u8], scratch: &mut [u8], short: &mut [u8]) -> io::Result<()> {
-    for line in text.split(|byte| *byte == b'\n') {
-        run(rt, line, scratch, short)?;
-    }
-    Ok(())
 }
 
 fn main(rt: HostRuntime) -> io::Result<()> {
     let mut scratch = [0u8; SCRATCH_SIZE];
     let mut short = [0u8; SCRATCH_SIZE - 1];
-    run_all(
-        &rt,
+    example_text::each_example::<FILE_SIZE, _>(
         b"# The rules of document 01, a mark of W that is not linked, and a byte after W.\n\
         W: inspect: 2 0 0 0 1 2 0 1 1 0 0 0 3\n\
         M8: inspect: 2 1 0 0 0 1 0 0 0\n\
@@ -126,7 +102,6 @@ fn main(rt: HostRuntime) -> io::Result<()> {
         # Scratch that is a byte too short; 13 comes before all others.\n\
         W, scratch of 65,535 bytes: short: 2 0 0 0 1 2 0 1 1 0 0 0 3\n\
         an empty file, scratch of 65,535 bytes: short\n",
-        &mut scratch,
-        &mut short,
+        |line, rule| answer(&rt, line, rule, &mut scratch, &mut short),
     )
 }

@@ -13,9 +13,9 @@ fn partition_line(
 ) -> io::Result<()> {
     match answer {
         Partition::Blocks { rounds, finished } => {
-            example_text::word_and(rt, b"rounds ", rounds)?;
+            print!(rt; "rounds {rounds}")?;
             if finished {
-                example_text::word(rt, b", finished")?;
+                print!(rt; ", finished")?;
             }
             example_text::row(
                 rt,
@@ -23,13 +23,13 @@ fn partition_line(
                 blocks,
                 example_text::byte_at(rule, 0) as usize,
             )?;
-            example_text::word(rt, b"\n")
+            print!(rt; "\n")
         }
         Partition::Refused {
             refusal,
             input,
             place,
-        } => example_text::refused_line(rt, rules::number(refusal), input, place),
+        } => example_text::refused_line(rt, refusal, input, place),
     }
 }
 
@@ -58,31 +58,14 @@ fn answer(rt: &impl Print, line: &[u8], rule: &[u8], scratch: &mut [u8]) -> io::
     let limit = example_text::number(line, 3);
     example_text::label(rt, line)?;
     match example_text::command(line) {
-        b's' => tell_short(rt, rule, limit, scratch),
+        b"short" => tell_short(rt, rule, limit, scratch),
         _ => tell(rt, rule, limit, scratch),
     }
 }
 
-fn run(rt: &impl Print, line: &[u8], scratch: &mut [u8]) -> io::Result<()> {
-    let mut rule = [0u8; 64];
-    let length = example_text::numbers(line, 2, &mut rule);
-    if example_text::command(line) != 0 {
-        answer(rt, line, &rule[..length], scratch)?;
-    }
-    Ok(())
-}
-
-fn run_all(rt: &impl Print, text: &[u8], scratch: &mut [u8]) -> io::Result<()> {
-    for line in text.split(|byte| *byte == b'\n') {
-        run(rt, line, scratch)?;
-    }
-    Ok(())
-}
-
 fn main(rt: HostRuntime) -> io::Result<()> {
     let mut scratch = [7u8; SCRATCH_SIZE];
-    run_all(
-        &rt,
+    example_text::each_example::<64, _>(
         b"W: rounds: 2 0 0 0 1 2 0 1 1 0 0 0 3: 0\n\
         W with all pairs: rounds: 2 0 0 0 1 2 0 1 3 0 0 0 3 0 1 3 1 1 3: 0\n\
         Z with letter 0 only: rounds: 2 0 1 1 0 1 1 1 0 0 0 3: 64\n\
@@ -101,6 +84,6 @@ fn main(rt: HostRuntime) -> io::Result<()> {
         Z, limit 65: rounds: 2 0 1 1 0 2 1 0 1 0 0 0 3: 65\n\
         M8, limit 65: rounds: 2 1 0 0 0 1 0 0 0: 65\n\
         M8, limit 65, 63 bytes: short: 2 1 0 0 0 1 0 0 0: 65\n",
-        &mut scratch,
+        |line, rule| answer(&rt, line, rule, &mut scratch),
     )
 }

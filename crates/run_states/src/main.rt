@@ -6,14 +6,14 @@ use std::io;
 
 fn kind_line(rt: &impl Print, answer: StateKind) -> io::Result<()> {
     match answer {
-        StateKind::Plain => example_text::word(rt, b"plain\n"),
-        StateKind::Initial => example_text::word(rt, b"initial\n"),
-        StateKind::Final => example_text::word(rt, b"final\n"),
+        StateKind::Plain => print!(rt; "plain\n"),
+        StateKind::Initial => print!(rt; "initial\n"),
+        StateKind::Final => print!(rt; "final\n"),
         StateKind::Refused {
             refusal,
             input,
             place,
-        } => example_text::refused_line(rt, rules::number(refusal), input, place),
+        } => example_text::refused_line(rt, refusal, input, place),
     }
 }
 
@@ -21,13 +21,13 @@ fn list_line(rt: &impl Print, answer: SuccessorList, out: &[u8]) -> io::Result<(
     match answer {
         SuccessorList::Listed(count) => {
             example_text::row(rt, b"leads to", out, count)?;
-            example_text::word(rt, b"\n")
+            print!(rt; "\n")
         }
         SuccessorList::Refused {
             refusal,
             input,
             place,
-        } => example_text::refused_line(rt, rules::number(refusal), input, place),
+        } => example_text::refused_line(rt, refusal, input, place),
     }
 }
 
@@ -51,34 +51,17 @@ fn tell_list(
 fn answer(rt: &impl Print, line: &[u8], rule: &[u8], scratch: &mut [u8]) -> io::Result<()> {
     let s = example_text::number(line, 3);
     let e = example_text::number(line, 4);
-    let last = (example_text::number(line, 5) % 256) as u8;
+    let last = example_text::byte(line, 5);
     example_text::label(rt, line)?;
     match example_text::command(line) {
-        b'k' => kind_line(rt, rules::state_kind(rule, s, e, last, scratch)),
+        b"kind" => kind_line(rt, rules::state_kind(rule, s, e, last, scratch)),
         _ => tell_list(rt, rule, s, e, last, scratch),
     }
 }
 
-fn run(rt: &impl Print, line: &[u8], scratch: &mut [u8]) -> io::Result<()> {
-    let mut rule = [0u8; 64];
-    let length = example_text::numbers(line, 2, &mut rule);
-    if example_text::command(line) != 0 {
-        answer(rt, line, &rule[..length], scratch)?;
-    }
-    Ok(())
-}
-
-fn run_all(rt: &impl Print, text: &[u8], scratch: &mut [u8]) -> io::Result<()> {
-    for line in text.split(|byte| *byte == b'\n') {
-        run(rt, line, scratch)?;
-    }
-    Ok(())
-}
-
 fn main(rt: HostRuntime) -> io::Result<()> {
     let mut scratch = [7u8; SCRATCH_SIZE];
-    run_all(
-        &rt,
+    example_text::each_example::<64, _>(
         b"W (0, 0): kind: 2 0 0 0 1 2 0 1 1 0 0 0 3: 0: 0: 3\n\
         W (0, 1): kind: 2 0 0 0 1 2 0 1 1 0 0 0 3: 0: 1: 1\n\
         W (none, 1): kind: 2 0 0 0 1 2 0 1 1 0 0 0 3: 64: 1: 1\n\
@@ -103,6 +86,6 @@ fn main(rt: HostRuntime) -> io::Result<()> {
         Z (2, 0) by 2: list: 2 0 1 1 0 2 1 0 1 0 0 0 3: 2: 0: 2\n\
         Z (0, 0) by 2: list: 2 0 1 1 0 2 1 0 1 0 0 0 3: 0: 0: 2\n\
         M8 (9, 9) by 9: list: 2 1 0 0 0 1 0 0 0: 9: 9: 9\n",
-        &mut scratch,
+        |line, rule| answer(&rt, line, rule, &mut scratch),
     )
 }

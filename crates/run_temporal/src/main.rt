@@ -2,38 +2,8 @@
 // grades that a lasso has by two rules, by `next` of the first and by `until` of both.
 #![tactic(auto)]
 
-use rules::{LassoVerdict, RULE_SIZE, SCRATCH_SIZE, UNTIL_CLASSES_SIZE, Written};
+use rules::{LassoVerdict, RULE_SIZE, SCRATCH_SIZE, UNTIL_CLASSES_SIZE};
 use std::io;
-
-// What was written: its bytes where they are few, and else how many there are and the number of its elements.
-fn bytes_line(rt: &impl Print, out: &[u8], length: usize) -> io::Result<()> {
-    example_text::word_and(rt, b"bytes ", length)?;
-    if length < 80 {
-        example_text::row(rt, b":", out, length)?;
-    } else {
-        example_text::row(rt, b", elements", out, 1)?;
-    }
-    example_text::word(rt, b"\n")
-}
-
-fn written_line(rt: &impl Print, answer: Written, out: &[u8]) -> io::Result<()> {
-    match answer {
-        Written::Rule(length) => bytes_line(rt, out, length),
-        Written::Refused {
-            refusal,
-            input,
-            place,
-        } => example_text::refused_line(rt, rules::number(refusal), input, place),
-    }
-}
-
-// How many bytes were written, 0 for a refusal.
-fn length_of(answer: Written) -> usize {
-    let Written::Rule(length) = answer else {
-        return 0;
-    };
-    length
-}
 
 fn first_letter(rt: &impl Print, line: &[u8]) -> io::Result<()> {
     let mut out = [9u8; RULE_SIZE];
@@ -43,7 +13,7 @@ fn first_letter(rt: &impl Print, line: &[u8]) -> io::Result<()> {
         example_text::number(line, 4),
         &mut out,
     );
-    written_line(rt, answer, &out)
+    example_text::written_line(rt, answer, &out, 80)
 }
 
 fn constant(rt: &impl Print, line: &[u8]) -> io::Result<()> {
@@ -53,12 +23,13 @@ fn constant(rt: &impl Print, line: &[u8]) -> io::Result<()> {
         example_text::number(line, 3),
         &mut out,
     );
-    written_line(rt, answer, &out)
+    example_text::written_line(rt, answer, &out, 80)
 }
 
 fn next(rt: &impl Print, first: &[u8], scratch: &mut [u8]) -> io::Result<()> {
     let mut out = [9u8; RULE_SIZE];
-    written_line(rt, rules::next(first, &mut out, scratch), &out)
+    let answer = rules::next(first, &mut out, scratch);
+    example_text::written_line(rt, answer, &out, 80)
 }
 
 fn until(
@@ -69,11 +40,8 @@ fn until(
     scratch: &mut [u8],
 ) -> io::Result<()> {
     let mut out = [9u8; RULE_SIZE];
-    written_line(
-        rt,
-        rules::until(first, second, &mut out, classes, scratch),
-        &out,
-    )
+    let answer = rules::until(first, second, &mut out, classes, scratch);
+    example_text::written_line(rt, answer, &out, 80)
 }
 
 // The grade of a lasso, or 9 for a refusal.
@@ -86,8 +54,9 @@ fn grade_of(answer: LassoVerdict) -> usize {
 
 fn next_grade(first: &[u8], u: &[u8], v: &[u8], scratch: &mut [u8]) -> usize {
     let mut out = [9u8; RULE_SIZE];
-    let length = length_of(rules::next(first, &mut out, scratch));
-    grade_of(rules::member(example_text::front(&out, length), u, v, scratch))
+    let written = rules::next(first, &mut out, scratch);
+    let later = example_text::written_part(written, &out);
+    grade_of(rules::member(later, u, v, scratch))
 }
 
 fn until_grade(
@@ -99,8 +68,9 @@ fn until_grade(
     scratch: &mut [u8],
 ) -> usize {
     let mut out = [9u8; RULE_SIZE];
-    let length = length_of(rules::until(first, second, &mut out, classes, scratch));
-    grade_of(rules::member(example_text::front(&out, length), u, v, scratch))
+    let written = rules::until(first, second, &mut out, classes, scratch);
+    let either = example_text::written_part(written, &out);
+    grade_of(rules::member(either, u, v, scratch))
 }
 
 // The grades of a lasso by both rules.
@@ -114,7 +84,7 @@ fn two_grades(
 ) -> io::Result<()> {
     let one = grade_of(rules::member(first, u, v, scratch));
     let two = grade_of(rules::member(second, u, v, scratch));
-    example_text::two(rt, b"first ", one, b", second ", two)
+    print!(rt; "first {one}, second {two}")
 }
 
 fn grades(
@@ -132,8 +102,7 @@ fn grades(
     two_grades(rt, first, second, &u[..m], &v[..n], scratch)?;
     let later = next_grade(first, &u[..m], &v[..n], scratch);
     let either = until_grade(first, second, &u[..m], &v[..n], classes, scratch);
-    example_text::two(rt, b", next ", later, b", until ", either)?;
-    example_text::word(rt, b"\n")
+    println!(rt; ", next {later}, until {either}")
 }
 
 fn answer(
@@ -146,10 +115,10 @@ fn answer(
 ) -> io::Result<()> {
     example_text::label(rt, line)?;
     match example_text::command(line) {
-        b'n' => next(rt, first, scratch),
-        b'u' => until(rt, first, second, classes, scratch),
-        b'g' => grades(rt, line, first, second, classes, scratch),
-        b'f' => first_letter(rt, line),
+        b"next" => next(rt, first, scratch),
+        b"until" => until(rt, first, second, classes, scratch),
+        b"grades" => grades(rt, line, first, second, classes, scratch),
+        b"first" => first_letter(rt, line),
         _ => constant(rt, line),
     }
 }
@@ -159,15 +128,8 @@ fn run(rt: &impl Print, line: &[u8], classes: &mut [u8], scratch: &mut [u8]) -> 
     let mut second = [0u8; RULE_SIZE];
     let one = example_text::numbers(line, 2, &mut first);
     let two = example_text::numbers(line, 3, &mut second);
-    if example_text::command(line) != 0 {
+    if !example_text::command(line).is_empty() {
         answer(rt, line, &first[..one], &second[..two], classes, scratch)?;
-    }
-    Ok(())
-}
-
-fn run_all(rt: &impl Print, text: &[u8], classes: &mut [u8], scratch: &mut [u8]) -> io::Result<()> {
-    for line in text.split(|byte| *byte == b'\n') {
-        run(rt, line, classes, scratch)?;
     }
     Ok(())
 }
@@ -175,8 +137,7 @@ fn run_all(rt: &impl Print, text: &[u8], classes: &mut [u8], scratch: &mut [u8])
 fn main(rt: HostRuntime) -> io::Result<()> {
     let mut classes = [5u8; UNTIL_CLASSES_SIZE];
     let mut scratch = [7u8; SCRATCH_SIZE];
-    run_all(
-        &rt,
+    example_text::each_line(
         b"# Grades of a lasso by the first rule, by the second, by `next` of the first and by `until` of both. Letter 0 first has grade 2, letter 1 first has 3.\n\
         two letters, u none, v 0 1: grades: 2 0 0 1 1 2 0 1 2 0 0 0 2 0 1 2: 2 0 0 1 1 2 0 1 2 0 1 0 3 1 1 3: : 0 1\n\
         two letters, u 0, v 1: grades: 2 0 0 1 1 2 0 1 2 0 0 0 2 0 1 2: 2 0 0 1 1 2 0 1 2 0 1 0 3 1 1 3: 0: 1\n\
@@ -220,7 +181,6 @@ fn main(rt: HostRuntime) -> io::Result<()> {
         17 letters: constant: 17: 3\n\
         grade 4: first: 2: 1: 4\n\
         grade 4 of every lasso: constant: 2: 4\n",
-        &mut classes,
-        &mut scratch,
+        |line| run(&rt, line, &mut classes, &mut scratch),
     )
 }
