@@ -6,20 +6,6 @@ ghost use Rattle.std.specs.Prelude.{◌≤◌, length, IfOk};
 use rules::{RULE_SIZE, SCRATCH_SIZE, Summary};
 use std::io::{self, Read};
 
-// Writes a number after a word.
-fn word_and(rt: &impl Print, word: &[u8], n: usize) -> io::Result<()> {
-    rt.write_all(word)?;
-    rt.print(n)
-}
-
-// 1 for a strong rule, 0 for a weak one.
-fn digit(strong: bool) -> usize {
-    if strong {
-        return 1;
-    }
-    0
-}
-
 fn line(rt: &impl Print, answer: Summary) -> io::Result<()> {
     match answer {
         Summary::Counts {
@@ -31,27 +17,20 @@ fn line(rt: &impl Print, answer: Summary) -> io::Result<()> {
             strong,
             reduced,
         } => {
-            word_and(rt, b"elements ", elements)?;
-            word_and(rt, b" letters ", letters)?;
-            word_and(rt, b" marks ", marks)?;
-            word_and(rt, b" linked ", linked)?;
-            word_and(rt, b" classes ", classes)?;
-            word_and(rt, b" strong ", digit(strong))?;
-            word_and(rt, b" reduced ", reduced)?;
+            print!(rt; "elements {elements} letters {letters} marks {marks}")?;
+            print!(rt; " linked {linked} classes {classes}")?;
+            println!(rt; " strong {} reduced {reduced}", u8::from(strong))
         }
         Summary::Refused {
             refusal,
             input: _,
             place,
-        } => {
-            word_and(rt, b"refused ", rules::number(refusal) as usize)?;
-            word_and(rt, b" at ", place)?;
-        }
+        } => println!(rt; "refused {} at {place}", rules::number(refusal)),
     }
-    rt.write_all(b"\n")
 }
 
-// Reads until the buffer is full or the input ends, and answers how many bytes it put at the buffer's start.
+// Reads until the buffer is full or the input ends, and answers how many bytes it put at the buffer's start. The library's `read_exact` does not
+// say how many there were where the input ends first, and its `read_to_end` needs a heap, so this is a loop over `read`.
 fn read_full(reader: &mut impl Read, input: &mut [u8]) -> io::Result<usize>
     ensures { IfOk result (λ n. n ≤ length input.old) }
 {
