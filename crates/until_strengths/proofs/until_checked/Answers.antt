@@ -14,8 +14,5 @@ until_of_strong-requires c = strong_place c.compare_both.ensures c.requires c.in
 pub shape_of-classes : goal.shape_of-classes
 shape_of-classes c = c.until_of_strong.ensures.classes_length
 
-pub shape_of-scratch : goal.shape_of-scratch
-shape_of-scratch c = (strong_made c.compare_both.ensures c.until_of_strong.ensures).same_length
-
 pub returns-in-Ok : goal.returns-in-Ok
 returns-in-Ok c = strong_made c.compare_both.ensures c.until_of_strong.ensures
