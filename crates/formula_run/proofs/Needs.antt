@@ -42,9 +42,9 @@ module _ {letters : ℕ} {formula : List ℕ} {at height : ℕ} (f : FirstFailur
   code_known = ⊎_elim (λ h. h) (λ l. absurd ((passes_head f).nowhere at (record { above = l; is_place = refl }))) (le_or_lt (operation_code_at formula at) 12)
 
   -- so that there is one
-  pub some_read : {r : Option declared.Operation} → OperationRead formula at r → IsSome r
-  some_read {None} above = absurd (let z : ⊥ = omega (arith, above, code_known) in z)
-  some_read {Some o} is = refl
+  pub some_read : (r : Option declared.Operation) → OperationRead formula at r → IsSome r
+  some_read None above = absurd (let z : ⊥ = omega (arith, above, code_known) in z)
+  some_read (Some o) is = refl
 
   -- of the operation as it was read
   module _ {operation : declared.Operation} (read : IsOperationAt formula at operation) where

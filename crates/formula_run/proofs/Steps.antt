@@ -27,9 +27,9 @@ use Rattle.formula_run.specs.Running.{FormulaStands, FormulaRan}
 use Rattle.formula_run.proofs.Needs.{passed_enough, stack_counted}
 
 -- an operation that was carried out passed its checks
-ok_passed : {checks : List Check} {at : ℕ} (answer : Result Unit Refusal) → IsOk answer → FirstFailure checks (applied_verdict at answer) → FirstFailure checks passed
-ok_passed (Ok done) ok f = f
-ok_passed (Err refusal) ok f = absurd (let z : false ≡ true = ok in cc)
+ok_passed : {checks : List Check} (at : ℕ) (answer : Result Unit Refusal) → IsOk answer → FirstFailure checks (applied_verdict at answer) → FirstFailure checks passed
+ok_passed at (Ok done) ok f = f
+ok_passed at (Err refusal) ok f = absurd (let z : false ≡ true = ok in cc)
 
 pub not_refused : (answer : Result Unit Refusal) → ((refusal : Refusal) → answer ≡ Err refusal → ⊥) → IsOk answer
 not_refused (Ok done) n = refl
@@ -152,7 +152,7 @@ module _ {letters : ℕ} {formula stack : List ℕ} {at height : ℕ} (m : Runni
                   (passed_last (operation_checks letters formula at height) _ both_passed)));
               whole = λ v g.
                   making_whole v (passed_before _ _
-                  (ok_passed answer ok making_decided)
+                  (ok_passed at answer ok making_decided)
                   (subst (λ (x : ℕ). FirstFailure (run_checks n letters formula x after) v) (sym place) g));
               at_end =
                   ap (λ (x : ℕ). stack_from n formula x after) (sym place) ∙ sym (stack_on letters formula at m.formulas n h)

@@ -13,7 +13,7 @@ pub read-requires : goal.read-requires
 read-requires c = omega (arith, c.loop-at-test.true, scanned_length c.requires.first_failure)
 
 pub unwrap-operation-requires : goal.unwrap-operation-requires
-unwrap-operation-requires c = some_read (operation_passed c.loop-at.invariant.0 c.loop-at-test.true) c.read.ensures
+unwrap-operation-requires c = some_read (operation_passed c.loop-at.invariant.0 c.loop-at-test.true) _ c.read.ensures
 
 pub apply-requires : goal.apply-requires
 apply-requires c =
@@ -26,18 +26,18 @@ apply-requires c =
 pub overflow_add-at : goal.overflow_add-at
 overflow_add-at c =
     let read = read_at c.unwrap-operation.ensures c.read.ensures in
-    omega (arith, size_within c.loop-at.invariant.0 c.loop-at-test.true read c.apply.ensures.applied c.size.ensures, scanned_length c.requires.first_failure)
+    omega (arith, size_within c.loop-at.invariant.0 c.loop-at-test.true read c.apply.ensures.applied c.size-at.ensures, scanned_length c.requires.first_failure)
 
 pub loop-at-smaller : goal.loop-at-smaller
 loop-at-smaller c =
     let read = read_at c.unwrap-operation.ensures c.read.ensures in
-    omega (arith, c.loop-at-test.true, size_some c.loop-at.invariant.0 c.loop-at-test.true read c.apply.ensures.applied c.size.ensures)
+    omega (arith, c.loop-at-test.true, size_some c.loop-at.invariant.0 c.loop-at-test.true read c.apply.ensures.applied c.size-at.ensures)
 
 pub loop-at-preserved : goal.loop-at-preserved
 loop-at-preserved c =
     let held = c.loop-at.invariant in
     let read = read_at c.unwrap-operation.ensures c.read.ensures in
-    (running_next held.0 c.loop-at-test.true read c.apply.ensures.applied c.size.ensures c.height_after-height.ensures (not_refused _ c.in_default.not-Err), lengths_on held.1 c.apply.ensures.lengths)
+    (running_next held.0 c.loop-at-test.true read c.apply.ensures.applied c.size-at.ensures c.height_after-height.ensures (not_refused _ c.in_default.not-Err), lengths_on held.1 c.apply.ensures.lengths)
 
 pub shape_of-stack-in-Err : goal.shape_of-stack-in-Err
 shape_of-stack-in-Err c = (lengths_on c.loop-at.invariant.1 c.apply.ensures.lengths).stack_length
