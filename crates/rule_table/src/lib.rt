@@ -31,21 +31,24 @@ pub fn first_not_associative(rule: &[u8], n: usize, k: usize) -> Option<(usize, 
     requires { Table rule.now n k }
     ensures { TripleAnswer rule.now n k result }
 {
-    // By number: elements are the numbers below n.
-    for a in 0..n {
-        for b in 0..n {
-            let ab = product(rule, n, a, b);
-            for c in 0..n {
-                let bc = product(rule, n, b, c);
-                let left = product(rule, n, ab, c);
-                let right = product(rule, n, a, bc);
-                if left != right {
-                    return Some((a, b, c));
+    let found = 'search: loop {
+        // By number: elements are the numbers below n.
+        for a in 0..n {
+            for b in 0..n {
+                let ab = product(rule, n, a, b);
+                for c in 0..n {
+                    let bc = product(rule, n, b, c);
+                    let left = product(rule, n, ab, c);
+                    let right = product(rule, n, a, bc);
+                    if left != right {
+                        break 'search Some((a, b, c));
+                    }
                 }
             }
         }
-    }
-    None
+        break 'search None;
+    };
+    found
 }
 
 // The first power of an element that is idempotent, with its exponent.

@@ -5,6 +5,9 @@ use Rattle.rule_table.proofs.Facts.{table_place, product_below}
 use Rattle.rule_table.proofs.Searched.{searched_start, next_c, next_b, next_a, searched_all, searched_found}
 use Rattle.rule_table.proofs.first_not_associative.Goals as goal
 
+pub search-init : goal.search-init
+search-init c = tt
+
 pub loop-a-init : goal.loop-a-init
 loop-a-init c = searched_start c.requires
 
@@ -53,5 +56,5 @@ returns-then-left-right c =
     (omega arith)
     c.if-left-right.true
 
-pub returns : goal.returns
-returns c = searched_all c.loop-a.invariant c.loop-a-test.false
+pub returns-after-loop-a : goal.returns-after-loop-a
+returns-after-loop-a c = searched_all c.loop-a.invariant c.loop-a-test.false

@@ -11,3 +11,9 @@ invariant-loop-b l = Searched l.rule l.n l.k l.a l.b 0
 
 abbrev pub invariant-loop-a : goal.invariant-loop-a
 invariant-loop-a l = Searched l.rule l.n l.k l.a 0 0
+
+abbrev pub invariant-search : goal.invariant-search
+invariant-search l = Unit {0}
+
+abbrev pub decreases-search : goal.decreases-search
+decreases-search l = 0
