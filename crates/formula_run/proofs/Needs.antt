@@ -11,12 +11,11 @@ use Rattle.answer.specs.Checks.{passed, FirstFailure}
 use Rattle.answer.proofs.Order.{passes_head, passes_tail}
 use Rattle.temporal.specs.Formulas.{Formula}
 use Rattle.temporal_promises.specs.FirstLetter.{in_set}
-use Rattle.formula_promises.specs.Operations.{Operation, push_set, push_constant, push_copy, on_one, on_two, operation_code_at, operation_at, asks, height_after, stack_after}
+use Rattle.formula_promises.specs.Operations.{Operation, push_set, push_constant, push_copy, on_one, on_two, operation_at, asks, height_after, stack_after}
 use Rattle.formula_promises.specs.Checks.{highest_stack, longest_formula, grade_of, set_of, operation_checks, scan_checks}
 use Rattle.formula_promises.specs.Values.{meant}
-use Rattle.formula_promises.specs.declared.Operation as declared
-use Rattle.formula_reading.specs.Readings.{IsOperationAt, OperationRead}
-use Rattle.std.specs.Prelude.{Option, None, Some, IsSome}
+use Rattle.formula_reading.specs.declared.Reading.{Reading}
+use Rattle.formula_reading.specs.Readings.{ReadingAt}
 use Rattle.formula_operations.specs.Applying.{ApplyNeeds}
 use Rattle.formula_scan.proofs.Passing.{passed_few}
 
@@ -38,19 +37,11 @@ module _ {letters : ℕ} {formula : List ℕ} {at height : ℕ} (f : FirstFailur
       ⊎_elim (λ h. h) (λ l. absurd ((passes_head (passes_tail (passes_tail (passes_tail (passes_tail f))))).nowhere at (record { unbalanced = inl l; is_place = refl })))
       (le_or_lt (asks (operation_at formula at)) height)
 
-  code_known : operation_code_at formula at ≤ 12
-  code_known = ⊎_elim (λ h. h) (λ l. absurd ((passes_head f).nowhere at (record { above = l; is_place = refl }))) (le_or_lt (operation_code_at formula at) 12)
-
-  -- so that there is one
-  pub some_read : (r : Option declared.Operation) → OperationRead formula at r → IsSome r
-  some_read None above = absurd (let z : ⊥ = omega (arith, above, code_known) in z)
-  some_read (Some o) is = refl
-
   -- of the operation as it was read
-  module _ {operation : declared.Operation} (read : IsOperationAt formula at operation) where
-    pub apply_needs : 1 ≤ letters → letters ≤ 16 → height ≤ highest_stack → ApplyNeeds letters (meant operation) height
+  module _ {r : Reading} (read : ReadingAt formula at r) where
+    pub apply_needs : 1 ≤ letters → letters ≤ 16 → height ≤ highest_stack → ApplyNeeds letters (meant r.operation) height
     apply_needs some few low =
-        let is = sym read.is in
+        let is = sym read.operation in
         record {
           letters_some = some;
           letters_few = few;
@@ -58,15 +49,11 @@ module _ {letters : ℕ} {formula : List ℕ} {at height : ℕ} (f : FirstFailur
               (⊎_elim (λ h. h) (λ l. absurd ((passes_head (passes_tail (passes_tail f))).nowhere (at + 1) (record { above = l; is_place = refl }))) (le_or_lt (grade_of (operation_at formula at)) 3));
           known_letters = λ a l t.
               (passes_head (passes_tail (passes_tail (passes_tail f)))).nowhere (at + 2)
-              (record { letter = a; foreign = l; is_in_set = subst (λ (o : Operation). T (in_set (set_of o) a)) read.is t; is_place = refl });
+              (record { letter = a; foreign = l; is_in_set = subst (λ (o : Operation). T (in_set (set_of o) a)) read.operation t; is_place = refl });
           enough = subst (λ (o : Operation). asks o ≤ height) is passed_enough;
           few = subst (λ (o : Operation). height_after o height ≤ highest_stack) is (passed_few f);
           low = low;
         }
-
-pub read_at : {formula : List ℕ} {at : ℕ} {r : Option declared.Operation} {operation : declared.Operation} → r ≡ Some operation → OperationRead formula at r
-    → IsOperationAt formula at operation
-read_at {formula} {at} e read = subst (λ (o : Option declared.Operation). OperationRead formula at o) e read
 
 -- an operation leaves as many formulas as it is said to
 pub stack_counted : (o : Operation) (stack : List Formula) {height : ℕ} → length stack ≡ height → asks o ≤ height → length (stack_after o stack) ≡ height_after o height

@@ -17,8 +17,8 @@ use Rattle.formula_promises.specs.Checks.{highest_stack, makings, making_checks,
 use Rattle.formula_slots.specs.Slots.{Standing, none_stands}
 use Rattle.formula_slots.proofs.Stands.{standing_top}
 use Rattle.formula_promises.specs.Values.{meant}
-use Rattle.formula_promises.specs.declared.Operation as declared
-use Rattle.formula_reading.specs.Readings.{IsOperationAt}
+use Rattle.formula_reading.specs.declared.Reading.{Reading}
+use Rattle.formula_reading.specs.Readings.{ReadingAt}
 use Rattle.std.specs.Prelude.{Result, Ok, Err, IsOk}
 use Rattle.formula_operations.specs.Applying.{applied_verdict, OperationApplied}
 use Rattle.formula_scan.proofs.Operations.{bytes_few}
@@ -103,10 +103,10 @@ module _ {letters : ℕ} {formula stack : List ℕ} {at height : ℕ} (m : Runni
         m.whole v (subst (λ (n : ℕ). FirstFailure (run_checks n letters formula at m.formulas) v) last_step
         (subst (λ (checks : List Check). FirstFailure checks v) (sym (run_on letters formula at m.formulas (m.steps - 1) h)) f))
 
-    module _ {exit : List ℕ} {answer : Result Unit Refusal} {operation : declared.Operation} (read : IsOperationAt formula at operation)
-        (applied : OperationApplied letters (meant operation) height stack exit answer) where
+    module _ {exit : List ℕ} {answer : Result Unit Refusal} {r : Reading} (read : ReadingAt formula at r)
+        (applied : OperationApplied letters (meant r.operation) height stack exit answer) where
       is_operation : OperationApplied letters (operation_at formula at) height stack exit answer
-      is_operation = subst (λ (o : Operation). OperationApplied letters o height stack exit answer) read.is applied
+      is_operation = subst (λ (o : Operation). OperationApplied letters o height stack exit answer) read.operation applied
 
       making_decided : FirstFailure (making_checks letters at (makings (operation_at formula at) m.formulas)) (applied_verdict at answer)
       making_decided = is_operation.checked m.formulas m.counted m.standing at
@@ -120,9 +120,9 @@ module _ {letters : ℕ} {formula stack : List ℕ} {at height : ℕ} (m : Runni
       }
 
       -- the operation's bytes
-      module _ {size : ℕ} (size_is : size ≡ bytes_of (meant operation)) where
+      module _ {size : ℕ} (size_is : size ≡ bytes_of (meant r.operation)) where
         size_at : size ≡ bytes_of (operation_at formula at)
-        size_at = size_is ∙ ap bytes_of read.is
+        size_at = size_is ∙ ap bytes_of read.operation
 
         pub size_some : 1 ≤ size
         size_some = omega (arith, size_at, (bytes_few (operation_at formula at)).0)
@@ -130,10 +130,10 @@ module _ {letters : ℕ} {formula stack : List ℕ} {at height : ℕ} (m : Runni
         pub size_within : at + size ≤ length formula
         size_within = omega (arith, size_at, passed_within operation_passed)
 
-        pub running_next : {left : ℕ} → left ≡ height_after (meant operation) height → IsOk answer → Running letters formula exit (at + size) left
+        pub running_next : {left : ℕ} → left ≡ height_after (meant r.operation) height → IsOk answer → Running letters formula exit (at + size) left
         running_next {left} left_is ok =
             let place : behind formula at ≡ at + size = ap (λ (n : ℕ). at + n) (sym size_at) in
-            let left_at : left ≡ height_after (operation_at formula at) height = left_is ∙ ap (λ (o : Operation). height_after o height) read.is in
+            let left_at : left ≡ height_after (operation_at formula at) height = left_is ∙ ap (λ (o : Operation). height_after o height) read.operation in
             let rules : height_after (operation_at formula at) height ≡ left = sym left_at in
             let n = m.steps - 1 in
             let after = stack_after (operation_at formula at) m.formulas in

@@ -28,7 +28,7 @@ pub fn run_operations(
     let mut at = 0;
     let mut height = 0;
     while at < formula.len() {
-        let operation = read(formula, at).unwrap();
+        let operation = read(formula, at).operation;
         if let Err(refusal) = apply(letters, operation, height, stack, spare, classes, scratch) {
             return Err(Fault { refusal, place: at });
         }

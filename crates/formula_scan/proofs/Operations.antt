@@ -11,11 +11,11 @@ use Rattle.answer.specs.declared.Refusal.TheVariants.{Truncated, EntryOutOfRange
 use Rattle.answer.specs.Checks.{Verdict, refused, Passes, FirstFailure}
 use Rattle.answer.proofs.Order.{first_passes, first_fails, none_left}
 use Rattle.formula_promises.specs.Operations as defined
-use Rattle.formula_promises.specs.Operations.{push_set, push_constant, push_copy, on_one, on_two, operation_code_at, operation_at, bytes_of, asks, height_after}
+use Rattle.formula_promises.specs.Operations.{push_set, push_constant, push_copy, on_one, on_two, operation_at, bytes_of, asks, height_after}
 use Rattle.formula_promises.specs.Checks.{highest_stack, grade_of, set_of, NoSuchCodeAt, OperandsCutAt, GradeAboveAt, ForeignLetterAt, UnbalancedAt, operation_checks}
 use Rattle.formula_promises.specs.Values.{meant}
-use Rattle.formula_promises.specs.declared.Operation.{Operation}
-use Rattle.formula_reading.specs.Readings.{IsOperationAt}
+use Rattle.formula_reading.specs.declared.Reading.{Reading}
+use Rattle.formula_reading.specs.Readings.{ReadingAt}
 use Rattle.std.specs.Prelude.{Ok, Err}
 use Rattle.formula_scan.specs.Scanning.{SomeForeign, ForeignAnswer, OperationChecked}
 
@@ -27,29 +27,29 @@ bytes_few (push_copy d) = omega arith
 bytes_few (on_one o) = omega arith
 bytes_few (on_two o) = omega arith
 
--- what is known of the operation at a byte, and what its checks come to
-module _ (letters height : ℕ) {formula : List ℕ} {at : ℕ} where
+-- what is read of the operation at a byte, and what its checks come to
+module _ (letters height : ℕ) {formula : List ℕ} {at : ℕ} {r : Reading} (read : ReadingAt formula at r) where
   -- a refusal leads nowhere
   refused_operation : {refusal : Refusal} {place : ℕ} → FirstFailure (operation_checks letters formula at height) (refused refusal 1 place)
       → OperationChecked letters formula at height (Err (record { refusal = refusal; place = place }))
   refused_operation f = record { refusal = f; leads = λ reached e. absurd (let z : ◌≡◌ {A = ℕ} 0 1 = cc in omega arith) }
 
-  pub no_code : 12 < operation_code_at formula at → OperationChecked letters formula at height (Err (record { refusal = EntryOutOfRange; place = at }))
-  no_code h = refused_operation (first_fails _ (record { above = h; is_place = refl }))
+  pub no_code : 12 < r.code → OperationChecked letters formula at height (Err (record { refusal = EntryOutOfRange; place = at }))
+  no_code h = refused_operation (first_fails _ (record { above = omega (arith, read.code); is_place = refl }))
 
-  module _ {operation : Operation} (o : IsOperationAt formula at operation) {size : ℕ} (size_is : size ≡ bytes_of (meant operation)) where
+  module _ (code : r.code ≤ 12) {size : ℕ} (size_is : size ≡ bytes_of (meant r.operation)) where
     pub size_at : size ≡ bytes_of (operation_at formula at)
-    size_at = size_is ∙ ap bytes_of o.is
+    size_at = size_is ∙ ap bytes_of read.operation
 
     known : Passes (record { refusal = EntryOutOfRange; input = 1; Fails = NoSuchCodeAt formula at })
-    known = record { nowhere = λ place a. omega (arith, a.above, o.code) }
+    known = record { nowhere = λ place a. omega (arith, a.above, read.code) }
 
     pub operands_cut : length formula < at + size → OperationChecked letters formula at height (Err (record { refusal = Truncated; place = length formula }))
     operands_cut h = refused_operation (first_passes known (first_fails _ (record { cut = omega (arith, size_at); is_place = refl })))
 
-    module _ (whole : at + size ≤ length formula) {grade : ℕ} (grade_is : grade ≡ grade_of (meant operation)) where
+    module _ (whole : at + size ≤ length formula) {grade : ℕ} (grade_is : grade ≡ grade_of (meant r.operation)) where
       grade_at : grade ≡ grade_of (operation_at formula at)
-      grade_at = grade_is ∙ ap grade_of o.is
+      grade_at = grade_is ∙ ap grade_of read.operation
 
       present : Passes (record { refusal = Truncated; input = 1; Fails = OperandsCutAt formula at })
       present = record { nowhere = λ place a. omega (arith, a.cut, size_at) }
@@ -58,9 +58,9 @@ module _ (letters height : ℕ) {formula : List ℕ} {at : ℕ} where
       grade_above h =
           refused_operation (first_passes known (first_passes present (first_fails _ (record { above = omega (arith, grade_at); is_place = refl }))))
 
-      module _ (low : grade ≤ 3) {set : ℕ} (set_is : set ≡ set_of (meant operation)) where
+      module _ (low : grade ≤ 3) {set : ℕ} (set_is : set ≡ set_of (meant r.operation)) where
         set_at : set ≡ set_of (operation_at formula at)
-        set_at = set_is ∙ ap set_of o.is
+        set_at = set_is ∙ ap set_of read.operation
 
         graded : Passes (record { refusal = EntryOutOfRange; input = 1; Fails = GradeAboveAt formula at })
         graded = record { nowhere = λ place a. omega (arith, a.above, grade_at) }
@@ -73,9 +73,9 @@ module _ (letters height : ℕ) {formula : List ℕ} {at : ℕ} where
               refused_operation (first_passes known (first_passes present (first_passes graded
               (first_fails _ (record { letter = s.letter; foreign = s.foreign; is_in_set = s.is_in_set; is_place = refl })))))
 
-          module _ (own : b ≡ false) {asked : ℕ} (asked_is : asked ≡ asks (meant operation)) where
+          module _ (own : b ≡ false) {asked : ℕ} (asked_is : asked ≡ asks (meant r.operation)) where
             asked_at : asked ≡ asks (operation_at formula at)
-            asked_at = asked_is ∙ ap asks o.is
+            asked_at = asked_is ∙ ap asks read.operation
 
             lettered : Passes (record { refusal = UnknownLetter; input = 1; Fails = ForeignLetterAt letters formula at })
             lettered =
@@ -89,9 +89,9 @@ module _ (letters height : ℕ) {formula : List ℕ} {at : ℕ} where
             pub too_few : height < asked → OperationChecked letters formula at height (Err (record { refusal = UnbalancedFormula; place = at }))
             too_few h = refused_operation (unbalanced (first_fails _ (record { unbalanced = inl (omega (arith, asked_at)); is_place = refl })))
 
-            module _ (enough : asked ≤ height) {left : ℕ} (left_is : left ≡ height_after (meant operation) height) where
+            module _ (enough : asked ≤ height) {left : ℕ} (left_is : left ≡ height_after (meant r.operation) height) where
               left_at : left ≡ height_after (operation_at formula at) height
-              left_at = left_is ∙ ap (λ (p : defined.Operation). height_after p height) o.is
+              left_at = left_is ∙ ap (λ (p : defined.Operation). height_after p height) read.operation
 
               pub too_many : highest_stack < left → OperationChecked letters formula at height (Err (record { refusal = UnbalancedFormula; place = at }))
               too_many h = refused_operation (unbalanced (first_fails _ (record { unbalanced = inr (omega (arith, left_at)); is_place = refl })))

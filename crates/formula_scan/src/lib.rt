@@ -34,12 +34,15 @@ fn check(letters: usize, formula: &[u8], at: usize, height: usize) -> Result<Rea
     requires { (at < length formula.now) × (length formula.now ≤ longest_formula) × (height ≤ 8) }
     ensures { OperationChecked letters formula.now at height result }
 {
-    let Some(operation) = read(formula, at) else {
+    let reading = read(formula, at);
+    let code = reading.code;
+    if 12 < code {
         return Err(Fault {
             refusal: Refusal::EntryOutOfRange,
             place: at,
         });
-    };
+    }
+    let operation = reading.operation;
     let behind = at + operation.size();
     if formula.len() < behind {
         return Err(Fault {

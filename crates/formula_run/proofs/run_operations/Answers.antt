@@ -1,7 +1,7 @@
 -- `formula_run::run_operations` meets its contract: the formulas so far stand on the stack, and the verdict from the operation at hand on is that of all.
 -- Assumes nothing.
 use native.Mathlib.Omega.{arith}
-use Rattle.formula_run.proofs.Needs.{scanned_some, scanned_letters, scanned_length, some_read, read_at, apply_needs}
+use Rattle.formula_run.proofs.Needs.{scanned_some, scanned_letters, scanned_length, apply_needs}
 use Rattle.formula_run.proofs.Rooms.{lengths_none, room_kept, lengths_on}
 use Rattle.formula_run.proofs.Steps.{running_start, operation_passed, running_refused, size_some, size_within, running_next, not_refused, running_done}
 use Rattle.formula_run.proofs.run_operations.Goals as goal
@@ -12,32 +12,25 @@ loop-at-init c = (running_start c.requires.first_failure, lengths_none)
 pub read-requires : goal.read-requires
 read-requires c = omega (arith, c.loop-at-test.true, scanned_length c.requires.first_failure)
 
-pub unwrap-operation-requires : goal.unwrap-operation-requires
-unwrap-operation-requires c = some_read (operation_passed c.loop-at.invariant.0 c.loop-at-test.true) _ c.read.ensures
-
 pub apply-requires : goal.apply-requires
 apply-requires c =
-    let held = c.loop-at.invariant in
-    let read = read_at c.unwrap-operation.ensures c.read.ensures in record {
-      apply_needs = apply_needs (operation_passed held.0 c.loop-at-test.true) read (scanned_some c.requires.first_failure) (scanned_letters c.requires.first_failure) held.0.few;
+    let held = c.loop-at.invariant in record {
+      apply_needs = apply_needs (operation_passed held.0 c.loop-at-test.true) c.read.ensures (scanned_some c.requires.first_failure) (scanned_letters c.requires.first_failure) held.0.few;
       lent_room = room_kept held.1 c.requires.lent_room;
     }
 
 pub overflow_add-at : goal.overflow_add-at
 overflow_add-at c =
-    let read = read_at c.unwrap-operation.ensures c.read.ensures in
-    omega (arith, size_within c.loop-at.invariant.0 c.loop-at-test.true read c.apply.ensures.applied c.size-at.ensures, scanned_length c.requires.first_failure)
+    omega (arith, size_within c.loop-at.invariant.0 c.loop-at-test.true c.read.ensures c.apply.ensures.applied c.size-at.ensures, scanned_length c.requires.first_failure)
 
 pub loop-at-smaller : goal.loop-at-smaller
 loop-at-smaller c =
-    let read = read_at c.unwrap-operation.ensures c.read.ensures in
-    omega (arith, c.loop-at-test.true, size_some c.loop-at.invariant.0 c.loop-at-test.true read c.apply.ensures.applied c.size-at.ensures)
+    omega (arith, c.loop-at-test.true, size_some c.loop-at.invariant.0 c.loop-at-test.true c.read.ensures c.apply.ensures.applied c.size-at.ensures)
 
 pub loop-at-preserved : goal.loop-at-preserved
 loop-at-preserved c =
     let held = c.loop-at.invariant in
-    let read = read_at c.unwrap-operation.ensures c.read.ensures in
-    (running_next held.0 c.loop-at-test.true read c.apply.ensures.applied c.size-at.ensures c.height_after-height.ensures (not_refused _ c.in_default.not-Err), lengths_on held.1 c.apply.ensures.lengths)
+    (running_next held.0 c.loop-at-test.true c.read.ensures c.apply.ensures.applied c.size-at.ensures c.height_after-height.ensures (not_refused _ c.in_default.not-Err), lengths_on held.1 c.apply.ensures.lengths)
 
 pub shape_of-stack-in-Err : goal.shape_of-stack-in-Err
 shape_of-stack-in-Err c = (lengths_on c.loop-at.invariant.1 c.apply.ensures.lengths).stack_length
@@ -54,7 +47,7 @@ shape_of-scratch-in-Err c = (lengths_on c.loop-at.invariant.1 c.apply.ensures.le
 pub returns-in-Err : goal.returns-in-Err
 returns-in-Err c =
     let held = c.loop-at.invariant in record {
-      ran = running_refused held.0 c.loop-at-test.true (read_at c.unwrap-operation.ensures c.read.ensures) c.apply.ensures.applied c.in-Err.is;
+      ran = running_refused held.0 c.loop-at-test.true c.read.ensures c.apply.ensures.applied c.in-Err.is;
       lengths = lengths_on held.1 c.apply.ensures.lengths;
     }
 
