@@ -9,28 +9,28 @@ use Rattle.formula_run.proofs.run_operations.Goals as goal
 pub loop-at-init : goal.loop-at-init
 loop-at-init c = (running_start c.requires.first_failure, lengths_none)
 
-pub read-requires : goal.read-requires
-read-requires c = omega (arith, c.loop-at-test.true, scanned_length c.requires.first_failure)
+pub read-operation-requires : goal.read-operation-requires
+read-operation-requires c = omega (arith, c.loop-at-test.true, scanned_length c.requires.first_failure)
 
 pub apply-requires : goal.apply-requires
 apply-requires c =
     let held = c.loop-at.invariant in record {
-      apply_needs = apply_needs (operation_passed held.0 c.loop-at-test.true) c.read.ensures (scanned_some c.requires.first_failure) (scanned_letters c.requires.first_failure) held.0.few;
+      apply_needs = apply_needs (operation_passed held.0 c.loop-at-test.true) c.read-operation.ensures (scanned_some c.requires.first_failure) (scanned_letters c.requires.first_failure) held.0.few;
       lent_room = room_kept held.1 c.requires.lent_room;
     }
 
 pub overflow_add-at : goal.overflow_add-at
 overflow_add-at c =
-    omega (arith, size_within c.loop-at.invariant.0 c.loop-at-test.true c.read.ensures c.apply.ensures.applied c.size-at.ensures, scanned_length c.requires.first_failure)
+    omega (arith, size_within c.loop-at.invariant.0 c.loop-at-test.true c.read-operation.ensures c.apply.ensures.applied c.size-at.ensures, scanned_length c.requires.first_failure)
 
 pub loop-at-smaller : goal.loop-at-smaller
 loop-at-smaller c =
-    omega (arith, c.loop-at-test.true, size_some c.loop-at.invariant.0 c.loop-at-test.true c.read.ensures c.apply.ensures.applied c.size-at.ensures)
+    omega (arith, c.loop-at-test.true, size_some c.loop-at.invariant.0 c.loop-at-test.true c.read-operation.ensures c.apply.ensures.applied c.size-at.ensures)
 
 pub loop-at-preserved : goal.loop-at-preserved
 loop-at-preserved c =
     let held = c.loop-at.invariant in
-    (running_next held.0 c.loop-at-test.true c.read.ensures c.apply.ensures.applied c.size-at.ensures c.height_after-height.ensures (not_refused _ c.in_default.not-Err), lengths_on held.1 c.apply.ensures.lengths)
+    (running_next held.0 c.loop-at-test.true c.read-operation.ensures c.apply.ensures.applied c.size-at.ensures c.height_after-height.ensures (not_refused _ c.in_default.not-Err), lengths_on held.1 c.apply.ensures.lengths)
 
 pub shape_of-stack-in-Err : goal.shape_of-stack-in-Err
 shape_of-stack-in-Err c = (lengths_on c.loop-at.invariant.1 c.apply.ensures.lengths).stack_length
@@ -47,7 +47,7 @@ shape_of-scratch-in-Err c = (lengths_on c.loop-at.invariant.1 c.apply.ensures.le
 pub returns-in-Err : goal.returns-in-Err
 returns-in-Err c =
     let held = c.loop-at.invariant in record {
-      ran = running_refused held.0 c.loop-at-test.true c.read.ensures c.apply.ensures.applied c.in-Err.is;
+      ran = running_refused held.0 c.loop-at-test.true c.read-operation.ensures c.apply.ensures.applied c.in-Err.is;
       lengths = lengths_on held.1 c.apply.ensures.lengths;
     }
 
